@@ -3,7 +3,7 @@ use Rattle.std.specs.Prelude.{◌≡◌, ℕ, true, false, List, map, Option, No
 use Rattle.mctp_control.specs.Devices.{DeviceValue, present_eid}
 use Rattle.mctp_control.specs.RouteEntries.{EntryValue}
 use Rattle.mctp_transport.specs.Cutting.{ArePacketsOf}
-use Rattle.mctp_transport.specs.Frames.{Frame, KeyValue, frame_bytes}
+use Rattle.mctp_transport.specs.PacketValues.{PacketValue, KeyValue, packet_value_bytes}
 use Rattle.emulated_node.specs.declared.received.Reason.TheVariants as reason
 use Rattle.emulated_node.specs.Nodes.{TerminusValue}
 use Rattle.emulated_node.specs.ReceivedValues.{ReceivedValue, Sent, Dropped}
@@ -20,10 +20,10 @@ pub record SendsReply (unit : ℕ) (device : DeviceValue) (terminus : Option Ter
     (device_then : DeviceValue) (terminus_then : Option TerminusValue) : Type 0 where
   pub owner : key.owner ≡ true
   pub reply : List ℕ
-  pub frames : List Frame
+  pub frames : List PacketValue
   pub responds : Responds device terminus bus entries request (Some reply) device_then terminus_then
   pub cut : ArePacketsOf unit reply key.source (answer_key device_then key.tag) 0 frames
-  pub bytes : packets ≡ map frame_bytes frames
+  pub bytes : packets ≡ map packet_value_bytes frames
 
 -- What becomes of a message of the key that came over the bus, and what is held then.
 abbrev pub RepliesTo : (unit : ℕ) → DeviceValue → Option TerminusValue → (bus : ℕ) → List EntryValue → KeyValue

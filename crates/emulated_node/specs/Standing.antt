@@ -22,7 +22,7 @@ abbrev pub at_start : DeviceValue → Option TerminusValue → NodeState
 at_start device terminus = record { device = device; terminus = terminus; history = λ _. [] }
 
 -- The device and the terminus are those of the state, and the assembler of each bus was given what came over it.
-pub record StandsFor {T : Type 0} (tid : T → ℕ) (records : T → List Entry) (e : Emulated T)
+pub record HasNodeState {T : Type 0} (tid : T → ℕ) (records : T → List Entry) (e : Emulated T)
     (s : NodeState) : Type 0 where
   pub device : s.device ≡ device_value e.device
   pub terminus : s.terminus ≡ option_map (terminus_value tid records) e.terminus

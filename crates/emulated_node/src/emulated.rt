@@ -3,13 +3,13 @@ ghost use Rattle.std.specs.Prelude.{◌≡◌, ◌<◌, length};
 ghost use Rattle.emulated_node.specs.Heard.{AreSized};
 
 use crate::deciding::decide_on;
-use crate::hearing::{Heard, hear_over, idle_assemblers};
+use crate::hearing::hear_over;
 use crate::received::{Reason, Received};
 use crate::replying::reply;
 use crate::sending::packet_bytes;
 use mctp_bridge::{Decision, DeviceKind, Hop, RangeTable};
 use mctp_control::{Device, RouteEntry};
-use mctp_transport::{Assembler, PacketView};
+use mctp_transport::{Assembler, Heard, PacketView, idle_assemblers};
 use net_plan::Plan;
 use net_tables::lookup::bus_at;
 use pdr_repository::Terminus;
@@ -40,11 +40,11 @@ impl<'a, T: Terminus> Emulated<'a, T> {
     ghost use Rattle.std.specs.Prelude.{IfOk, option_map};
     ghost use Rattle.mctp_control.specs.Devices.{device_value};
     ghost use Rattle.mctp_control.specs.EntryLists.{values_of};
-    ghost use Rattle.mctp_transport.specs.Packets.{frame_of};
+    ghost use Rattle.mctp_transport.specs.Packets.{packet_value_of};
     ghost use Rattle.emulated_node.specs.Nodes.{NodeState};
     ghost use Rattle.emulated_node.specs.ReceivedValues.{received_value};
     ghost use Rattle.emulated_node.specs.Receiving.{IsForNode, IsSentOn, Receives};
-    ghost use Rattle.emulated_node.specs.Standing.{StandsFor, setting_of, at_start};
+    ghost use Rattle.emulated_node.specs.Standing.{HasNodeState, setting_of, at_start};
     ghost use Rattle.emulated_node.specs.Termini.{terminus_value};
 
     /// A node to which no packet has come yet, with its routing table, the entries that tell it, its device and its
@@ -62,7 +62,7 @@ impl<'a, T: Terminus> Emulated<'a, T> {
         requires few { length entries.items < 255 }
         ensures setting { IfOk result (λ emulated. setting_of emulated
             ≡ record { plan = plan.now; node = node; kind = kind; rows = table; entries = values_of entries.items }) }
-        ensures stands { IfOk result (λ emulated. StandsFor T.tid T.records emulated
+        ensures stands { IfOk result (λ emulated. HasNodeState T.tid T.records emulated
             (at_start (device_value device) (option_map (terminus_value T.tid T.records) terminus))) }
     {
         let assemblers = idle_assemblers(alloc, plan.buses.len())?;
@@ -84,23 +84,23 @@ impl<'a, T: Terminus> Emulated<'a, T> {
     pub fn receive(&mut self, bus: usize, packet: PacketView) -> Result<Received, AllocError>
         requires { bus < length self.old.plan.now.buses.items }
         ensures setting { setting_of self.new ≡ setting_of self.old }
-        ensures receives { IfOk result (λ received. (s : NodeState) → StandsFor T.tid T.records self.old s
-            → (next : NodeState) × Receives (setting_of self.old) s bus (frame_of packet.entry) (received_value received) next
-            × StandsFor T.tid T.records self.new next) }
+        ensures receives { IfOk result (λ received. (s : NodeState) → HasNodeState T.tid T.records self.old s
+            → (next : NodeState) × Receives (setting_of self.old) s bus (packet_value_of packet.entry) (received_value received) next
+            × HasNodeState T.tid T.records self.new next) }
     {
         match decide_on(&self.device, self.kind, &self.table, &packet.header) {
-            Decision::Here => self.take_in(bus, packet),
+            Decision::Deliver => self.take_in(bus, packet),
             Decision::Forward(hop) => {
                 let received = self.send_on(hop, packet)?;
                 Ok(received)
             }
-            Decision::Drop(why) => Ok(Received::Dropped(Reason::Obstacle(why))),
+            Decision::Drop(why) => Ok(Received::Dropped(Reason::ForwardFault(why))),
         }
     }
 
     /// Sends a packet on.
     fn send_on(&self, hop: Hop, packet: PacketView) -> Result<Received, AllocError>
-        ensures { IfOk result (λ received. IsSentOn (setting_of self.now) hop (frame_of packet.entry) (received_value received)) }
+        ensures { IfOk result (λ received. IsSentOn (setting_of self.now) hop (packet_value_of packet.entry) (received_value received)) }
     {
         let Some(bus) = bus_at(self.plan, self.node, hop.port) else {
             return Ok(Received::Dropped(Reason::NoPort));
@@ -114,10 +114,10 @@ impl<'a, T: Terminus> Emulated<'a, T> {
     fn take_in(&mut self, bus: usize, packet: PacketView) -> Result<Received, AllocError>
         requires { bus < length self.old.plan.now.buses.items }
         ensures setting { setting_of self.new ≡ setting_of self.old }
-        ensures takes { IfOk result (λ received. (s : NodeState) → StandsFor T.tid T.records self.old s
-            → IsForNode (setting_of self.old) s (frame_of packet.entry)
-            → (next : NodeState) × Receives (setting_of self.old) s bus (frame_of packet.entry) (received_value received) next
-            × StandsFor T.tid T.records self.new next) }
+        ensures takes { IfOk result (λ received. (s : NodeState) → HasNodeState T.tid T.records self.old s
+            → IsForNode (setting_of self.old) s (packet_value_of packet.entry)
+            → (next : NodeState) × Receives (setting_of self.old) s bus (packet_value_of packet.entry) (received_value received) next
+            × HasNodeState T.tid T.records self.new next) }
     {
         let asked = packet.key();
         let message = match hear_over(self.alloc, &mut self.assemblers, bus, packet)? {

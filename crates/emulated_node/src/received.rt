@@ -1,12 +1,12 @@
 //! What becomes of a packet.
-use mctp_bridge::Obstacle;
+use mctp_bridge::ForwardFault;
 use mctp_transport::DropCause;
 
 /// Why nothing is sent for a packet.
 #[derive(Clone, Copy, Debug, PartialEq, Eq)]
 pub enum Reason {
     /// It is for another node, and is not sent on.
-    Obstacle(Obstacle),
+    ForwardFault(ForwardFault),
     /// It is for another node, and the port of the row is none of the node's.
     NoPort,
     /// It is for the node, whose assembler drops it.

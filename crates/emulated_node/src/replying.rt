@@ -2,7 +2,7 @@
 ghost use Rattle.std.specs.Prelude.{◌≡◌, ◌<◌, length, option_map, IfOk};
 ghost use Rattle.mctp_control.specs.Devices.{device_value};
 ghost use Rattle.mctp_control.specs.EntryLists.{values_of};
-ghost use Rattle.mctp_transport.specs.Frames.{IsUnit};
+ghost use Rattle.mctp_transport.specs.PacketValues.{IsUnit};
 ghost use Rattle.mctp_transport.specs.Packets.{key_value};
 ghost use Rattle.emulated_node.specs.ReceivedValues.{received_value};
 ghost use Rattle.emulated_node.specs.Replying.{RepliesTo};

@@ -1,15 +1,15 @@
 //! Packets that are sent.
 ghost use Rattle.std.specs.Prelude.{◌≡◌, ◌≤◌, ◌<◌, List, length, map, IfOk};
 ghost use Rattle.mctp_transport.specs.Cutting.{ArePacketsOf};
-ghost use Rattle.mctp_transport.specs.Frames.{Frame, IsUnit, frame_bytes};
-ghost use Rattle.mctp_transport.specs.Packets.{frame_of, key_value};
+ghost use Rattle.mctp_transport.specs.PacketValues.{PacketValue, IsUnit, packet_value_bytes};
+ghost use Rattle.mctp_transport.specs.Packets.{packet_value_of, key_value};
 
 use mctp_transport::{Eid, Key, MAX_MESSAGE, PacketView, Packets, Seq};
 use std::alloc::{AllocError, Global};
 
 /// The bytes of a packet.
 pub fn packet_bytes(alloc: Global, packet: &PacketView) -> Result<Vec<u8>, AllocError>
-    ensures { IfOk result (λ bytes. bytes.items ≡ frame_bytes (frame_of packet.now)) }
+    ensures { IfOk result (λ bytes. bytes.items ≡ packet_value_bytes (packet_value_of packet.now)) }
 {
     let mut bytes = vec![in alloc; 0; packet.len()]?;
     packet.put(bytes.as_mut_slice());
@@ -26,8 +26,8 @@ pub fn cut(
 ) -> Result<Vec<Vec<u8>>, AllocError>
     requires unit { IsUnit unit }
     requires most { length message.now ≤ MAX_MESSAGE }
-    ensures { IfOk result (λ packets. (frames : List Frame) × ArePacketsOf unit message.now destination.value (key_value key) 0 frames
-        × (map (λ v. v.items) packets.items ≡ map frame_bytes frames)) }
+    ensures { IfOk result (λ packets. (frames : List PacketValue) × ArePacketsOf unit message.now destination.value (key_value key) 0 frames
+        × (map (λ v. v.items) packets.items ≡ map packet_value_bytes frames)) }
 {
     let mut cut = Vec::new(alloc);
     if message.is_empty() {

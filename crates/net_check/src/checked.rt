@@ -3,7 +3,7 @@ ghost use Rattle.std.specs.Prelude.{◌≡◌, ℕ, IfOk, OnOk, IfErr};
 ghost use Rattle.net_rules.specs.Rules.{Accepts};
 ghost use Rattle.net_check.specs.Errors.{NamesFirstFault};
 ghost use Rattle.net_rules.specs.Promises.{EndsWithinRank};
-ghost use Rattle.mctp_transport.specs.Frames.{KeyValue};
+ghost use Rattle.mctp_transport.specs.PacketValues.{KeyValue};
 ghost use Rattle.net_runs.specs.States.{NetworkState, unit_of};
 ghost use Rattle.net_runs.specs.Headline.{Headline};
 ghost use Rattle.net_runs.specs.Deliveries.{Delivers};
@@ -55,7 +55,7 @@ impl<'a> Checked<'a> {
 
 /// Whether each rule holds of the plan and the certificate. Otherwise the error is the first fault, or out of memory:
 /// it takes lists with an entry for each node, and sets of the handles and places of one terminus after the other.
-#[tactic(auto, using(net_rules::proofs::Ends::ends_within_rank, crate::proofs::Whole::whole_headline, crate::proofs::Whole::accepted_delivers, net_runs::proofs::Exact::runs_as_sent, crate::proofs::Whole::walks_over_networks))]
+#[tactic(auto, using(net_rules::proofs::Ends::ends_within_rank, net_runs::proofs::Exact::runs_as_sent))]
 pub fn check<'a>(
     alloc: Global,
     plan: &'a Plan,

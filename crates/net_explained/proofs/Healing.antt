@@ -1,9 +1,6 @@
 -- What an edit that was tried leaves of a fault.
-use Rattle.std.proofs.Common.{◌≡◌, ◌⊎◌, ◌<◌, ℕ, List, [], ◌∷◌, Option, Some, None, refl, sym, ◌∙◌, ap, subst, arith, inl, inr}
-use Rattle.std.specs.Prelude.{slice_get}
-use Rattle.std.proofs.lemmas.Option.{same_Some}
-use Rattle.net_explained.specs.Obstacles.{IsLater, IsLeft, IsTried, IsRidOf, IsUpTo, EditsTakeFaultsAway, key_of}
-use Rattle.net_explained.specs.declared.trial.Tried.{Tried}
+use Rattle.std.proofs.Common.{◌≡◌, ◌⊎◌, ◌<◌, ℕ, List, [], ◌∷◌, Option, Some, None, sym, ◌∙◌, ap, subst, arith, inl, inr}
+use Rattle.net_explained.specs.Obstacles.{IsLater, IsLeft, IsUpTo, EditsTakeFaultsAway, key_of}
 use Rattle.net_explained.proofs.Later.{not_less}
 use Rattle.net_plan.specs.declared.plan.Plan.{Plan}
 use Rattle.net_rules.specs.Certificates.{NamesObstacle}
@@ -14,33 +11,8 @@ use Rattle.net_rules.specs.declared.certify_error.CertifyError.{CertifyError}
 use Rattle.net_rules.specs.declared.certify_error.CertifyError.TheVariants as error
 use Rattle.net_rules.specs.declared.fault.Fault.{Fault}
 use Rattle.net_rules.specs.declared.rule.Rule.{Rule}
-use Rattle.net_rules.specs.declared.rule.Rule.TheVariants.{C01, C02, C03, C04, C05, C06, C07, C08, C09, C10, C11, C12, C13, C14, C15, C16}
-
--- ---- the order of rules
-
-abbrev in_order : List Rule
-in_order = C01 ∷ C02 ∷ C03 ∷ C04 ∷ C05 ∷ C06 ∷ C07 ∷ C08 ∷ C09 ∷ C10 ∷ C11 ∷ C12 ∷ C13 ∷ C14 ∷ C15 ∷ C16 ∷ []
-
-stands_in_order : (rule : Rule) → slice_get in_order (order_of rule) ≡ Some rule
-stands_in_order C01 = refl
-stands_in_order C02 = refl
-stands_in_order C03 = refl
-stands_in_order C04 = refl
-stands_in_order C05 = refl
-stands_in_order C06 = refl
-stands_in_order C07 = refl
-stands_in_order C08 = refl
-stands_in_order C09 = refl
-stands_in_order C10 = refl
-stands_in_order C11 = refl
-stands_in_order C12 = refl
-stands_in_order C13 = refl
-stands_in_order C14 = refl
-stands_in_order C15 = refl
-stands_in_order C16 = refl
-
-one_order : (a b : Rule) → order_of a ≡ order_of b → a ≡ b
-one_order a b same = same_Some a b (sym (stands_in_order a) ∙ (ap (λ k. slice_get in_order k) same ∙ stands_in_order b))
+use Rattle.net_rules.specs.declared.rule.Rule.TheVariants.{C07, C10, C14}
+use Rattle.net_rules.proofs.RuleOrder.{one_order}
 
 -- ---- lists of numbers
 

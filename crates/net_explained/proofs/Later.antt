@@ -1,8 +1,7 @@
 -- What an obstacle that comes later is.
-use Rattle.std.proofs.Common.{◌≡◌, ◌≢◌, ℕ, List, [], ◌∷◌, Result, Option, Some, None, Ok, Err, sym, subst}
+use Rattle.std.proofs.Common.{◌≡◌, ◌≢◌, ℕ, List, [], ◌∷◌, Some, None, Ok, sym, subst}
 use Rattle.net_explained.specs.Edits.{IsEdited}
 use Rattle.net_explained.specs.Obstacles.{IsLater, IsLeft, IsTried, key_of}
-use Rattle.net_explained.specs.declared.edit.Edit.{Edit}
 use Rattle.net_explained.specs.declared.trial.Tried.{Tried}
 use Rattle.net_plan.specs.PlanValues.{PlanValue, plan_value}
 use Rattle.net_plan.specs.declared.plan.Plan.{Plan}

@@ -4,7 +4,7 @@ mod PoolFaults
 mod MostOf
 mod FollowersOf
 mod RowsOf
-mod SamePlan
+pub mod SamePlan
 mod Later
 mod Editing
 mod Healing

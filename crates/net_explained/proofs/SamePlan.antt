@@ -4,12 +4,12 @@ use Rattle.net_json.proofs.PlanLaw.{plan_tells}
 use Rattle.net_json.proofs.Telling.{same_Ok}
 use Rattle.net_json.specs.PlanText.{IsPlanOf}
 use Rattle.net_plan.specs.PlanValues.{PlanValue}
-use Rattle.net_json.specs.Texts.{StandsFor}
+use Rattle.net_json.specs.Texts.{IsJsonTextOf}
 
 same_some : {A : Type 0} (o : Option A) (d e : A) → o ≡ Some d → o ≡ Some e → d ≡ e
 same_some o d e one other = cc (one, other)
 
-pub same_plan : (text : List ℕ) (p q : PlanValue) → StandsFor IsPlanOf text p → StandsFor IsPlanOf text q → p ≡ q
+pub same_plan : (text : List ℕ) (p q : PlanValue) → IsJsonTextOf IsPlanOf text p → IsJsonTextOf IsPlanOf text q → p ≡ q
 same_plan text p q one other =
     let same : one.0 ≡ other.0 = same_some _ one.0 other.0 one.1.1 other.1.1 in
     same_Ok (sym (plan_tells.whole other.0 p (subst (λ d. IsPlanOf d p) same one.3)) ∙ plan_tells.whole other.0 q other.3)

@@ -1,7 +1,7 @@
 -- Why a plan breaks a rule at a site, and who else is involved.
 use Rattle.std.specs.Prelude.{◌≡◌, ◌≢◌, ℕ, ◌<◌, ◌≤◌, List, [], ◌∷◌, length, Option, Some, None, slice_get}
 use Rattle.std.specs.Option.{IsSomeAnd}
-use Rattle.mctp_transport.specs.Frames.{IsAssignable}
+use Rattle.mctp_transport.specs.PacketValues.{IsAssignable}
 use Rattle.pdr_record.specs.Faults.{IsFault}
 use Rattle.pdr_record.specs.Records.{RecordValue, Spelled}
 use Rattle.pdr_record.specs.declared.record_error.RecordError.{RecordError}

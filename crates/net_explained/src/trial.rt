@@ -3,7 +3,7 @@ ghost use Rattle.std.specs.Prelude.{◌≤◌, IfOk, IfSome, length};
 ghost use Rattle.std.specs.List.{All};
 ghost use Rattle.net_json.specs.PlanText.{IsPlanOf};
 ghost use Rattle.net_plan.specs.PlanValues.{plan_value};
-ghost use Rattle.net_json.specs.Texts.{StandsFor};
+ghost use Rattle.net_json.specs.Texts.{IsJsonTextOf};
 ghost use Rattle.net_explained.specs.Obstacles.{IsTried};
 
 use crate::candidates::candidates;
@@ -32,7 +32,7 @@ pub fn tried_edits(
     plan: &Plan,
     obstacle: &CertifyError,
 ) -> Result<Vec<Tried>, AllocError>
-    requires { StandsFor IsPlanOf text.now (plan_value plan.now) }
+    requires { IsJsonTextOf IsPlanOf text.now (plan_value plan.now) }
     ensures all { IfOk result (λ tried. All (IsTried (plan_value plan.now) obstacle.now) tried.items) }
     ensures few { IfOk result (λ tried. length tried.items ≤ 3) }
 {
@@ -62,7 +62,7 @@ fn try_edit(
     obstacle: &CertifyError,
     edit: Edit,
 ) -> Result<Option<Tried>, AllocError>
-    requires { StandsFor IsPlanOf text.now (plan_value plan.now) }
+    requires { IsJsonTextOf IsPlanOf text.now (plan_value plan.now) }
     ensures { IfOk result (λ tried. IfSome tried (IsTried (plan_value plan.now) obstacle.now)) }
 {
     let before = match plan_of_text(alloc, text) {

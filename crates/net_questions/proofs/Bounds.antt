@@ -1,8 +1,10 @@
 -- What is found stands where it is looked for, and nothing else stands there.
-use Rattle.std.proofs.Common.{◌≡◌, ℕ, zero, suc, ◌<◌, List, [], ◌∷◌, ◌++◌, get_or, Some, refl, sym, ◌∙◌, ap, subst, arith, inl, inr, ◌⊎◌, ◌≤◌}
+use Rattle.std.proofs.Common.{zero-add, ◌≡◌, ℕ, zero, ◌<◌, List, [], ◌∷◌, ◌++◌, get_or, Some, refl, sym, ◌∙◌, ap, subst, arith, inl, inr, ◌⊎◌, ◌≤◌}
 use Rattle.std.proofs.Props.{props}
 use Rattle.std.specs.Prelude.{slice_get}
 use Rattle.std.proofs.lemmas.Bool.{cases_lt}
+use Rattle.std.proofs.lemmas.List.{get_or-map}
+use Rattle.std.proofs.lemmas.List.FromFn.{get_or-range_with_len}
 use Rattle.std.proofs.lemmas.Option.{same_Some, slice_get_within}
 use Rattle.mctp_transport.specs.declared.address.Eid.{Eid}
 use Rattle.net_plan.specs.declared.plan.Plan.{Plan}
@@ -15,9 +17,10 @@ use Rattle.net_questions.specs.declared.finding.Finding.TheVariants.{SharedAddre
 use Rattle.net_questions.specs.declared.finding.Finding.TheVariants.{MissingLocator, SharedSensorId, OwnerHasNoWay, NoWayToOwner, IdleRow, PoolEidNotLedOn, LonePort, EmptyReadableRange, Isolated}
 use Rattle.net_questions.specs.declared.finding.Finding.TheVariants.{ForeignMedia, ReservedBinding, ReservedAddress, EmptyBus, CrossedThresholds, UnknownTerminusHandle, UncontainedEntity}
 use Rattle.net_questions.specs.Findings.{IsSo, order_of, subject_of, key_of, sites_of, items_of, others_of, other_items_of, BeginsWith, Adds, IsUnder, AreFindings}
-use Rattle.net_questions.proofs.Within.{port_within, row_within, record_within, terminus_within, holder_within, bridge_within, owned_within}
+use Rattle.net_questions.proofs.Within.{port_within, row_within, record_within, terminus_within, bridge_within, owned_within}
 use Rattle.net_questions.proofs.TopmostOwners.{topmost_within}
 use Rattle.net_questions.proofs.Ascending.{NextBelow, Below, start, one, nothing, all_pairs}
+use Rattle.net_tables.proofs.Elements.{holder_within}
 
 -- ---- the codes in their order
 
@@ -50,47 +53,10 @@ pub one_order : (a b : Code) → order_of a ≡ order_of b → a ≡ b
 one_order a b same = same_Some a b (sym (stands_in_order a) ∙ (ap (λ k. slice_get in_order k) same ∙ stands_in_order b))
 
 pub order_at : (k : ℕ) (d : Code) → k < 19 → order_of (get_or in_order k d) ≡ k
-order_at zero d less = refl
-order_at (suc zero) d less = refl
-order_at (suc (suc zero)) d less = refl
-order_at (suc (suc (suc zero))) d less = refl
-order_at (suc (suc (suc (suc zero)))) d less = refl
-order_at (suc (suc (suc (suc (suc zero))))) d less = refl
-order_at (suc (suc (suc (suc (suc (suc zero)))))) d less = refl
-order_at (suc (suc (suc (suc (suc (suc (suc zero))))))) d less = refl
-order_at (suc (suc (suc (suc (suc (suc (suc (suc zero)))))))) d less = refl
-order_at (suc (suc (suc (suc (suc (suc (suc (suc (suc zero))))))))) d less = refl
-order_at (suc (suc (suc (suc (suc (suc (suc (suc (suc (suc zero)))))))))) d less = refl
-order_at (suc (suc (suc (suc (suc (suc (suc (suc (suc (suc (suc zero))))))))))) d less = refl
-order_at (suc (suc (suc (suc (suc (suc (suc (suc (suc (suc (suc (suc zero)))))))))))) d less = refl
-order_at (suc (suc (suc (suc (suc (suc (suc (suc (suc (suc (suc (suc (suc zero))))))))))))) d less = refl
-order_at (suc (suc (suc (suc (suc (suc (suc (suc (suc (suc (suc (suc (suc (suc zero)))))))))))))) d less = refl
-order_at (suc (suc (suc (suc (suc (suc (suc (suc (suc (suc (suc (suc (suc (suc (suc zero))))))))))))))) d less = refl
-order_at (suc (suc (suc (suc (suc (suc (suc (suc (suc (suc (suc (suc (suc (suc (suc (suc zero)))))))))))))))) d less = refl
-order_at (suc (suc (suc (suc (suc (suc (suc (suc (suc (suc (suc (suc (suc (suc (suc (suc (suc zero))))))))))))))))) d less = refl
-order_at (suc (suc (suc (suc (suc (suc (suc (suc (suc (suc (suc (suc (suc (suc (suc (suc (suc (suc zero)))))))))))))))))) d less = refl
-order_at (suc (suc (suc (suc (suc (suc (suc (suc (suc (suc (suc (suc (suc (suc (suc (suc (suc (suc (suc k))))))))))))))))))) d less = absurd (omega arith)
+order_at k d less = sym (get_or-map order_of in_order k d 0 less) ∙ get_or-range_with_len 0 19 k 0 less ∙ zero-add k
 
 order_within : (c : Code) → order_of c < 19
-order_within code.SharedAddress = omega arith
-order_within code.MissingAddress = omega arith
-order_within code.SharedTid = omega arith
-order_within code.MissingLocator = omega arith
-order_within code.SharedSensorId = omega arith
-order_within code.OwnerHasNoWay = omega arith
-order_within code.NoWayToOwner = omega arith
-order_within code.IdleRow = omega arith
-order_within code.PoolEidNotLedOn = omega arith
-order_within code.LonePort = omega arith
-order_within code.EmptyReadableRange = omega arith
-order_within code.Isolated = omega arith
-order_within code.ForeignMedia = omega arith
-order_within code.ReservedBinding = omega arith
-order_within code.ReservedAddress = omega arith
-order_within code.EmptyBus = omega arith
-order_within code.CrossedThresholds = omega arith
-order_within code.UnknownTerminusHandle = omega arith
-order_within code.UncontainedEntity = omega arith
+order_within c = slice_get_within in_order (order_of c) c (stands_in_order c)
 
 -- ---- where findings stand
 

@@ -4,8 +4,8 @@ use Rattle.std.specs.Prelude.{slice_get, IsSomeAnd}
 use Rattle.std.specs.Ordering.{nat_cmp, is_eq}
 use Rattle.std.specs.declared.cmp.Ordering.{Ordering}
 use Rattle.std.specs.declared.cmp.Ordering.TheVariants.{Less, Equal, Greater}
-use Rattle.std.specs.BTreeMap.{BTreeMap, get, Updates, is_at}
 use Rattle.std.proofs.lemmas.Map.Lookups.{exact_unsigned}
+use Rattle.std.specs.BTreeMap.{BTreeMap, get, Updates, is_at}
 use Rattle.std.proofs.lemmas.Bool.{cases_lt, cases_eq, true≢false}
 use Rattle.std.proofs.lemmas.Option.{same_Some, slice_get_within}
 use Rattle.net_plan.specs.declared.plan.Plan.{Plan}
@@ -32,13 +32,6 @@ pub notes_new : (old new : BTreeMap ℕ ℕ) (number at : ℕ) → get nat_cmp o
 notes_new old new number at none updates =
     let P : Option ℕ → Type 0 = λ o. MatchOption o (get nat_cmp new number ≡ Some at) (λ had. get nat_cmp new number ≡ Some had) in
     record { here = subst P (sym none) updates.1; others = λ other apart. updates.2 other (other_key number other apart) }
-
-pub notes_had : (old : BTreeMap ℕ ℕ) (number at : ℕ) → get nat_cmp old number ≢ None → Notes old number at old
-notes_had old number at some = record { here = by (get nat_cmp old number) refl; others = λ other apart. refl }
-  where
-    by : (o : Option ℕ) → get nat_cmp old number ≡ o → MatchOption o (get nat_cmp old number ≡ Some at) (λ had. get nat_cmp old number ≡ Some had)
-    by None e = absurd (some e)
-    by (Some had) e = e
 
 -- ---- the records that were looked at
 

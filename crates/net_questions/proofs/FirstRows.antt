@@ -9,7 +9,7 @@ use Rattle.net_tables.specs.Routing.{Covers, MovesTo, OfItem, rows_of}
 use Rattle.net_rules.specs.Moves.{IsEnd}
 use Rattle.net_rules.specs.Promises.{WayEnds}
 use Rattle.net_rules.proofs.EidMoves.{no_move}
-use Rattle.net_questions.specs.Lint.{IsFirstRowFor, GoesOn}
+use Rattle.net_questions.specs.Lint.{IsFirstRowFor, IsForwardedTo}
 use Rattle.net_questions.proofs.Within.{row_within}
 
 pub first_row : (plan : Plan) (n e r : ℕ) (row : Row) (rows : List Row) → rows ≡ rows_of plan n → r < length rows → row ≡ get_or rows r row → Covers row e
@@ -29,15 +29,15 @@ module _ (plan : Plan) (e : ℕ) where
     ]
   ]
 
-  pub goes_only : (n p q : ℕ) → GoesOn plan e n p → GoesOn plan e n q → p ≡ q
+  pub goes_only : (n p q : ℕ) → IsForwardedTo plan e n p → IsForwardedTo plan e n q → p ≡ q
   goes_only n p q one two = sym one.3 ∙ (ap (λ (row : Row). row.next) (one_first_row n one.1 two.1 one.2 two.2) ∙ two.3)
 
-  pub goes_within : (n p : ℕ) → GoesOn plan e n p → n < length plan.nodes.items
+  pub goes_within : (n p : ℕ) → IsForwardedTo plan e n p → n < length plan.nodes.items
   goes_within n p on = row_within plan n on.2.0 on.1 on.2.1
 
   -- what goes on moves along a row
-  pub goes_moves : (n p : ℕ) → GoesOn plan e n p → MovesTo plan e n p
+  pub goes_moves : (n p : ℕ) → IsForwardedTo plan e n p → MovesTo plan e n p
   goes_moves n p on = (on.0, (on.2.0, on.1, on.2.1, on.2.2, on.3))
 
-  pub goes_nowhere : (n : ℕ) → WayEnds plan e n → IsEnd (GoesOn plan e) n
+  pub goes_nowhere : (n : ℕ) → WayEnds plan e n → IsEnd (IsForwardedTo plan e) n
   goes_nowhere n ends p on = no_move plan e n ends p (goes_moves n p on)

@@ -3,7 +3,7 @@ use Rattle.std.proofs.Common.{◌≡◌, ℕ, zero, suc, ◌+◌, ◌≤◌, Boo
 use Rattle.std.specs.Prelude.{slice_get}
 use Rattle.std.proofs.lemmas.List.{length_push}
 use Rattle.std.proofs.lemmas.Option.{same_Some, slice_get_within}
-use Rattle.mctp_transport.specs.Frames.{Frame}
+use Rattle.mctp_transport.specs.PacketValues.{PacketValue}
 use Rattle.mctp_bridge.specs.declared.row.Hop.{Hop}
 use Rattle.mctp_bridge.specs.declared.decision.Decision.{Decision}
 use Rattle.mctp_bridge.specs.declared.decision.Decision.TheVariants.{Forward}
@@ -24,7 +24,7 @@ use Rattle.net_questions.specs.declared.way.End.{End}
 use Rattle.net_questions.specs.declared.way.End.TheVariants.{Arrives, Stops}
 use Rattle.net_questions.specs.Ways.{DoesAfter, Follows, IsWay, decision_of}
 use Rattle.net_questions.specs.Packets.{StandsOnWay, IsEndOf, IsNextOnWay, KeepsToWays}
-use Rattle.net_questions.proofs.WayLaws.{accepted_apart, one_step_more, does_one}
+use Rattle.net_questions.proofs.WayLaws.{accepted_apart, one_step_more, does_one, same_hop, no_end}
 
 -- the steps that a flight has made
 HasGone : Plan → Flight → Type 0
@@ -47,13 +47,13 @@ module _ (plan : Plan) where
         one_step_more plan (destination f) 0 f.origin before.0 f.node f.hops moved.hop (omega (arith, before.1)) before.2 moved.decided,
       )
 
-  put_in : (puts : Frame → Type 0) (g : Flight) → IsNew puts g → HasGone plan g
+  put_in : (puts : PacketValue → Type 0) (g : Flight) → IsNew puts g → HasGone plan g
   unfolding HasGone
   put_in puts g new =
       let P : Flight → Type 0 = λ h. (gone : List WayStep) × (length gone ≡ h.hops) × Follows plan (destination h) 0 h.origin gone h.node in
       subst P (sym new.is) ([], refl, refl)
 
-  next_gone : (w : NetworkState) (puts : Frame → Type 0) (new : NetworkState) → HaveGone plan w → IsNext (one_plan plan) w puts new → HaveGone plan new
+  next_gone : (w : NetworkState) (puts : PacketValue → Type 0) (new : NetworkState) → HaveGone plan w → IsNext (one_plan plan) w puts new → HaveGone plan new
   unfolding HaveGone
   next_gone w puts new gone next number g is = elim (next.flights number g is) [
     | inl older ↦ gone older.0 g older.1
@@ -72,13 +72,6 @@ module _ (plan : Plan) where
   gone_at cert turns run = gone_from (at_start plan cert) turns (λ number f is. absurd (cc)) run
 
 -- ---- on the way
-
-same_hop : (hop other : Hop) → Forward hop ≡ Forward other → hop ≡ other
-same_hop hop other is = cc
-
-no_end : (hop : Hop) (end : End) → Forward hop ≡ decision_of end → ⊥
-no_end hop Arrives is = cc
-no_end hop (Stops why) is = cc
 
 module _ (plan : Plan) (e : ℕ) (apart : RowsAreApart plan) where
   -- what has been gone is a beginning of the way

@@ -1,12 +1,11 @@
 -- What records of sensors refer to.
-use Rattle.std.proofs.Common.{◌≡◌, ℕ, zero, suc, List, [], ◌∷◌, Option, Some, None, IfSome, Bool, IsTrue, sym, ◌∙◌, ap, subst, arith}
-use Rattle.std.specs.Prelude.{◌↔◌, ◌≢◌, option_map, IsSomeAnd, Contains}
+use Rattle.std.proofs.Common.{◌≡◌, ℕ, List, [], ◌∷◌, Option, Some, None, IfSome, sym, ◌∙◌, ap, arith}
+use Rattle.std.specs.Prelude.{option_map, IsSomeAnd, Contains}
 use Rattle.std.proofs.lemmas.Option.{same_Some}
 use Rattle.pdr_record.specs.declared.sensor.Sensor.{Sensor}
-use Rattle.pdr_record.specs.Layouts.{SensorValue, EntityValue, AssociationValue}
+use Rattle.pdr_record.specs.Layouts.{SensorValue, EntityValue}
 use Rattle.pdr_record.specs.Records.{BodyValue}
 use Rattle.pdr_record.specs.Values.{sensor_value}
-use Rattle.net_questions.proofs.Exists.{of_only}
 use Rattle.net_questions.specs.RecordIndexes.{handle_of}
 use Rattle.net_questions.specs.Sensors.{HasBody, IsSensor, IsLocatorOf, sensor_of}
 
@@ -42,44 +41,10 @@ handle_alone bytes v None only is h (t, has, at) =
 handle_alone bytes v (Some found) only is h (t, has, at) =
     same_Some found t.terminus_handle (is ∙ ap handle_of (only (BodyValue.Terminus t) has)) ∙ at
 
--- of a body that is the only one of some bytes
-pub of_body : {A : Type 0} (bytes : List ℕ) (v : BodyValue) (f : A → BodyValue) (P : A → Type 0) (r : Bool) → HasBody bytes v
-    → ((b : BodyValue) → HasBody bytes b → v ≡ b) → IsTrue r ↔ ((a : A) × (v ≡ f a) × P a) → IsTrue r ↔ ((a : A) × HasBody bytes (f a) × P a)
-of_body bytes v f P r has only told = (
-  λ h. (let (a, is, p) = told.0 h in (a, subst (λ b. HasBody bytes b) is has, p)),
-  λ (a, at, p). told.1 (a, only (f a) at, p),
-)
-
-association_in : BodyValue → Option AssociationValue
-association_in (BodyValue.Terminus t) = None
-association_in (BodyValue.Numeric n) = None
-association_in (BodyValue.State s) = None
-association_in (BodyValue.Association a) = Some a
-association_in (BodyValue.Other number bytes) = None
-
-pub of_association : (v : BodyValue) (t : AssociationValue) (P : AssociationValue → Type 0) (r : Bool) → v ≡ BodyValue.Association t → IsTrue r ↔ P t
-    → IsTrue r ↔ ((a : AssociationValue) × (v ≡ BodyValue.Association a) × P a)
-unfolding association_in
-of_association v t P r is told = of_only (λ a. v ≡ BodyValue.Association a) t P r is (λ a at. same_Some t a (ap association_in (sym is ∙ at))) told
-
 -- ---- searches in what is left of a list
 
 pub here : (x e : EntityValue) (xs : List EntityValue) → x ≡ e → Contains (x ∷ xs) e
 here x e xs same = (0, omega arith, same)
 
-pub later : (x e : EntityValue) (xs : List EntityValue) → x ≢ e → Contains (x ∷ xs) e ↔ Contains xs e
-later x e xs apart = (λ at. down at, λ (k, less, is). (suc k, omega (arith, less), is))
-  where
-    down : Contains (x ∷ xs) e → Contains xs e
-    down (zero, less, is) = absurd (apart is)
-    down (suc k, less, is) = (k, omega (arith, less), is)
-
 pub nowhere : (e : EntityValue) → ¬ Contains [] e
 nowhere e (k, less, is) = omega (arith, less)
-
-pub search_on : (ps xs ys : List EntityValue) (x e : EntityValue) → Contains ps e ↔ Contains xs e → xs ≡ x ∷ ys → x ≢ e → Contains ps e ↔ Contains ys e
-search_on ps xs ys x e before is apart =
-    let (down, up) = later x e ys apart in (
-      λ at. down (subst (λ zs. Contains zs e) is (before.0 at)),
-      λ at. before.1 (subst (λ zs. Contains zs e) (sym is) (up at)),
-    )

@@ -1,11 +1,9 @@
 -- Tables of next nodes and of numbers of moves.
 use Rattle.std.proofs.Common.{◌≡◌, ℕ, suc, ◌+◌, ◌<◌, ◌≤◌, List, [], ◌∷◌, ◌++◌, length, Option, Some, None, sym, ap, ◌∙◌, subst, inl, inr, arith, get_or}
 use Rattle.std.specs.List.{flat_map, range_with_len}
-use Rattle.std.proofs.lemmas.Bool.{cases_lt}
 use Rattle.std.proofs.lemmas.List.{length_push}
-use Rattle.std.specs.Prelude.{slice_get, option_and_then, option_map}
-use Rattle.std.proofs.lemmas.Option.{same_Some, option_and_then_some, slice_get-get_or, slice_get_past}
-use Rattle.net_plan.specs.declared.nodes.Node.{Node}
+use Rattle.std.specs.Prelude.{slice_get, option_and_then}
+use Rattle.std.proofs.lemmas.Option.{same_Some, option_and_then_some, slice_get-get_or}
 use Rattle.net_plan.specs.declared.plan.Plan.{Plan}
 use Rattle.net_plan.specs.declared.certificate.Certificate.{Certificate}
 use Rattle.net_tables.specs.Routing.{Holds, MovesTo}
@@ -15,7 +13,7 @@ use Rattle.net_tables.specs.Ranks.{rank}
 use Rattle.net_rules.specs.Circles.{MovesBy, HasNoCircle, next_in}
 use Rattle.net_rules.specs.Promises.{WayEnds}
 use Rattle.net_rules.specs.RoutingLoops.{AreNexts}
-use Rattle.net_tables.proofs.Elements.{element, in_push}
+use Rattle.net_tables.proofs.Elements.{element, in_push, holder_within}
 use Rattle.net_rules.proofs.Ends.{ends_within_rank, moves_or_ends}
 use Rattle.net_rules.proofs.EidMoves.{no_move, moves_within}
 use Rattle.net_rules.proofs.SameMoves.{Leads-same}
@@ -86,17 +84,6 @@ each_more plan k table new eid is holds hops = (
         (subst (λ d. AreHopsTo plan d (length plan.nodes.items) new.from_each.items) same_eid hops))
   ],
 )
-
--- a node that holds an EID is one of the plan's
-holder_within : (plan : Plan) (n e : ℕ) → Holds plan n e → n < length plan.nodes.items
-holder_within plan n e holds = elim (cases_lt n (length plan.nodes.items)) [
-  | inl lt ↦ lt
-  | inr past ↦ absurd (nobody (slice_get plan.nodes.items n) (slice_get_past plan.nodes.items n past) holds)
-]
-  where
-    nobody : (node : Option Node) → node ≡ None → option_map (λ node. node.eid.value) node ≡ Some e → ⊥
-    nobody None is holds = cc
-    nobody (Some node) is holds = cc
 
 module _ (plan : Plan) (table : List HopsTo) (each : AreHopsToEach plan (length plan.nodes.items) table) where
   found_in : (a b e : ℕ) → a < length plan.nodes.items → Holds plan b e → IsReach plan e a (hops_in table a b)

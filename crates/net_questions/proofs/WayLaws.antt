@@ -4,19 +4,19 @@ use Rattle.std.specs.Prelude.{slice_get}
 use Rattle.std.proofs.lemmas.Bool.{cases_order}
 use Rattle.std.proofs.lemmas.List.{get_or-map, get_or-take, length-take, length-map}
 use Rattle.std.proofs.lemmas.Option.{slice_get_within, get_or_from_slice_get, same_Some}
-use Rattle.mctp_transport.specs.Frames.{IsAssignable}
+use Rattle.mctp_transport.specs.PacketValues.{IsAssignable}
 use Rattle.mctp_bridge.specs.declared.row.Hop.{Hop}
-use Rattle.mctp_bridge.specs.declared.decision.Obstacle.TheVariants.{Unassignable, NoBridge, NoRow}
+use Rattle.mctp_bridge.specs.declared.decision.ForwardFault.TheVariants.{Unassignable, NoBridge, NoRow}
 use Rattle.mctp_bridge.specs.declared.decision.Decision.{Decision}
-use Rattle.mctp_bridge.specs.declared.decision.Decision.TheVariants.{Here, Drop, Forward}
+use Rattle.mctp_bridge.specs.declared.decision.Decision.TheVariants.{Deliver, Drop, Forward}
 use Rattle.mctp_bridge.specs.Decisions.{Decides}
 use Rattle.mctp_bridge.specs.Rows as rule
 use Rattle.mctp_bridge.specs.declared.row.TableRow as bridge
 use Rattle.net_plan.specs.declared.plan.Plan.{Plan}
 use Rattle.net_plan.specs.declared.nodes.Row.{Row}
 use Rattle.net_plan.specs.declared.certificate.Certificate.{Certificate}
-use Rattle.net_rules.specs.declared.rule.Rule.TheVariants.{C04, C05}
-use Rattle.net_tables.specs.Routing.{Holds, HasRow, IsBridge, MovesTo, rows_of, Covers}
+use Rattle.net_rules.specs.declared.rule.Rule.TheVariants.{C05}
+use Rattle.net_tables.specs.Routing.{Holds, IsBridge, MovesTo, rows_of, Covers}
 use Rattle.net_tables.specs.Rows.{AreApart, IsApartFromEarlier, RowsAreApart, RowsAreInRange}
 use Rattle.net_rules.specs.HeldEids.{HeldAreLedOn, IsLedOn}
 use Rattle.net_tables.specs.Tables.{table_row}
@@ -33,12 +33,10 @@ use Rattle.net_questions.specs.declared.way.End.{End}
 use Rattle.net_questions.specs.declared.way.End.TheVariants.{Arrives, Stops}
 use Rattle.net_questions.specs.Ways.{DoesAfter, Follows, IsWay, SameWays, ArrivesAfter, decision_of}
 use Rattle.net_questions.specs.Reaching.{Reaches}
+use Rattle.net_rules.proofs.MoveCertificates.{plan_rows_in_range}
 
 pub accepted_apart : (plan : Plan) (cert : Certificate) → Accepts plan cert → RowsAreApart plan
 accepted_apart plan cert accepted n r = (accepted C05 n (Some r) None).0
-
-accepted_in_range : (plan : Plan) (cert : Certificate) → Accepts plan cert → RowsAreInRange plan
-accepted_in_range plan cert accepted n r = (accepted C04 n (Some r) None).0
 
 -- ---- steps are moves along rows
 
@@ -85,9 +83,6 @@ pub hop_of : (rows : List Row) (e r : ℕ) (row : Row) → slice_get rows r ≡ 
 hop_of rows e r row is covers =
     (r, table_row row, omega (arith, length-map rows table_row, slice_get_within rows r row is), row_at rows r (table_row row) row is, (covers, refl))
 
-pub no_row : (plan : Plan) (n e : ℕ) → ((hop : Hop) → ¬ rule.Routes (map table_row (rows_of plan n)) e hop) → ¬ HasRow plan n e
-no_row plan n e none (m, (r, row, is, covers, next)) = none (table_row row).hop (hop_of (rows_of plan n) e r row is covers)
-
 -- each row lies apart from those before it
 apart_before : (rows : List Row) (r q : ℕ) (row other : Row) (e : ℕ) → All (AreApart row) (take r rows) → q < r → slice_get rows q ≡ Some other → Covers row e → Covers other e → ⊥
 unfolding AreApart
@@ -118,27 +113,27 @@ one_hop plan n e apart hop other here there =
 
 module _ (holds forwards : Type 0) (routes : Hop → Type 0) (one : (hop other : Hop) → routes hop → routes other → hop ≡ other) (e : ℕ) where
   pub decides_one : (a b : Decision) → Decides holds forwards routes e a → Decides holds forwards routes e b → a ≡ b
-  decides_one Here Here x y = refl
-  decides_one Here (Drop Unassignable) x y = absurd (y.0 x)
-  decides_one Here (Drop NoBridge) x y = absurd (y.0 x)
-  decides_one Here (Drop NoRow) x y = absurd (y.0 x)
-  decides_one Here (Forward hop) x y = absurd (y.0 x)
-  decides_one (Drop Unassignable) Here x y = absurd (x.0 y)
+  decides_one Deliver Deliver x y = refl
+  decides_one Deliver (Drop Unassignable) x y = absurd (y.0 x)
+  decides_one Deliver (Drop NoBridge) x y = absurd (y.0 x)
+  decides_one Deliver (Drop NoRow) x y = absurd (y.0 x)
+  decides_one Deliver (Forward hop) x y = absurd (y.0 x)
+  decides_one (Drop Unassignable) Deliver x y = absurd (x.0 y)
   decides_one (Drop Unassignable) (Drop Unassignable) x y = refl
   decides_one (Drop Unassignable) (Drop NoBridge) x y = absurd (x.1 y.1)
   decides_one (Drop Unassignable) (Drop NoRow) x y = absurd (x.1 y.1)
   decides_one (Drop Unassignable) (Forward hop) x y = absurd (x.1 y.1)
-  decides_one (Drop NoBridge) Here x y = absurd (x.0 y)
+  decides_one (Drop NoBridge) Deliver x y = absurd (x.0 y)
   decides_one (Drop NoBridge) (Drop Unassignable) x y = absurd (y.1 x.1)
   decides_one (Drop NoBridge) (Drop NoBridge) x y = refl
   decides_one (Drop NoBridge) (Drop NoRow) x y = absurd (x.2 y.2)
   decides_one (Drop NoBridge) (Forward hop) x y = absurd (x.2 y.2)
-  decides_one (Drop NoRow) Here x y = absurd (x.0 y)
+  decides_one (Drop NoRow) Deliver x y = absurd (x.0 y)
   decides_one (Drop NoRow) (Drop Unassignable) x y = absurd (y.1 x.1)
   decides_one (Drop NoRow) (Drop NoBridge) x y = absurd (y.2 x.2)
   decides_one (Drop NoRow) (Drop NoRow) x y = refl
   decides_one (Drop NoRow) (Forward hop) x y = absurd (x.3 hop y.3)
-  decides_one (Forward hop) Here x y = absurd (x.0 y)
+  decides_one (Forward hop) Deliver x y = absurd (x.0 y)
   decides_one (Forward hop) (Drop Unassignable) x y = absurd (y.1 x.1)
   decides_one (Forward hop) (Drop NoBridge) x y = absurd (y.2 x.2)
   decides_one (Forward hop) (Drop NoRow) x y = absurd (y.3 hop x.3)
@@ -150,10 +145,10 @@ does_one plan e k n apart a b one other =
 
 -- ---- one way from each node
 
-same_hop : (hop other : Hop) → Forward hop ≡ Forward other → hop ≡ other
+pub same_hop : (hop other : Hop) → Forward hop ≡ Forward other → hop ≡ other
 same_hop hop other is = cc
 
-no_end : (hop : Hop) (end : End) → Forward hop ≡ decision_of end → ⊥
+pub no_end : (hop : Hop) (end : End) → Forward hop ≡ decision_of end → ⊥
 no_end hop Arrives is = cc
 no_end hop (Stops why) is = cc
 
@@ -236,7 +231,7 @@ pub ways_reach : (plan : Plan) (cert : Certificate) (e from moves : ℕ) → Acc
 unfolding Sends
 ways_reach plan cert e from moves accepted = (
   λ (m, way, holds). (
-      let found = arrives plan e (accepted_in_range plan cert accepted) (accepted_leads plan cert accepted) 0 from moves m (inr (inr refl)) way holds in
+      let found = arrives plan e (plan_rows_in_range plan cert accepted) (accepted_leads plan cert accepted) 0 from moves m (inr (inr refl)) way holds in
       (found.0, m, found.1, record { follows = found.2; ends = holds })),
   λ (steps, last, long, way). (last, subst (λ k. Leads (MovesTo plan e) from k last) long (follows_leads plan e 0 from steps last way.follows), way.ends),
 )

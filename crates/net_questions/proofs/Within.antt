@@ -9,7 +9,7 @@ use Rattle.net_plan.specs.declared.nodes.Pool.{Pool}
 use Rattle.net_plan.specs.declared.nodes.Row.{Row}
 use Rattle.net_plan.specs.declared.terminus.PlannedRecord.{PlannedRecord}
 use Rattle.net_plan.specs.declared.terminus.PlannedTerminus.{PlannedTerminus}
-use Rattle.net_tables.specs.Routing.{Holds, HasRow, IsBridge, rows_of}
+use Rattle.net_tables.specs.Routing.{HasRow, IsBridge, rows_of}
 use Rattle.net_tables.specs.Ownership.{IsOwnedBy, pool_of, IsInPoolOf}
 use Rattle.net_tables.specs.Repositories.{terminus_of, records_of}
 use Rattle.net_rules.proofs.Beyond.{no_owner}
@@ -43,12 +43,6 @@ pub terminus_within : (plan : Plan) (n : ℕ) (t : PlannedTerminus) → terminus
 terminus_within plan n t is = by_past plan n (λ past. none past is)
   where
     none : length plan.nodes.items ≤ n → terminus_of plan n ≡ Some t → ⊥
-    none past = rw (slice_get_past plan.nodes.items n past) (λ is. cc)
-
-pub holder_within : (plan : Plan) (n e : ℕ) → Holds plan n e → n < length plan.nodes.items
-holder_within plan n e is = by_past plan n (λ past. none past is)
-  where
-    none : length plan.nodes.items ≤ n → Holds plan n e → ⊥
     none past = rw (slice_get_past plan.nodes.items n past) (λ is. cc)
 
 pub bridge_within : (plan : Plan) (n : ℕ) → IsBridge plan n → n < length plan.nodes.items

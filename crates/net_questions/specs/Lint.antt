@@ -8,7 +8,7 @@ use Rattle.net_plan.specs.declared.terminus.PlannedRecord.{PlannedRecord}
 use Rattle.net_plan.specs.declared.terminus.PlannedTerminus.{PlannedTerminus}
 use Rattle.pdr_record.specs.Layouts.{NumericValue}
 use Rattle.pdr_record.specs.Records.{RecordValue, BodyValue, Spelled}
-use Rattle.net_tables.specs.Routing.{rows_of, IsBridge, Holds, Covers, HasRow, OfItem}
+use Rattle.net_tables.specs.Routing.{rows_of, IsBridge, Holds, IsHeld, Covers, HasRow, OfItem}
 use Rattle.net_rules.specs.Moves.{Leads, IsEnd}
 use Rattle.net_tables.specs.Ownership.{IsOwnedBy, IsInPoolOf}
 use Rattle.net_tables.specs.Repositories.{terminus_of, records_of}
@@ -184,10 +184,6 @@ LeadsToNobody plan row = (e m : ℕ) → Covers row e → ¬ Holds plan m e × �
 abbrev pub HasIdleRow : Plan → ℕ → ℕ → Type 0
 HasIdleRow plan n r = (row : Row) × (slice_get (rows_of plan n) r ≡ Some row) × LeadsToNobody plan row
 
--- some node holds e
-abbrev pub IsHeld : Plan → ℕ → Type 0
-IsHeld plan e = (m : ℕ) × Holds plan m e
-
 -- the bridge n has e in its pool, another node holds e, and n has no row for it
 abbrev pub LeavesHeld : Plan → ℕ → ℕ → Type 0
 LeavesHeld plan n e =
@@ -214,12 +210,12 @@ IsFirstRowFor plan n e row =
     × ((i : ℕ) → i < r → OfItem (rows_of plan n) i (λ other. ¬ Covers other e))
 
 -- what is for e goes on from n to m: n doesn't hold e, and n's first row for e leads to m
-abbrev pub GoesOn : Plan → ℕ → ℕ → ℕ → Type 0
-GoesOn plan e n m = ¬ Holds plan n e × (row : Row) × IsFirstRowFor plan n e row × (row.next ≡ m)
+abbrev pub IsForwardedTo : Plan → ℕ → ℕ → ℕ → Type 0
+IsForwardedTo plan e n m = ¬ Holds plan n e × (row : Row) × IsFirstRowFor plan n e row × (row.next ≡ m)
 
 -- what is put in at a node for e comes to another one
 abbrev pub ComesTo : Plan → ℕ → ℕ → ℕ → Type 0
-ComesTo plan e from to = (moves : ℕ) × Leads (GoesOn plan e) from moves to
+ComesTo plan e from to = (moves : ℕ) × Leads (IsForwardedTo plan e) from moves to
 
 -- what is put in at a node for the EID of another one comes to that one
 abbrev pub HasWayTo : Plan → ℕ → ℕ → Type 0

@@ -3,7 +3,7 @@ ghost use Rattle.std.specs.Prelude.{◌≡◌, length, IfOk, MatchOption};
 ghost use Rattle.net_rules.specs.Moves.{IsEnd};
 ghost use Rattle.net_rules.specs.RoutingLoops.{IsNext, AreNexts};
 ghost use Rattle.net_rules.specs.Circles.{next_in};
-ghost use Rattle.net_questions.specs.Lint.{GoesOn};
+ghost use Rattle.net_questions.specs.Lint.{IsForwardedTo};
 ghost use Rattle.net_questions.specs.Reaching.{IsReach, NeverCircles, AreHopsTo, AreHopsToEach, hops_in};
 
 use crate::lookup::{eid_at, row_for};
@@ -94,7 +94,7 @@ fn next_nodes(alloc: Global, plan: &Plan, eid: Eid) -> Result<Vec<Option<usize>>
 /// nor without a row.
 pub fn next_node(plan: &Plan, node: usize, eid: Eid) -> Option<usize>
     ensures row { IsNext plan.now eid.value node result }
-    ensures first { MatchOption result (IsEnd (GoesOn plan.now eid.value) node) (GoesOn plan.now eid.value node) }
+    ensures first { MatchOption result (IsEnd (IsForwardedTo plan.now eid.value) node) (IsForwardedTo plan.now eid.value node) }
 {
     if holds(plan, node, eid) {
         return None;

@@ -5,7 +5,7 @@ ghost use Rattle.net_questions.specs.Ways.{IsWay, DoesAfter};
 
 use crate::lookup::hop_at;
 use crate::step::WayStep;
-use mctp_bridge::{Decision, Obstacle};
+use mctp_bridge::{Decision, ForwardFault};
 use mctp_transport::Eid;
 use net_check::Checked;
 use net_plan::Plan;
@@ -18,7 +18,7 @@ pub enum End {
     /// The last node holds the destination, and takes the packet.
     Arrives,
     /// The last node drops the packet.
-    Stops(Obstacle),
+    Stops(ForwardFault),
 }
 
 /// The way of a packet.
@@ -45,7 +45,7 @@ pub fn follow(alloc: Global, checked: &Checked, from: usize, eid: Eid) -> Result
                 steps.push(WayStep { node: last, hop })?;
                 last = hop.next;
             }
-            Decision::Here => {
+            Decision::Deliver => {
                 return Ok(Way {
                     steps,
                     last,
@@ -68,16 +68,16 @@ fn decision_after(plan: &Plan, node: usize, eid: Eid, moves: usize) -> Decision
     ensures { DoesAfter plan.now eid.value moves node result }
 {
     if holds(plan, node, eid) {
-        return Decision::Here;
+        return Decision::Deliver;
     }
     if !eid.is_assignable() {
-        return Decision::Drop(Obstacle::Unassignable);
+        return Decision::Drop(ForwardFault::Unassignable);
     }
     if !is_bridge(plan, node) && moves > 0 {
-        return Decision::Drop(Obstacle::NoBridge);
+        return Decision::Drop(ForwardFault::NoBridge);
     }
     match hop_at(plan, node, eid) {
         Some(hop) => Decision::Forward(hop),
-        None => Decision::Drop(Obstacle::NoRow),
+        None => Decision::Drop(ForwardFault::NoRow),
     }
 }

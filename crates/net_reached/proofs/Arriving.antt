@@ -5,7 +5,7 @@ use Rattle.std.proofs.lemmas.Bool.{cases_lt}
 use Rattle.std.proofs.lemmas.Option.{same_Some}
 use Rattle.net_plan.specs.declared.plan.Plan.{Plan}
 use Rattle.net_plan.specs.declared.certificate.Certificate.{Certificate}
-use Rattle.mctp_bridge.specs.declared.decision.Obstacle.{Obstacle}
+use Rattle.mctp_bridge.specs.declared.decision.ForwardFault.{ForwardFault}
 use Rattle.net_rules.specs.Rules.{Accepts}
 use Rattle.net_tables.specs.Routing.{Holds}
 use Rattle.net_questions.specs.declared.step.WayStep.{WayStep}
@@ -20,7 +20,7 @@ pub arrives : (plan : Plan) (e from last : ℕ) (steps : List WayStep) → IsWay
 arrives plan e from last steps way = (steps, last, refl, way)
 
 -- and nowhere where it stops, since a packet has one way
-pub stops : (plan : Plan) (certificate : Certificate) (e from last : ℕ) (steps : List WayStep) (why : Obstacle)
+pub stops : (plan : Plan) (certificate : Certificate) (e from last : ℕ) (steps : List WayStep) (why : ForwardFault)
     → Accepts plan certificate → IsWay plan e from steps last (Stops why) → (moves : ℕ) → ¬ ArrivesAfter plan e from moves
 stops plan certificate e from last steps why accepted way moves (others, end_at, count, other) =
     absurd (cc (ways_are_alone plan certificate e from last end_at steps others (Stops why) Arrives accepted way other).2)

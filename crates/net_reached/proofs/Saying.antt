@@ -1,5 +1,5 @@
 -- Which lines say wishes.
-use Rattle.std.proofs.Common.{◌≡◌, ◌≢◌, ℕ, zero, suc, ◌≤◌, ◌+◌, ◌<◌, List, [], ◌∷◌, ◌++◌, codes, length, get_or, map, take, refl, sym, ap, ◌∙◌, subst, arith, Option, Some, None, IfSome, IfNone, inl, inr, Bor}
+use Rattle.std.proofs.Common.{◌≡◌, ◌≢◌, ℕ, zero, suc, ◌≤◌, ◌+◌, ◌<◌, List, [], ◌∷◌, ◌++◌, length, get_or, map, take, refl, sym, ap, ◌∙◌, subst, arith, Option, Some, None, IfSome, IfNone, inl, inr, Bor}
 use Rattle.std.specs.Prelude.{slice_get, option_map}
 use Rattle.std.proofs.lemmas.Bool.{cases_lt}
 use Rattle.std.proofs.lemmas.List.{append_cancel_left, take_more}
@@ -24,29 +24,11 @@ none_behind plan text front name None is none = λ n other named same.
 
 -- ---- wishes behind a name
 
-pub no_wish_behind : (plan : Plan) (rest : List ℕ) → rest ≢ codes " -> *" → ((n : ℕ) (name : List ℕ) → IsNamed plan n name → rest ≢ codes " -/> " ++ name)
-    → ((n : ℕ) (name : List ℕ) → IsNamed plan n name → rest ≢ codes " " ++ name) → (wish : Wish) → ¬ SaysBehind plan rest wish
-no_wish_behind plan rest all avoids one (Nothing text) said = said
-no_wish_behind plan rest all avoids one (Reaches from to) (name, named, is) = one to name named is
-no_wish_behind plan rest all avoids one (ReachesAll from) said = all said
-no_wish_behind plan rest all avoids one (Avoids from to) (name, named, is) = avoids to name named is
-
 says_of : (plan : Plan) (line : List ℕ) (from : ℕ) (wish : Wish) → from_of wish ≡ Some from → Says plan line wish → SaysOf plan line from wish
 says_of plan line from (Nothing text) of said = absurd (cc of)
 says_of plan line from (Reaches a b) of said = subst (λ k. SaysOf plan line k (Reaches a b)) (same_Some a from of) said
 says_of plan line from (ReachesAll a) of said = subst (λ k. SaysOf plan line k (ReachesAll a)) (same_Some a from of) said
 says_of plan line from (Avoids a b) of said = subst (λ k. SaysOf plan line k (Avoids a b)) (same_Some a from of) said
-
-says : (plan : Plan) (line : List ℕ) (from : ℕ) (wish : Wish) → from_of wish ≡ Some from → SaysOf plan line from wish → Says plan line wish
-says plan line from (Nothing text) of said = absurd (cc of)
-says plan line from (Reaches a b) of said = subst (λ k. SaysOf plan line k (Reaches a b)) (sym (same_Some a from of)) said
-says plan line from (ReachesAll a) of said = subst (λ k. SaysOf plan line k (ReachesAll a)) (sym (same_Some a from of)) said
-says plan line from (Avoids a b) of said = subst (λ k. SaysOf plan line k (Avoids a b)) (sym (same_Some a from of)) said
-
-pub said_of : (plan : Plan) (line name rest : List ℕ) (from : ℕ) (found : Option Wish) → IsNamed plan from name → line ≡ name ++ rest
-    → IfSome found (λ wish. (from_of wish ≡ Some from) × SaysBehind plan rest wish) → IfSome found (Says plan line)
-said_of plan line name rest from None named is said = tt
-said_of plan line name rest from (Some wish) named is said = says plan line from wish said.0 (name, rest, named, is, said.1)
 
 pub not_said_of : (plan : Plan) (line name rest : List ℕ) (from : ℕ) (found : Option Wish) → IsNamed plan from name → line ≡ name ++ rest
     → IfNone found ((wish : Wish) → ¬ SaysBehind plan rest wish) → IfNone found ((wish : Wish) → from_of wish ≡ Some from → ¬ Says plan line wish)
@@ -56,13 +38,6 @@ not_said_of plan line name rest from None named is none = λ wish of said.
     let same : other ≡ name = same_Some other name (sym named' ∙ named) in
     let left_same : left ≡ rest = append_cancel_left name left rest (subst (λ k. k ++ left ≡ name ++ rest) same (sym is' ∙ is)) in
     none wish (subst (λ k. SaysBehind plan k wish) left_same behind)
-
-pub no_name : (plan : Plan) (line name : List ℕ) (from : ℕ) → IsNamed plan from name → ((rest : List ℕ) → line ≢ name ++ rest)
-    → (wish : Wish) → from_of wish ≡ Some from → ¬ Says plan line wish
-no_name plan line name from named none wish of said =
-    let (other, left, named', is', behind) = says_of plan line from wish of said in
-    let same : other ≡ name = same_Some other name (sym named' ∙ named) in
-    none left (subst (λ k. line ≡ k ++ left) same is')
 
 -- ---- wishes of a line
 

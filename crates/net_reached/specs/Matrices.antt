@@ -2,7 +2,7 @@
 use Rattle.std.specs.Prelude.{◌≡◌, ◌≢◌, ◌⊎◌, ℕ, suc, zero, ◌+◌, nat_lt, if◌then◌else◌, List, [], ◌++◌, codes, length}
 use Rattle.std.specs.Fmt.{decimal}
 use Rattle.net_plan.specs.declared.plan.Plan.{Plan}
-use Rattle.net_reached.specs.Lines.{name_text}
+use Rattle.net_tables.specs.Names.{node_name}
 use Rattle.net_reached.specs.Wishes.{ComesTo, ReachesNode}
 
 -- a number in three columns, where it has at most three digits
@@ -30,7 +30,7 @@ AreCells plan a (suc b) text =
 -- the row of a: its number, its cells and its name
 abbrev pub IsRow : Plan → ℕ → List ℕ → Type 0
 IsRow plan a row = (cells : List ℕ) × AreCells plan a (length plan.nodes.items) cells
-    × (row ≡ number_cell (a + 1) ++ (codes " " ++ (cells ++ (codes "  " ++ (name_text plan a ++ codes "\n")))))
+    × (row ≡ number_cell (a + 1) ++ (codes " " ++ (cells ++ (codes "  " ++ (node_name plan a ++ codes "\n")))))
 
 -- the rows of the first nodes
 abbrev pub AreRows : Plan → ℕ → List ℕ → Type 0

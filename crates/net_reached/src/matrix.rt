@@ -2,9 +2,9 @@
 ghost use Rattle.std.specs.Prelude.{◌≡◌, ◌<◌, ◌++◌, IfOk, codes, length, string_bytes};
 ghost use Rattle.net_reached.specs.Matrices.{number_cell, head_cells, IsCell, AreCells, IsRow, AreRows, IsMatrix};
 
-use crate::names::name_at;
 use crate::reached::hops_between;
 use net_check::Checked;
+use net_tables::lookup::node_name;
 use std::alloc::{AllocError, Global};
 
 /// A table with a row and a column for each node of a checked plan, in its order, by number from 1: how many hops a packet
@@ -65,7 +65,7 @@ fn row_text(alloc: Global, checked: &Checked, node: usize) -> Result<String, All
 {
     let number = number_cell(alloc, node + 1)?;
     let cells = cells_text(alloc, checked, node)?;
-    let name = name_at(checked.plan(), node);
+    let name = node_name(checked.plan(), node);
     format!(in alloc; "{number} {cells}  {name}\n")
 }
 

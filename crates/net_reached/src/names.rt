@@ -1,18 +1,8 @@
 //! The names of nodes.
 ghost use Rattle.std.specs.Prelude.{◌≡◌, ◌<◌, ℕ, IfSome, IfNone, length};
-ghost use Rattle.net_reached.specs.Lines.{name_text};
 ghost use Rattle.net_reached.specs.Reading.{IsNamed};
 
 use net_plan::Plan;
-
-/// The name of the node at an index, or a dash where there is none.
-pub fn name_at(plan: &Plan, node: usize) -> &str
-    ensures { result.now ≡ name_text plan.now node }
-{
-    plan.nodes
-        .get(node)
-        .map_or("-", |node| node.name.text.as_str())
-}
 
 /// The name of a node of the plan.
 pub fn name_of(plan: &Plan, node: usize) -> &str

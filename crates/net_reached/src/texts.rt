@@ -2,9 +2,9 @@
 ghost use Rattle.std.specs.Prelude.{◌≡◌, ◌++◌, IfOk, codes, string_bytes};
 ghost use Rattle.net_reached.specs.Lines.{wish_line, wish_lines};
 
-use crate::names::name_at;
 use crate::wish::Wish;
 use net_plan::Plan;
+use net_tables::lookup::node_name;
 use std::alloc::{AllocError, Global};
 
 /// A line for each wish.
@@ -24,13 +24,18 @@ pub fn wish_line(alloc: Global, plan: &Plan, wish: &Wish) -> Result<String, Allo
 {
     match *wish {
         Wish::Nothing { line } => format!(in alloc; "{line}\n"),
-        Wish::Reaches { from, to } => between(alloc, name_at(plan, from), " ", name_at(plan, to)),
+        Wish::Reaches { from, to } => between(
+            alloc,
+            node_name(plan, from),
+            " ",
+            node_name(plan, to),
+        ),
         Wish::ReachesAll { from } => {
-            let from = name_at(plan, from);
+            let from = node_name(plan, from);
             format!(in alloc; "{from} -> *\n")
         }
         Wish::Avoids { from, to } => {
-            between(alloc, name_at(plan, from), " -/> ", name_at(plan, to))
+            between(alloc, node_name(plan, from), " -/> ", node_name(plan, to))
         }
     }
 }

@@ -17,14 +17,17 @@ use Rattle.net_tables.specs.Routing.{node_at, rows_of}
 use Rattle.net_plan.specs.declared.certificate.Certificate.{Certificate}
 use Rattle.net_plan.specs.NodeValues.{but_rows}
 use Rattle.net_rules.specs.MoveRules.{AcceptsMove, HaveSameFrame, IsSameNode, SameFrame, SameNode}
-use Rattle.net_rules.specs.MoveObstacles.{DifferInRows}
+use Rattle.net_rules.specs.MoveObstacles.{DifferInRowsAlone}
 use Rattle.net_rollout.specs.declared.change.LastStep.{LastStep}
 use Rattle.net_rollout.specs.declared.change.Part.{Part}
 use Rattle.net_rollout.specs.declared.change.Step.{Step}
 use Rattle.net_rollout.specs.declared.change.Change.{Change}
 use Rattle.net_rollout.specs.declared.change.Change.TheVariants as change
 use Rattle.net_rollout.specs.Steps.{AreChanged, AreNodesAfter, AreTold, GoAs, GoesAs, IsCertified, IsLastStep, IsNodeAfter, IsOfPart, IsSwitched, IsTaken, IsTold, SendAs, SendsBy, TakesParts, last_plan, row_values}
-use Rattle.net_rollout.proofs.Items.{item_same, item_within, item_pushed}
+use Rattle.net_rollout.proofs.Items.{item_pushed}
+use Rattle.mctp_transport.proofs.FirstIndexes.{same_element}
+use Rattle.net_tables.proofs.Elements.{element}
+use Rattle.net_rules.proofs.Beyond.{no_rows as rows_beyond}
 
 -- ---- parts
 
@@ -41,7 +44,7 @@ taken_cases parts k n e part here taken = elim (cases_lt taken.0 k) [
   | inl lt ↦ inl (taken.0, lt, taken.2, taken.3, taken.4)
   | inr ge ↦ (
       let at : taken.0 ≡ k = omega (arith, taken.1, ge) in
-      let same : taken.2 ≡ part = item_same parts k taken.2 part (subst (λ x. slice_get parts x ≡ Some taken.2) at taken.3) here in
+      let same : taken.2 ≡ part = same_element parts k taken.2 part (subst (λ x. slice_get parts x ≡ Some taken.2) at taken.3) here in
       inr (subst (λ x. IsOfPart x n e) same taken.4))
 ]
 
@@ -106,17 +109,6 @@ pub record AreChangedBefore (before after : Plan) (k : ℕ) (nodes : List ℕ) :
   pub all : (n : ℕ) → n < k → row_values after n ≢ row_values before n → Contains nodes n
   pub ascend : AllPairs (λ n m. n < m) nodes
 
-contains_none : {A : Type 0} (x : A) → Contains [] x → ⊥
-contains_none x h = omega (arith, h.1)
-
-pub none_changed : (before after : Plan) → AreChangedBefore before after 0 []
-none_changed before after = record {
-  within = λ n h. absurd (contains_none n h);
-  differ = λ n h. absurd (contains_none n h);
-  all = λ n lt. absurd (omega (arith, lt));
-  ascend = λ i j d less within. absurd (omega (arith, within));
-}
-
 inside : (nodes : List ℕ) (i d : ℕ) → i < length nodes → get_or nodes i (get_or nodes i d) ≡ get_or nodes i d
 inside nodes i d lt = get_or_default nodes i (get_or nodes i d) d lt
 
@@ -154,9 +146,6 @@ none_more before after k nodes same h = record {
   ascend = h.ascend;
 }
 
-pub rows_beyond : (plan : Plan) (n : ℕ) → length plan.nodes.items ≤ n → rows_of plan n ≡ []
-rows_beyond plan n beyond = ap (λ o. unwrap_or (option_map (λ (node : Node). node.rows.items) o) []) (slice_get_past plan.nodes.items n beyond)
-
 pub all_changed : (before after : Plan) (k : ℕ) (nodes : List ℕ) → length before.nodes.items ≤ k → length after.nodes.items ≤ k
     → AreChangedBefore before after k nodes → AreChanged before after nodes
 all_changed before after k nodes few few_after h = record {
@@ -187,12 +176,6 @@ node_more here new change k nodes node is h = record {
     length_push : (xs : List Node) (x : Node) → length (xs ++ x ∷ []) ≡ length xs + 1
     length_push [] x = refl
     length_push (y ∷ xs) x = omega (arith, length_push xs x)
-
-pub no_nodes : (here new : Plan) (change : Change) → AreNodesAfter here new change 0 []
-no_nodes here new change = record {
-  long = refl;
-  each = λ n node there. cc there;
-}
 
 no_rows : (here new : Plan) (change : Change) (n : ℕ) → rows_of here n ≡ [] → rows_of new n ≡ [] → GoesAs here new change n []
 no_rows here new (change.Nodes nodes) n none none_new = inl (sym none)
@@ -230,7 +213,7 @@ made_plan here new change buses nodes (Some p) same after many told whole = reco
     alike : (n : ℕ) → option_map but_rows (node_at here n) ≡ option_map but_rows (node_at p n)
     alike n = elim (cases_lt n (length here.nodes.items)) [
       | inl lt ↦ (
-          let found = item_within p.nodes.items n (omega (arith, lt, made.long)) in
+          let found = element p.nodes.items n (omega (arith, lt, made.long)) in
           (made.each n found.0 found.1).0 ∙ sym (ap (option_map but_rows) found.1))
       | inr ge ↦ ap (option_map but_rows) (slice_get_past here.nodes.items n ge ∙ sym (slice_get_past p.nodes.items n (omega (arith, ge, made.long))))
     ]
@@ -238,24 +221,12 @@ made_plan here new change buses nodes (Some p) same after many told whole = reco
     rows : (n : ℕ) → GoesAs here new change n (rows_of p n)
     rows n = elim (cases_lt n (length here.nodes.items)) [
       | inl lt ↦ (
-          let found = item_within p.nodes.items n (omega (arith, lt, made.long)) in
+          let found = element p.nodes.items n (omega (arith, lt, made.long)) in
           let are : rows_of p n ≡ found.0.rows.items = ap (λ o. unwrap_or (option_map (λ (node : Node). node.rows.items) o) []) found.1 in
           subst (GoesAs here new change n) (sym are) (made.each n found.0 found.1).1)
       | inr ge ↦ subst (GoesAs here new change n) (sym (rows_beyond p n (omega (arith, ge, made.long))))
           (no_rows here new change n (rows_beyond here n ge) (rows_beyond new n (omega (arith, ge, many))))
     ]
-
--- the nodes that have changed are those that took their new rows
-pub switched_so : (here new after : Plan) (given : Vec ℕ Global) (nodes : List ℕ) → AreChanged here after nodes → GoAs here new (change.Nodes given) after → IsSwitched here new nodes after
-switched_so here new after given nodes changed goes = record {
-  rows_alone = goes.rows_alone;
-  named = changed.named;
-  taken = λ n there. elim (goes.rows n) [
-    | inl same ↦ absurd ((changed.named n).0 there (ap (map row_value) same))
-    | inr same ↦ ap (map row_value) same
-  ];
-  ascend = changed.ascend;
-}
 
 -- parts that were taken
 pub parts_so : (here new after : Plan) (made : Change) (given : Vec Part Global) → made ≡ change.Parts given → GoAs here new made after → TakesParts here new given.items after
@@ -268,15 +239,11 @@ parts_so here new after made given is goes =
       told = so.told;
     }
 
-pub nodes_so : (here new after : Plan) (made : Change) (given : Vec ℕ Global) (nodes : List ℕ) → made ≡ change.Nodes given → AreChanged here after nodes → GoAs here new made after
-    → IsSwitched here new nodes after
-nodes_so here new after made given nodes is changed goes = switched_so here new after given nodes changed (subst (λ x. GoAs here new x after) is goes)
-
 -- to the new plan itself
-pub switched_last : (here new : Plan) (nodes : List ℕ) → DifferInRows here new → AreChanged here new nodes → IsSwitched here new nodes new
+pub switched_last : (here new : Plan) (nodes : List ℕ) → DifferInRowsAlone here new → AreChanged here new nodes → IsSwitched here new nodes new
 switched_last here new nodes alone changed = record { rows_alone = alone; named = changed.named; taken = λ n there. refl; ascend = changed.ascend }
 
-pub moves_alone : (here new : Plan) (cert : Certificate) → AcceptsMove here new cert → DifferInRows here new
+pub moves_alone : (here new : Plan) (cert : Certificate) → AcceptsMove here new cert → DifferInRowsAlone here new
 moves_alone here new cert accepts = (accepts SameFrame 0 None None, λ n. accepts SameNode n None None)
 
 pub parts_told : (new : Plan) (made : Change) (parts : Vec Part Global) → made ≡ change.Parts parts → AreTold new parts.items → IsTold new made

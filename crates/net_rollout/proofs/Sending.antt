@@ -2,11 +2,12 @@
 use Rattle.std.proofs.Common.{◌≡◌, ◌⊎◌, ◌↔◌, inl, inr, ◌<◌, ◌≤◌, ℕ, ◌+◌, List, [], ◌∷◌, ◌++◌, length, Some, None, Option, Bool, true, false, ap, sym, subst, ◌∙◌, arith}
 use Rattle.std.specs.Prelude.{slice_get}
 use Rattle.std.proofs.lemmas.Bool.{cases_lt, false≢true}
-use Rattle.std.proofs.lemmas.Option.{slice_get_within}
+use Rattle.std.proofs.lemmas.Option.{slice_get_within, same_Some}
 use Rattle.net_plan.specs.declared.nodes.Row.{Row}
 use Rattle.net_tables.specs.Routing.{Covers, NamesFor}
 use Rattle.net_rollout.specs.Steps.{IsPieceOf, SendsBy, SendAs}
-use Rattle.net_rollout.proofs.Items.{item_same, item_pushed, item_kept, item_last}
+use Rattle.net_rollout.proofs.Items.{item_pushed}
+use Rattle.mctp_transport.proofs.FirstIndexes.{get_front, get_last, same_element}
 
 -- so one of the first k rows does
 abbrev pub SentBefore : List Row → ℕ → ℕ → ℕ → ℕ → ℕ → ℕ → Type 0
@@ -53,8 +54,8 @@ one_added made row piece from to port_same next_same covers e port m = (there, b
     ]
 
     back : (SendsBy made e port m ⊎ IsPieceOf row from to e port m) → SendsBy (made ++ piece ∷ []) e port m
-    back (inl h) = (h.0, h.1, item_kept made (piece ∷ []) h.0 h.1 h.2, h.3, h.4, h.5)
-    back (inr h) = (length made, piece, item_last made piece, (covers e).1 (h.0, h.1, h.2), port_same ∙ h.3, next_same ∙ h.4)
+    back (inl h) = (h.0, h.1, get_front made (piece ∷ []) h.0 h.1 h.2, h.3, h.4, h.5)
+    back (inr h) = (length made, piece, get_last made piece, (covers e).1 (h.0, h.1, h.2), port_same ∙ h.3, next_same ∙ h.4)
 
 -- one row more
 pub one_row_more : (old made more rows : List Row) (k : ℕ) (row : Row) (from to : ℕ) → slice_get rows k ≡ Some row
@@ -75,7 +76,7 @@ one_row_more old made more rows k row from to here added before e port m = (ther
 
     of_row : (r : ℕ) (one : Row) → slice_get rows r ≡ Some one → r ≡ k → IsPieceOf one from to e port m → IsPieceOf row from to e port m
     of_row r one is at h =
-        let same : one ≡ row = item_same rows k one row (subst (λ x. slice_get rows x ≡ Some one) at is) here in
+        let same : one ≡ row = same_element rows k one row (subst (λ x. slice_get rows x ≡ Some one) at is) here in
         subst (λ x. IsPieceOf x from to e port m) same h
 
     back : (SendsBy old e port m ⊎ SentBefore rows (k + 1) from to e port m) → SendsBy more e port m
@@ -184,7 +185,7 @@ one_sends rows k e next flag row here covers is before = record {
       | inl less ↦ before.same r one less there c
       | inr ge ↦ (
           let at : r ≡ k = omega (arith, lt, ge) in
-          let equal : one ≡ row = item_same rows k one row (subst (λ x. slice_get rows x ≡ Some one) at there) here in
+          let equal : one ≡ row = same_element rows k one row (subst (λ x. slice_get rows x ≡ Some one) at there) here in
           is ∙ ap (λ x. Some x.next) (sym equal))
     ]
 
@@ -206,11 +207,8 @@ one_passes rows k e next flag row here passes before = record {
     not_it : (r : ℕ) (one : Row) → r < k + 1 → k ≤ r → slice_get rows r ≡ Some one → ¬ Covers one e
     not_it r one lt ge there c =
         let at : r ≡ k = omega (arith, lt, ge) in
-        let equal : one ≡ row = item_same rows k one row (subst (λ x. slice_get rows x ≡ Some one) at there) here in
+        let equal : one ≡ row = same_element rows k one row (subst (λ x. slice_get rows x ≡ Some one) at there) here in
         passes (subst (λ x. Covers x e) equal c)
-
-some_one : {A : Type 0} (x y : A) → Some x ≡ Some y → x ≡ y
-some_one x y is = cc is
 
 pub sent_to_it : (rows : List Row) (k e : ℕ) (next : Option ℕ) (flag : Bool) → length rows ≤ k → flag ≡ true → IsSentBefore rows k e next flag
     → (m : ℕ) → NamesFor rows e m ↔ (next ≡ Some m)
@@ -224,7 +222,7 @@ sent_to_it rows k e next flag all is sent m = (there, back)
         let found = sent.some is in
         let lt : found.0 < k = omega (arith, slice_get_within rows found.0 found.1 found.2, all) in
         let to = sent.same found.0 found.1 lt found.2 found.3 in
-        (found.0, found.1, found.2, found.3, some_one found.1.next m (sym to ∙ some))
+        (found.0, found.1, found.2, found.3, same_Some found.1.next m (sym to ∙ some))
 
 not_some : {A : Type 0} (o : Option A) (x : A) → o ≡ None → o ≡ Some x → ⊥
 not_some o x none some = cc (none, some)

@@ -14,7 +14,7 @@ use Rattle.net_tables.specs.Routing.{Covers, NamesFor, rows_of, node_at}
 use Rattle.net_rules.specs.declared.move_error.MoveError.TheVariants as error
 use Rattle.net_rules.specs.declared.move_obstacle.MoveObstacle.{MoveObstacle}
 use Rattle.net_rules.specs.declared.move_obstacle.MoveObstacle.TheVariants as obstacle
-use Rattle.net_rules.specs.MoveObstacles.{DifferInRows, HasNoMoveCertificate, IsExactForMove, NamesMoveObstacle}
+use Rattle.net_rules.specs.MoveObstacles.{DifferInRowsAlone, HasNoMoveCertificate, IsExactForMove, NamesMoveObstacle}
 use Rattle.net_plan.specs.NodeValues.{but_rows}
 use Rattle.net_rules.specs.MoveRules.{AcceptsMove}
 use Rattle.net_rules.specs.Rules.{Accepts}
@@ -55,7 +55,7 @@ AreTold new parts = (i : ℕ) (part : Part) → slice_get parts i ≡ Some part 
 -- The rows of these nodes become those that they have in the new plan, and nothing else changes. Just these nodes
 -- change, and they ascend.
 pub record IsSwitched (before new : Plan) (nodes : List ℕ) (after : Plan) : Type 0 where
-  pub rows_alone : DifferInRows before after
+  pub rows_alone : DifferInRowsAlone before after
   pub named : (n : ℕ) → Contains nodes n ↔ (row_values after n ≢ row_values before n)
   pub taken : (n : ℕ) → Contains nodes n → row_values after n ≡ row_values new n
   pub ascend : AllPairs (λ n m. n < m) nodes
@@ -63,7 +63,7 @@ pub record IsSwitched (before new : Plan) (nodes : List ℕ) (after : Plan) : Ty
 -- For just the EIDs of the parts the nodes send as the new plan's rows do, and for the others as before. Nothing else
 -- changes. The new rows send each EID of a part to the node that the part tells, if any.
 pub record TakesParts (before new : Plan) (parts : List Part) (after : Plan) : Type 0 where
-  pub rows_alone : DifferInRows before after
+  pub rows_alone : DifferInRowsAlone before after
   pub taken : (n e port m : ℕ) → IsTaken parts n e
       → SendsBy (rows_of after n) e port m ↔ SendsBy (rows_of new n) e port m
   pub kept : (n e port m : ℕ) → ¬ IsTaken parts n e
@@ -111,7 +111,7 @@ IsDifference _ = ⊥
 
 -- one of the plans has no certificate, or they differ in more than rows
 abbrev pub IsUnfit : Plan → Plan → Type 0
-IsUnfit before after = ¬ DifferInRows before after ⊎ (¬ HasCertificate before ⊎ ¬ HasCertificate after)
+IsUnfit before after = ¬ DifferInRowsAlone before after ⊎ (¬ HasCertificate before ⊎ ¬ HasCertificate after)
 
 -- What is answered holds of the plans.
 abbrev pub IsRollout : Plan → Plan → Rollout → Type 0
@@ -151,7 +151,7 @@ IsTold new (change.Parts parts) = AreTold new parts.items
 
 -- The plan that the change leads to.
 pub record GoAs (before new : Plan) (change : Change) (after : Plan) : Type 0 where
-  pub rows_alone : DifferInRows before after
+  pub rows_alone : DifferInRowsAlone before after
   pub rows : (n : ℕ) → GoesAs before new change n (rows_of after n)
   pub told : IsTold new change
 

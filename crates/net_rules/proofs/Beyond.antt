@@ -2,7 +2,7 @@
 use Rattle.std.proofs.Common.{◌≡◌, ℕ, ◌≤◌, length, List, [], Option, Some, None, refl, arith}
 use Rattle.std.specs.Prelude.{slice_get}
 use Rattle.std.proofs.lemmas.Option.{slice_get_past}
-use Rattle.mctp_transport.specs.Frames.{IsAssignable}
+use Rattle.mctp_transport.specs.PacketValues.{IsAssignable}
 use Rattle.net_rules.specs.declared.rule.Rule.{Rule}
 use Rattle.net_rules.specs.declared.rule.Rule.TheVariants.{C01, C02, C03, C04, C05, C06, C07, C08, C09, C10, C11, C12, C13, C14, C15, C16}
 use Rattle.net_plan.specs.declared.plan.Plan.{Plan}
@@ -25,13 +25,13 @@ use Rattle.net_tables.specs.Rows.{IsInRange, IsApartFromEarlier, NamesNeighbor}
 use Rattle.net_tables.specs.Ranks.{Falls}
 use Rattle.net_rules.specs.Rules.{AtNode, AtItsEid, AtNodeOrEid, AtItem, AtNodeOrItem, AtRowEid, AtItemOrEid, PlanDemands, CertificateDemands, Demands}
 
-no_row : (plan : Plan) (n r : ℕ) (row : Row) → length plan.nodes.items ≤ n → slice_get (rows_of plan n) r ≡ Some row → ⊥
+pub no_row : (plan : Plan) (n r : ℕ) (row : Row) → length plan.nodes.items ≤ n → slice_get (rows_of plan n) r ≡ Some row → ⊥
 no_row plan n r row past = rw (slice_get_past plan.nodes.items n past) (λ is. cc)
 
 no_holder : (plan : Plan) (n e : ℕ) → length plan.nodes.items ≤ n → Holds plan n e → ⊥
 no_holder plan n e past = rw (slice_get_past plan.nodes.items n past) (λ is. cc)
 
-no_name : (plan : Plan) (n : ℕ) (name : List ℕ) → length plan.nodes.items ≤ n → name_of plan n ≡ Some name → ⊥
+pub no_name : (plan : Plan) (n : ℕ) (name : List ℕ) → length plan.nodes.items ≤ n → name_of plan n ≡ Some name → ⊥
 no_name plan n name past = rw (slice_get_past plan.nodes.items n past) (λ is. cc)
 
 new_name : (plan : Plan) (n : ℕ) → length plan.nodes.items ≤ n → HasNewName plan n
@@ -78,7 +78,7 @@ at_row_eid plan n P (Some r) None past = tt
 at_row_eid plan n P (Some r) (Some e) past = λ row is. absurd (no_row plan n r row past is)
 
 -- a node beyond the plan has nothing
-no_rows : (plan : Plan) (n : ℕ) → length plan.nodes.items ≤ n → rows_of plan n ≡ []
+pub no_rows : (plan : Plan) (n : ℕ) → length plan.nodes.items ≤ n → rows_of plan n ≡ []
 no_rows plan n past = rw (slice_get_past plan.nodes.items n past) refl
 
 no_terminus : (plan : Plan) (n : ℕ) → length plan.nodes.items ≤ n → terminus_of plan n ≡ None

@@ -1,14 +1,14 @@
 -- Exact ranks fall with each move, and none do round a loop.
 use Rattle.std.proofs.Common.{◌≡◌, ℕ, List, Some, None, refl, arith}
 use Rattle.std.specs.Prelude.{slice_get}
-use Rattle.net_rules.specs.declared.rule.Rule.TheVariants.{C04, C05, C10}
+use Rattle.net_rules.specs.declared.rule.Rule.TheVariants.{C05, C10}
 use Rattle.net_plan.specs.declared.plan.Plan.{Plan}
 use Rattle.net_plan.specs.declared.nodes.Row.{Row}
 use Rattle.net_plan.specs.declared.certificate.Certificate.{Certificate}
 use Rattle.net_tables.specs.Routing.{rows_of, Covers, MovesTo}
 use Rattle.net_tables.specs.Ranks.{rank, Falls}
 use Rattle.net_rules.specs.PlanFaults.{PlanMeetsAll}
-use Rattle.net_tables.specs.Rows.{RowsAreApart, RowsAreInRange}
+use Rattle.net_tables.specs.Rows.{RowsAreApart}
 use Rattle.net_rules.specs.RoutingLoops.{IsFirstRoutingLoop}
 use Rattle.net_rules.specs.Rules.{RuleHolds}
 use Rattle.net_rules.specs.Certificates.{AreExactRanks}
@@ -18,9 +18,6 @@ use Rattle.net_rules.proofs.EidMoves.{moves_only, ends_from_rank}
 
 pub rows_apart : (plan : Plan) → PlanMeetsAll plan → RowsAreApart plan
 rows_apart plan met n r = met C05 n (Some r) None
-
-pub rows_in_range : (plan : Plan) → PlanMeetsAll plan → RowsAreInRange plan
-rows_in_range plan met n r = met C04 n (Some r) None
 
 -- exact ranks fall along the rows
 pub exact_falls : (plan : Plan) (cert : Certificate) → RowsAreApart plan → AreExactRanks plan cert.ranks.items → (n r e : ℕ) (row : Row)

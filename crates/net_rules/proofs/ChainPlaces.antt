@@ -1,18 +1,17 @@
 -- Places given from the end of a chain on.
 use Rattle.std.proofs.Common.{◌≡◌, ◌≢◌, ℕ, zero, suc, ◌+◌, ◌-◌, ◌<◌, List, [], ◌∷◌, ◌++◌, length, map, Option, Some, None, sym, ◌∙◌, ap, refl, arith, subst, inl, inr, slice_set, replicate, MatchOption, IsTrue, ◌↔◌, nat_eq}
 use Rattle.std.specs.Prelude.{slice_get, option_map, is_some}
-use Rattle.std.specs.Ordering.{nat_cmp}
-use Rattle.std.specs.BTreeMap.{BTreeMap, get}
 use Rattle.std.proofs.lemmas.Bool.{cases_lt, cases_order, eqb-true, eq-eqb, false≢true}
 use Rattle.std.proofs.lemmas.Option.{same_Some, none-some, slice_get-map, slice_get_within}
 use Rattle.std.proofs.lemmas.List.{length-map, length-set, length_push}
 use Rattle.net_plan.specs.declared.terminus.PlannedRecord.{PlannedRecord}
 use Rattle.net_plan.specs.declared.certificate.RecordPlace.{RecordPlace}
+use Rattle.net_rules.specs.declared.certifying.handle_index.HandleIndex.{HandleIndex}
 use Rattle.net_rules.specs.Moves.{IsEnd}
 use Rattle.net_tables.specs.Routing.{OfItem}
 use Rattle.net_rules.specs.Circles.{EndsAfter, IsLeastOnCircle}
 use Rattle.net_tables.specs.Repositories.{IsChained}
-use Rattle.net_rules.specs.RecordChains.{HasNext, HasNewNext, IsFollowedBy, ArePlaces, IsIndexOf, IsFirstIndexOf, AreLinked, AreFromTheEnd}
+use Rattle.net_rules.specs.RecordChains.{HasNext, HasNewNext, IsFollowedBy, ArePlaces, found_in, IsIndexOf, IsFirstIndexOf, AreLinked, AreFromTheEnd}
 use Rattle.net_rules.proofs.Circling.{one_less, circle_never_ends, ends_once, spot, spot_parts}
 use Rattle.net_tables.proofs.Elements.{element, in_set, in_push}
 use Rattle.net_rules.proofs.Lines.{lands_within}
@@ -201,21 +200,21 @@ module _ (f : PlannedRecord → ℕ) (records : List PlannedRecord) where
   unmapped : (k : ℕ) (r : PlannedRecord) → slice_get records k ≡ Some r → slice_get (map f records) k ≡ Some (f r)
   unmapped k r is = slice_get-map f records k ∙ ap (λ (o : Option PlannedRecord). option_map f o) is
 
-  module _ (index : BTreeMap ℕ ℕ) (indexed : IsIndexOf (map f records) index) (key : ℕ) where
-    pub index_some : (k : ℕ) → get nat_cmp index key ≡ Some k → (r : PlannedRecord) × (slice_get records k ≡ Some r) × (f r ≡ key) × ((i : ℕ) (other : PlannedRecord) → i < k → slice_get records i ≡ Some other → f other ≢ key)
+  module _ (index : HandleIndex) (indexed : IsIndexOf (map f records) index) (key : ℕ) where
+    pub index_some : (k : ℕ) → found_in index key ≡ Some k → (r : PlannedRecord) × (slice_get records k ≡ Some r) × (f r ≡ key) × ((i : ℕ) (other : PlannedRecord) → i < k → slice_get records i ≡ Some other → f other ≢ key)
     index_some k found =
         let P : Option ℕ → Type 0 = λ o. MatchOption o ((i : ℕ) → slice_get (map f records) i ≢ Some key) (IsFirstIndexOf (map f records) key) in
         let first = subst P found (indexed key) in
         let r = mapped k key first.0 in
         (r.0, r.1, r.2, λ i other less is same. first.1 i less (unmapped i other is ∙ ap Some same))
 
-    pub index_none : get nat_cmp index key ≡ None → (i : ℕ) (other : PlannedRecord) → slice_get records i ≡ Some other → f other ≢ key
+    pub index_none : found_in index key ≡ None → (i : ℕ) (other : PlannedRecord) → slice_get records i ≡ Some other → f other ≢ key
     index_none found i other is same =
         let P : Option ℕ → Type 0 = λ o. MatchOption o ((i : ℕ) → slice_get (map f records) i ≢ Some key) (IsFirstIndexOf (map f records) key) in
         subst P found (indexed key) i (unmapped i other is ∙ ap Some same)
 
-pub has_next_tells : (records : List PlannedRecord) (j : ℕ) (r : PlannedRecord) (index : BTreeMap ℕ ℕ) → slice_get records j ≡ Some r → IsIndexOf (map (λ (x : PlannedRecord). x.handle) records) index → r.next ≢ 0
-    → (o : Option ℕ) → o ≡ get nat_cmp index r.next → IsTrue (is_some o) ↔ OfItem records j (HasNext records)
+pub has_next_tells : (records : List PlannedRecord) (j : ℕ) (r : PlannedRecord) (index : HandleIndex) → slice_get records j ≡ Some r → IsIndexOf (map (λ (x : PlannedRecord). x.handle) records) index → r.next ≢ 0
+    → (o : Option ℕ) → o ≡ found_in index r.next → IsTrue (is_some o) ↔ OfItem records j (HasNext records)
 has_next_tells records j r index is indexed some None found = (
   λ e. absurd (false≢true e),
   λ has. absurd (elim (has r is) [
@@ -227,8 +226,8 @@ has_next_tells records j r index is indexed some (Some k) found =
     let named = index_some (λ (x : PlannedRecord). x.handle) records index indexed r.next k (sym found) in
     (λ _ item is'. inr (k, named.0, named.1, next_same records j item r is' is ∙ sym named.2), λ _. refl)
 
-pub first_next_tells : (records : List PlannedRecord) (j : ℕ) (r : PlannedRecord) (index : BTreeMap ℕ ℕ) → slice_get records j ≡ Some r → IsIndexOf (map (λ (x : PlannedRecord). x.next) records) index
-    → (first : ℕ) → Some first ≡ get nat_cmp index r.next → IsTrue (nat_eq first j) ↔ OfItem records j (HasNewNext records j)
+pub first_next_tells : (records : List PlannedRecord) (j : ℕ) (r : PlannedRecord) (index : HandleIndex) → slice_get records j ≡ Some r → IsIndexOf (map (λ (x : PlannedRecord). x.next) records) index
+    → (first : ℕ) → Some first ≡ found_in index r.next → IsTrue (nat_eq first j) ↔ OfItem records j (HasNewNext records j)
 first_next_tells records j r index is indexed first found =
     let named = index_some (λ (x : PlannedRecord). x.next) records index indexed r.next first (sym found) in (
       λ e item is' i other less at same.
@@ -241,5 +240,5 @@ first_next_tells records j r index is indexed first found =
       ],
     )
 
-pub no_next_is_none : (records : List PlannedRecord) (j : ℕ) (r : PlannedRecord) (index : BTreeMap ℕ ℕ) → slice_get records j ≡ Some r → IsIndexOf (map (λ (x : PlannedRecord). x.next) records) index → None ≡ get nat_cmp index r.next → ⊥
+pub no_next_is_none : (records : List PlannedRecord) (j : ℕ) (r : PlannedRecord) (index : HandleIndex) → slice_get records j ≡ Some r → IsIndexOf (map (λ (x : PlannedRecord). x.next) records) index → None ≡ found_in index r.next → ⊥
 no_next_is_none records j r index is indexed found = index_none (λ (x : PlannedRecord). x.next) records index indexed r.next (sym found) j r is refl

@@ -261,12 +261,3 @@ under_way_within table first at places under circle = elim (cases_lt (length tab
       let way = walked_along (MovesBy table) first at places under (get_or places j 0) j there in
       under.once j some lt (there ∙ ap Some (leads_only (MovesBy table) (table_only table) first j (get_or places j 0) first way back))) (omega arith) circle)
 ]
-
-pub starts_alone : (Move : ℕ → ℕ → Type 0) (first : ℕ) → IsUnderWay Move first first (first ∷ [])
-starts_alone Move first = record {
-  some = omega arith;
-  starts = refl;
-  stands = refl;
-  joined = λ i n m here there. absurd (omega (arith, slice_get_within (first ∷ []) (i + 1) m there));
-  once = λ i some lt. absurd (omega arith);
-}

@@ -2,17 +2,17 @@
 use Rattle.std.proofs.Common.{◌≡◌, ℕ, ◌<◌, ◌≤◌, List, length, Option, Some, None, refl, sym, ◌∙◌, arith, ◌⊎◌, inl, inr, subst, ap, get_or, IfOk, Ok, Err, Result}
 use Rattle.std.specs.Prelude.{slice_get}
 use Rattle.std.proofs.lemmas.Bool.{cases_lt}
-use Rattle.std.proofs.lemmas.Option.{slice_get_past, slice_get-get_or, option_and_then_some}
+use Rattle.std.proofs.lemmas.Option.{slice_get-get_or, option_and_then_some}
 use Rattle.std.specs.declared.alloc.AllocError.{AllocError}
 use Rattle.net_rules.specs.declared.certifying.walks.Walked.{Walked}
 use Rattle.net_plan.specs.declared.plan.Plan.{Plan}
-use Rattle.net_plan.specs.declared.nodes.Row.{Row}
 use Rattle.net_tables.specs.Routing.{MovesTo, rows_of, NamesFor}
 use Rattle.net_tables.specs.Rows.{IsInRange, RowsAreApart, RowsAreInRange}
 use Rattle.net_rules.specs.Moves.{IsEnd}
 use Rattle.net_rules.specs.Circles.{MovesBy, EndsAfter, HasNoCircle, IsWalked}
 use Rattle.net_rules.specs.Promises.{WayEnds}
 use Rattle.net_rules.specs.RoutingLoops.{IsRank, AreNexts}
+use Rattle.net_rules.proofs.Beyond.{no_row}
 use Rattle.net_rules.proofs.Circling.{ends_once}
 use Rattle.net_rules.proofs.SameMoves.{IsWalked-same}
 use Rattle.net_rules.proofs.Ends.{moves_or_ends}
@@ -45,13 +45,10 @@ rank_only plan n e k l apart one other =
 
 -- ---- only nodes of the plan have rows, and only EIDs that can be held are covered
 
-no_rows : (plan : Plan) (n r : ℕ) (row : Row) → length plan.nodes.items ≤ n → slice_get (rows_of plan n) r ≡ Some row → ⊥
-no_rows plan n r row past = rw (slice_get_past plan.nodes.items n past) (λ is. cc)
-
 pub moves_within : (plan : Plan) (e n m : ℕ) → MovesTo plan e n m → n < length plan.nodes.items
 moves_within plan e n m move = elim (cases_lt n (length plan.nodes.items)) [
   | inl lt ↦ lt
-  | inr past ↦ absurd (no_rows plan n move.1.0 move.1.1 past move.1.2)
+  | inr past ↦ absurd (no_row plan n move.1.0 move.1.1 past move.1.2)
 ]
 
 pub moved_in_range : (plan : Plan) (e n m : ℕ) → RowsAreInRange plan → MovesTo plan e n m → (8 ≤ e) × (e < 255)

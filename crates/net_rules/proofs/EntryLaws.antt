@@ -1,5 +1,5 @@
 -- What is said of one item of a list.
-use Rattle.std.proofs.Common.{◌≡◌, ◌≢◌, ℕ, zero, suc, ◌+◌, ◌<◌, ◌≤◌, List, [], ◌∷◌, length, get_or, Some, None, refl, sym, ◌∙◌, subst, arith, ◌⊎◌}
+use Rattle.std.proofs.Common.{◌≡◌, ◌≢◌, ℕ, ◌+◌, ◌<◌, ◌≤◌, List, length, get_or, Some, None, refl, sym, ◌∙◌, subst, arith, ◌⊎◌}
 use Rattle.std.specs.Prelude.{slice_get}
 use Rattle.std.proofs.lemmas.Option.{same_Some, slice_get_read, slice_get_within}
 use Rattle.net_plan.specs.declared.terminus.PlannedRecord as listed
@@ -37,9 +37,3 @@ place_of_chained records places j place r given chained =
 
 pub unchained : (records : List listed.PlannedRecord) (places : List ℕ) (j : ℕ) (r : listed.PlannedRecord) → slice_get places j ≡ None → ¬ IsChained records places j r
 unchained records places j r none chained = let given = chained.given in cc
-
--- there is an item at each index of the list
-pub any_item : {A : Type 0} (items : List A) (i : ℕ) → i < length items → (item : A) × (slice_get items i ≡ Some item)
-any_item [] i within = absurd (omega (arith, within))
-any_item (x ∷ xs) zero within = (x, refl)
-any_item (x ∷ xs) (suc i) within = any_item xs i (omega (arith, within))

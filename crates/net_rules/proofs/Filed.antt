@@ -1,24 +1,15 @@
 -- Handles in the order of the places, one record after another.
-use Rattle.std.proofs.Common.{◌≡◌, ◌≢◌, ◌⊎◌, ℕ, ◌+◌, ◌<◌, ◌≤◌, List, length, Option, Some, None, sym, ◌∙◌, ap, subst, inl, inr, arith, slice_set, replicate}
+use Rattle.std.proofs.Common.{◌≡◌, ◌≢◌, ◌⊎◌, ℕ, ◌+◌, ◌<◌, ◌≤◌, List, length, Option, Some, None, sym, ◌∙◌, ap, subst, inl, inr, arith, slice_set}
 use Rattle.std.specs.Prelude.{slice_get}
 use Rattle.std.proofs.lemmas.Bool.{cases_lt}
 use Rattle.std.proofs.lemmas.Option.{same_Some, none-some, slice_get_within}
-use Rattle.std.proofs.lemmas.List.{length-set, length-replicate}
+use Rattle.std.proofs.lemmas.List.{length-set}
 use Rattle.net_plan.specs.declared.terminus.PlannedRecord.{PlannedRecord}
 use Rattle.net_tables.specs.Repositories.{IsChained}
 use Rattle.net_rules.specs.Handles.{AreFiled}
-use Rattle.net_rules.proofs.ChainPlaces.{none_placed}
 use Rattle.net_tables.proofs.Elements.{in_set}
 
 module _ (records : List PlannedRecord) (places : List ℕ) where
-  pub none_filed : AreFiled records places 0 (replicate (length records) None)
-  none_filed = record {
-    long = length-replicate (length records) (let none : Option ℕ = None in none);
-    own = λ j lt. absurd (omega arith);
-    taken = λ j place lt is. absurd (omega arith);
-    found = λ place handle is. absurd (none-some handle (sym (none_placed (length records) place (Some handle) is)));
-  }
-
   -- the next record has a place that is free
   module _ (count : ℕ) (handles : List (Option ℕ)) (filed : AreFiled records places count handles) (r : PlannedRecord) (is : slice_get records count ≡ Some r) where
     module _ (place : ℕ) (given : slice_get places count ≡ Some place) (free : slice_get handles place ≡ Some None) where

@@ -21,9 +21,6 @@ use Rattle.net_rules.specs.Handles.{by_place_and_handle, pairs}
 abbrev pub HasBefore : List ℕ → ℕ → BTreeSet ℕ → Type 0
 HasBefore xs j set = (x : ℕ) → IsTrue (contains nat_cmp set x) ↔ ((i : ℕ) × (i < j) × (slice_get xs i ≡ Some x))
 
-pub has_none : (xs : List ℕ) (set : BTreeSet ℕ) → set.keys ≡ [] → HasBefore xs 0 set
-has_none xs set empty x = (λ h. absurd (let here : false ≡ true = rw empty at h in cc), λ (i, less, is). absurd (omega arith))
-
 pub has_one_more : (xs : List ℕ) (j x : ℕ) (old new : BTreeSet ℕ) → slice_get xs j ≡ Some x
     → ((q : ℕ) → contains nat_cmp new q ≡ cond (is_at (nat_cmp x) q) true (contains nat_cmp old q)) → HasBefore xs j old → HasBefore xs (j + 1) new
 has_one_more xs j x old new is updates has q = by (is_at (nat_cmp x) q) refl (updates q)

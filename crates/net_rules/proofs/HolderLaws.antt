@@ -10,8 +10,7 @@ use Rattle.net_rules.specs.declared.holders.Holder.{Holder}
 use Rattle.net_tables.specs.Routing.{Holds}
 use Rattle.net_rules.specs.Following.{EndedBy}
 use Rattle.net_rules.specs.Holders.{IsFirstHolder, HoldersAscend, AreFirstHolders}
-use Rattle.net_tables.proofs.Elements.{element}
-use Rattle.net_rules.proofs.StretchLaws.{held_within}
+use Rattle.net_tables.proofs.Elements.{element, holder_within}
 
 -- ---- a list with an element more
 module _ {X : Type 0} (xs : List X) (at : ℕ) (x : X) (within : at ≤ length xs) where
@@ -98,7 +97,7 @@ module _ (plan : Plan) (holders : List Holder) (are : AreFirstHolders plan (leng
 
   pub first_none : ¬ StandsAt holders at e → IsFirstHolder plan e None
   first_none not n holds =
-      let (k, h, is, same) = are.all n e (held_within plan n e holds) holds in
+      let (k, h, is, same) = are.all n e (holder_within plan n e holds) holds in
       no_other holders at e not h (stands_there holders are.ascend e at by k h is same) same
 
 -- ---- and with one node more

@@ -1,21 +1,17 @@
 -- The first places of keys, as far as they were looked at.
-use Rattle.std.proofs.Common.{◌≡◌, ◌≢◌, ℕ, ◌+◌, ◌<◌, ◌≤◌, List, length, Option, Some, None, sym, ◌∙◌, ap, refl, arith, subst, inl, inr, MatchOption, Bool, true, false, not}
+use Rattle.std.proofs.Common.{◌≡◌, ◌≢◌, ℕ, ◌+◌, ◌<◌, ◌≤◌, List, length, Option, Some, None, sym, ◌∙◌, ap, refl, arith, subst, inl, inr, MatchOption, Bool, true, not}
 use Rattle.std.specs.Prelude.{slice_get, is_some}
-use Rattle.std.specs.Ordering.{nat_cmp, is_eq}
-use Rattle.std.specs.declared.cmp.Ordering.{Ordering}
-use Rattle.std.specs.declared.cmp.Ordering.TheVariants.{Less, Equal, Greater}
-use Rattle.std.proofs.lemmas.Map.Lookups.{exact_unsigned}
-use Rattle.std.specs.BTreeMap.{BTreeMap, get, Updates, is_at}
 use Rattle.std.proofs.lemmas.Bool.{cases_lt, cases_eq, true≢false}
 use Rattle.std.proofs.lemmas.Option.{same_Some, slice_get_within}
-use Rattle.net_rules.specs.RecordChains.{IsFirstIndexOf, IsIndexOf}
+use Rattle.net_rules.specs.declared.certifying.handle_index.HandleIndex.{HandleIndex}
+use Rattle.net_rules.specs.RecordChains.{IsFirstIndexOf, IsIndexOf, found_in}
 
 -- what the index says of a key, after so many of them
 abbrev pub SaysBelow : List ℕ → ℕ → ℕ → Option ℕ → Type 0
 SaysBelow keys count key place = MatchOption place ((i : ℕ) → i < count → slice_get keys i ≢ Some key) (λ p. (p < count) × IsFirstIndexOf keys key p)
 
-abbrev pub IsIndexBelow : List ℕ → ℕ → BTreeMap ℕ ℕ → Type 0
-IsIndexBelow keys count index = (key : ℕ) → SaysBelow keys count key (get nat_cmp index key)
+abbrev pub IsIndexBelow : List ℕ → ℕ → HandleIndex → Type 0
+IsIndexBelow keys count index = (key : ℕ) → SaysBelow keys count key (found_in index key)
 
 module _ (keys : List ℕ) (count key : ℕ) where
   -- a place that is known stays
@@ -33,40 +29,33 @@ module _ (keys : List ℕ) (count key : ℕ) where
   says_new : slice_get keys count ≡ Some key → SaysBelow keys count key None → SaysBelow keys (count + 1) key (Some count)
   says_new here none = (omega arith, (here, λ i less. none i less))
 
-other_key : (k q : ℕ) → k ≢ q → is_at (nat_cmp k) q ≡ false
-other_key k q other = by (nat_cmp k q) refl
-  where
-    by : (o : Ordering) → nat_cmp k q ≡ o → is_eq o ≡ false
-    by Less e = refl
-    by Equal e = absurd (other (exact_unsigned k q e))
-    by Greater e = refl
-
 pub is_none_tells : (o : Option ℕ) (b : Bool) → is_some o ≡ not b → b ≡ true → o ≡ None
 is_none_tells None b agree is = refl
 is_none_tells (Some x) b agree is = absurd (true≢false (agree ∙ ap not is))
 
-module _ (keys : List ℕ) (count key : ℕ) (index : BTreeMap ℕ ℕ) (below : IsIndexBelow keys count index) (here : slice_get keys count ≡ Some key) where
+module _ (keys : List ℕ) (count key : ℕ) (index : HandleIndex) (below : IsIndexBelow keys count index) (here : slice_get keys count ≡ Some key) where
   -- the key had no place
-  pub index_new : (new : BTreeMap ℕ ℕ) → get nat_cmp index key ≡ None → Updates nat_cmp index new key (Some count) → IsIndexBelow keys (count + 1) new
-  index_new new none updates q = elim (cases_eq key q) [
+  pub index_new : (new : HandleIndex) → found_in index key ≡ None → found_in new key ≡ Some count → ((other : ℕ) → key ≢ other → found_in new other ≡ found_in index other)
+      → IsIndexBelow keys (count + 1) new
+  index_new new none this others q = elim (cases_eq key q) [
     | inl same ↦ (
         let P : Option ℕ → Type 0 = λ o. SaysBelow keys count key o in
         let Q : Option ℕ → Type 0 = λ o. SaysBelow keys (count + 1) key o in
-        let R : ℕ → Type 0 = λ k. SaysBelow keys (count + 1) k (get nat_cmp new k) in
-        subst R same (subst Q (sym updates.1) (says_new keys count key here (subst P none (below key)))))
+        let R : ℕ → Type 0 = λ k. SaysBelow keys (count + 1) k (found_in new k) in
+        subst R same (subst Q (sym this) (says_new keys count key here (subst P none (below key)))))
     | inr other ↦ (
         let Q : Option ℕ → Type 0 = λ o. SaysBelow keys (count + 1) q o in
-        subst Q (sym (updates.2 q (other_key key q other))) (says_kept keys count q (get nat_cmp index q) (λ is. other (same_Some key q (sym here ∙ is))) (below q)))
+        subst Q (sym (others q other)) (says_kept keys count q (found_in index q) (λ is. other (same_Some key q (sym here ∙ is))) (below q)))
   ]
 
   -- the key had one
-  pub index_kept : get nat_cmp index key ≢ None → IsIndexBelow keys (count + 1) index
+  pub index_kept : found_in index key ≢ None → IsIndexBelow keys (count + 1) index
   index_kept had q = elim (cases_eq key q) [
-    | inl same ↦ (let R : ℕ → Type 0 = λ k. SaysBelow keys (count + 1) k (get nat_cmp index k) in subst R same (by (get nat_cmp index key) refl))
-    | inr other ↦ says_kept keys count q (get nat_cmp index q) (λ is. other (same_Some key q (sym here ∙ is))) (below q)
+    | inl same ↦ (let R : ℕ → Type 0 = λ k. SaysBelow keys (count + 1) k (found_in index k) in subst R same (by (found_in index key) refl))
+    | inr other ↦ says_kept keys count q (found_in index q) (λ is. other (same_Some key q (sym here ∙ is))) (below q)
   ]
     where
-      by : (o : Option ℕ) → get nat_cmp index key ≡ o → SaysBelow keys (count + 1) key (get nat_cmp index key)
+      by : (o : Option ℕ) → found_in index key ≡ o → SaysBelow keys (count + 1) key (found_in index key)
       by None e = absurd (had e)
       by (Some p) e =
           let P : Option ℕ → Type 0 = λ o. SaysBelow keys count key o in
@@ -77,5 +66,5 @@ says_all : (keys : List ℕ) (count key : ℕ) (o : Option ℕ) → length keys 
 says_all keys count key None long none = λ i is. none i (omega (arith, slice_get_within keys i key is)) is
 says_all keys count key (Some p) long h = h.1
 
-pub index_done : (keys : List ℕ) (count : ℕ) (index : BTreeMap ℕ ℕ) → length keys ≤ count → IsIndexBelow keys count index → IsIndexOf keys index
-index_done keys count index long below key = says_all keys count key (get nat_cmp index key) long (below key)
+pub index_done : (keys : List ℕ) (count : ℕ) (index : HandleIndex) → length keys ≤ count → IsIndexBelow keys count index → IsIndexOf keys index
+index_done keys count index long below key = says_all keys count key (found_in index key) long (below key)

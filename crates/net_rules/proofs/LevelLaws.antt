@@ -3,7 +3,7 @@ use Rattle.std.proofs.Common.{◌≡◌, ℕ, zero, suc, ◌<◌, List, [], ◌�
 use Rattle.std.specs.declared.alloc.AllocError.{AllocError}
 use Rattle.std.specs.Prelude.{slice_get, option_map, option_and_then, All}
 use Rattle.std.specs.List.{list_all}
-use Rattle.std.proofs.lemmas.Option.{same_Some, none-some, slice_get-map, slice_get-get_or, slice_get_within, option_and_then_some}
+use Rattle.std.proofs.lemmas.Option.{same_Some, none-some, slice_get-map, slice_get-get_or, slice_get_within}
 use Rattle.std.proofs.lemmas.List.{length-map}
 use Rattle.net_plan.specs.declared.plan.Plan.{Plan}
 use Rattle.net_plan.specs.declared.nodes.Node.{Node}
@@ -68,9 +68,6 @@ placed_owner : (buses count : ℕ) (nodes : List Node) (n owner : ℕ) → list_
 placed_owner buses count [] n owner all owned = absurd (none-some owner owned)
 placed_owner buses count (node ∷ nodes) zero owner all owned = grind (arith, owned, all)
 placed_owner buses count (node ∷ nodes) (suc n) owner all owned = placed_owner buses count nodes n owner (grind (arith, all)) owned
-
-owned_within : (plan : Plan) (n owner : ℕ) → IsOwnedBy plan n owner → n < length plan.nodes.items
-owned_within plan n owner owned = option_and_then_some (λ (node : Node). node.owner) (slice_get plan.nodes.items n) owner owned (λ node is _. slice_get_within plan.nodes.items n node is)
 
 pub owner_within : (plan : Plan) (n owner : ℕ) → IsOwnedBy plan n owner → owner < length plan.nodes.items
 owner_within plan n owner owned =

@@ -1,22 +1,23 @@
 mod Spots
-pub mod SharedBuses
+mod SharedBuses
 mod OtherSpots
 pub mod OtherSearches
 mod StretchLaws
 mod CoveredLaws
 mod FollowingLaws
+mod RanksByEid
 mod HolderLaws
 mod RecordSpots
 mod Handles
 mod Filed
 mod NewHandles
 pub mod Beyond
-mod RuleOrder
+pub mod RuleOrder
 mod FaultRuns
 mod LocatorLaws
 mod EntryLaws
 mod MoveSearches
-mod MoveOrder
+pub mod MoveOrder
 pub mod Ends
 pub mod Pigeons
 pub mod Circling
@@ -24,7 +25,7 @@ pub mod KnownEnds
 pub mod SameMoves
 pub mod Lines
 pub mod LevelLaws
-mod IndexLaws
+pub mod IndexLaws
 pub mod ChainLaws
 mod ChainPlaces
 pub mod EidMoves

@@ -19,6 +19,7 @@ use Rattle.net_rules.specs.Certificates.{AreLevelsBefore, AreExactLevels, ArePla
 use Rattle.net_rules.proofs.Beyond.{no_owner, no_records}
 use Rattle.net_tables.proofs.Elements.{in_push, element}
 use Rattle.net_rules.proofs.Filters.{find_cases}
+use Rattle.net_rules.proofs.OneOrder.{places_in}
 
 module _ {X : Type 0} (key : X → ℕ) where
   abbrev found_at : List X → ℕ → Option X
@@ -147,9 +148,6 @@ no_places plan = record {
   within = λ i one is. absurd (none-some one is);
   ascend = λ i j one other less is. absurd (none-some one is);
 }
-
-places_in : Option NodePlaces → List ℕ
-places_in o = unwrap_or (option_map (λ (x : NodePlaces). map (λ (p : RecordPlace). p.value) x.places.items) o) []
 
 pub places_pushed : (plan : Plan) (n : ℕ) (given : List NodePlaces) (one : NodePlaces) → ArePlacesBefore plan n given → one.node ≡ n → ArePlaces (records_of plan n) (map (λ p. p.value) one.places.items)
     → 0 < length (records_of plan n) → ArePlacesBefore plan (n + 1) (given ++ one ∷ [])

@@ -1,7 +1,7 @@
 -- Marks of places, and the first loop by two tables.
 use Rattle.std.proofs.Common.{◌≡◌, ℕ, zero, suc, ◌+◌, ◌-◌, ◌<◌, ◌≤◌, List, [], ◌∷◌, ◌++◌, length, Option, Some, None, Bool, true, false, ◌||◌, refl, sym, ◌∙◌, ap, subst, arith, inl, inr, unwrap_or, add-one, Vec}
-use Rattle.std.specs.Prelude.{slice_get, ◌==◌}
-use Rattle.std.proofs.lemmas.Bool.{cases_lt, false≢true, eqb-true, eq-eqb, or_cases, or_left}
+use Rattle.std.specs.Prelude.{slice_get}
+use Rattle.std.proofs.lemmas.Bool.{cases_lt, false≢true, or_cases, or_left}
 use Rattle.std.proofs.Math.Bool.{or-true}
 use Rattle.std.proofs.lemmas.List.{length_push}
 use Rattle.std.proofs.lemmas.Option.{slice_get_past, slice_get_within, same_Some, none-some}
@@ -45,12 +45,6 @@ tested_mark test count marks are n lt =
 
 tested_within : (test : ℕ → Bool) (count : ℕ) (marks : List Bool) → AreTested test count marks → (n : ℕ) → is_marked marks n ≡ true → n < count
 tested_within test count marks are n mark = omega (arith, mark_within marks n mark, are.0)
-
-pub one_is_marked : (place count : ℕ) (marks : List Bool) → place < count → AreTested (λ n. n == place) count marks → AreMarked (λ n. n ≡ place) marks
-one_is_marked place count marks lt are n = (
-  λ mark. eqb-true n place (sym (tested_mark (λ i. i == place) count marks are n (tested_within (λ i. i == place) count marks are n mark)) ∙ mark),
-  λ is. tested_mark (λ i. i == place) count marks are n (omega (arith, is, lt)) ∙ eq-eqb n place is,
-)
 
 -- ---- one move back
 
@@ -150,23 +144,6 @@ pub record IsOnTheWay (ByOld ByNew : ℕ → ℕ → Type 0) (first total at lef
   pub old_first : (i n m : ℕ) → slice_get nodes i ≡ Some n → slice_get sides i ≡ Some New → ByOld n m → ¬ Leads (EitherOf ByOld ByNew) m (total - (i + 1)) first
 
 module _ (ByOld ByNew : ℕ → ℕ → Type 0) (first total : ℕ) where
-  pub sets_out : Leads (EitherOf ByOld ByNew) first total first → IsOnTheWay ByOld ByNew first total first total (first ∷ []) []
-  sets_out way = record {
-    all = omega arith;
-    long = refl;
-    starts = refl;
-    stands = refl;
-    backs = λ i n is. sets_out_back i n is;
-    joined = λ i n m side here there is. absurd (none-some side is);
-    old_first = λ i n m here is. absurd (none-some New is);
-  }
-    where
-      sets_out_back : (i n : ℕ) → slice_get (first ∷ []) i ≡ Some n → Leads (EitherOf ByOld ByNew) n (total - i) first
-      sets_out_back zero n is =
-          let same : total ≡ total - 0 = omega arith in
-          subst (λ l. Leads (EitherOf ByOld ByNew) n l first) same (subst (λ x. Leads (EitherOf ByOld ByNew) x total first) (same_Some first n is) way)
-      sets_out_back (suc i) n is = absurd (none-some n is)
-
   pub left_over : (at left : ℕ) (nodes : List ℕ) (sides : List Side) → IsOnTheWay ByOld ByNew first total at left nodes sides → Leads (EitherOf ByOld ByNew) at left first
   left_over at left nodes sides on =
       let same : total - length sides ≡ left = omega (arith, on.all) in

@@ -28,9 +28,9 @@ use Rattle.net_rules.specs.PlanFaults.{PlanMeetsAll}
 use Rattle.net_rules.specs.MoveSearch.{IsFirstByRules}
 use Rattle.net_rules.specs.MoveRules.{Requirement, SameFrame, SameNode, Before, After, WayOnBefore, WayOnAfter, Given, DemandsBefore, DemandsAfter, MoveDemands, AcceptsMove}
 use Rattle.net_rules.specs.MoveFaults.{MoveFaultSite, MoveComesBefore, IsMoveMet, IsFirstFaultOf, NamesFirstMoveFault, order_of_requirement, order_of_its_rule, required_before, required_after, required_of_both}
-use Rattle.net_rules.specs.Certificates.{AreExactLevels, AreExactPlaces, AreRanksOf, IsExact, NamesObstacle}
+use Rattle.net_rules.specs.Certificates.{AreExactLevels, AreExactPlaces, AreRanksOf, IsExact}
 use Rattle.net_rules.specs.MoveRanks.{MayMoveTo, IsMoveRank}
-use Rattle.net_rules.specs.MoveObstacles.{IsExactForMove, DifferInRows, RowsMeetBefore, IsSureFaultOf, NamesDifference, NamesSureFault, NamesMoveObstacle, RulesOutMoveCertificates, NamesMixedLoop, obstacle_of_error, obstacle_of_old}
+use Rattle.net_rules.specs.MoveObstacles.{IsExactForMove, DifferInRowsAlone, RowsMeetBefore, IsSureFaultOf, NamesDifference, NamesSureFault, NamesMoveObstacle, RulesOutMoveCertificates, NamesMixedLoop, obstacle_of_error, obstacle_of_old}
 use Rattle.net_rules.proofs.Circling.{no_circle_down}
 use Rattle.net_rules.proofs.RuleOrder.{one_order}
 use Rattle.net_rules.proofs.Ends.{falls_by_rule}
@@ -99,13 +99,6 @@ fault_is (error.New fault) some = refl
 fault_is (error.Both fault) some = refl
 fault_is error.OutOfMemory some = absurd (some refl)
 
-pub old_named : (before after : Plan) (e : CertifyError) → DifferInRows before after → NamesObstacle before e → NamesMoveObstacle before after (obstacle_of_old e)
-old_named before after (alone.Fault fault) frames named = (frames, (λ same. let clash : alone.Fault fault ≡ alone.OutOfMemory = same in cc), named)
-old_named before after (alone.OwnerLoop nodes) frames named = (frames, (λ same. let clash : alone.OwnerLoop nodes ≡ alone.OutOfMemory = same in cc), named)
-old_named before after (alone.Loop eid nodes) frames named = (frames, (λ same. let clash : alone.Loop eid nodes ≡ alone.OutOfMemory = same in cc), named)
-old_named before after (alone.BadChain node fault) frames named = (frames, (λ same. let clash : alone.BadChain node fault ≡ alone.OutOfMemory = same in cc), named)
-old_named before after alone.OutOfMemory frames named = tt
-
 pub difference_named : (before after : Plan) (e : MoveError) → NamesDifference before after e → NamesMoveObstacle before after (obstacle_of_error e)
 difference_named before after (error.Differ n) differs = differs
 difference_named before after (error.Old fault) differs = absurd differs
@@ -134,7 +127,7 @@ module _ (before after : Plan) where
   sure_after cert fault M03 differ first = absurd first
 
   -- a certificate meets what none can fail to meet
-  module _ (cert : Certificate) (frames : DifferInRows before after) (olds : (rule : Rule) (n : ℕ) (entry eid : Option ℕ) → DemandsBefore before cert rule n entry eid)
+  module _ (cert : Certificate) (frames : DifferInRowsAlone before after) (olds : (rule : Rule) (n : ℕ) (entry eid : Option ℕ) → DemandsBefore before cert rule n entry eid)
       (fall : (n : ℕ) (entry eid : Option ℕ) → DemandsAfter after cert C10 n entry eid) (needed : (n : ℕ) (entry eid : Option ℕ) → MoveDemands before after cert Given n entry eid) where
     sure_old : (fault : MoveFault) (rule : MoveRule) → fault.rule ≡ rule → IsFirstFaultOf before after cert (required_before rule) fault → NamesSureFault before after (error.Old fault)
     sure_old fault (OfPlan rule) same first = absurd (first.broken (olds rule fault.node fault.entry (eid_number fault.eid)))
@@ -167,7 +160,7 @@ module _ (before after : Plan) where
 
   -- ---- what the old plan's certificate meets
 
-  module _ (frames : DifferInRows before after) (cert : Certificate) (accepted : Accepts before cert) where
+  module _ (frames : DifferInRowsAlone before after) (cert : Certificate) (accepted : Accepts before cert) where
     meets_before_rows : MeetsBelow before after cert 3
     meets_before_rows =
         old_holds before after cert (frames_hold before after cert frames)

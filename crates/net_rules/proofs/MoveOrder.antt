@@ -9,7 +9,7 @@ use Rattle.net_rules.specs.declared.move_fault.MoveRule.TheVariants.{OfPlan, M02
 use Rattle.net_rules.specs.declared.move_fault.MoveFault.{MoveFault}
 use Rattle.net_plan.specs.declared.plan.Plan.{Plan}
 use Rattle.net_plan.specs.declared.certificate.Certificate.{Certificate}
-use Rattle.net_rules.specs.Rules.{AtNode, AtRowEid, AtNodeOrEid}
+use Rattle.net_rules.specs.Rules.{AtRowEid, AtNodeOrEid}
 use Rattle.net_rules.specs.Faults.{order_of_number, LessByFirstDifference}
 use Rattle.net_tables.specs.Routing.{eid_number}
 use Rattle.net_rules.specs.HeldEids.{IsLedOn}
@@ -17,12 +17,9 @@ use Rattle.net_rules.specs.Superfluous.{NeedsWhatItIsGiven, NeedsItsRank}
 use Rattle.net_tables.specs.TwoPlans.{Tables, moving}
 use Rattle.net_plan.specs.NodeValues.{but_rows}
 use Rattle.net_rules.specs.MoveRules.{Requirement, SameFrame, SameNode, Before, After, WayOnBefore, WayOnAfter, Given, HaveSameFrame, IsSameNode, DemandsBefore, DemandsAfter, MoveDemands, AcceptsMove}
-use Rattle.net_rules.specs.MoveFaults.{MoveFaultSite, order_of_requirement, order_of_its_rule, MoveComesBefore, IsMoveMet, IsFirstMoveFault, required_before, required_after, required_of_both, move_site, IsFirstFaultOf, NamesFirstMoveFault}
-use Rattle.net_rules.specs.declared.move_error.MoveError.{MoveError}
-use Rattle.net_rules.specs.declared.move_error.MoveError.TheVariants.{Differ, Old, New, Both, OutOfMemory}
-use Rattle.net_rules.specs.MoveObstacles.{DifferInRows, NamesDifference}
+use Rattle.net_rules.specs.MoveFaults.{MoveFaultSite, order_of_requirement, order_of_its_rule, MoveComesBefore, IsMoveMet, IsFirstMoveFault, required_before, required_after, required_of_both, move_site, IsFirstFaultOf}
+use Rattle.net_rules.specs.MoveObstacles.{DifferInRowsAlone}
 use Rattle.net_rules.specs.MoveSearch.{IsFirstUnlike, NodeComesBefore, IsFirstByRules, IsFirstByNode}
-use Rattle.net_rules.proofs.Spots.{node_fails}
 use Rattle.net_rules.proofs.Beyond.{at_node}
 use Rattle.net_plan.proofs.SameItems.{same_beyond}
 
@@ -147,26 +144,8 @@ module _ (before after : Plan) (cert : Certificate) where
             ])
       ]
 
-  -- the frames
-  pub frame_breaks : ¬ HaveSameFrame before after → IsFirstMoveFault before after cert (record { requirement = SameFrame; node = 0; entry = None; eid = None })
-  frame_breaks not =
-      first_alone 0 SameFrame 0 None None (λ rule. refl) refl refl (λ r less. absurd (omega (arith, less)))
-      (not, λ m entry eid earlier. absurd (nothing_before m (order_of_number entry) (order_of_number eid) earlier))
-
   pub frame_holds : HaveSameFrame before after → MeetsBelow 1
   frame_holds same = more 0 (λ r less. absurd (omega (arith, less))) (λ rule n entry eid. at_node (HaveSameFrame before after) entry eid same)
-
-  -- the nodes
-  pub node_breaks : (n : ℕ) → MeetsBelow 1 → IsFirstUnlike before after (Some n) → IsFirstMoveFault before after cert (record { requirement = SameNode; node = n; entry = None; eid = None })
-  node_breaks n below (not, first) = first_alone 1 SameNode n None None (λ rule. refl) refl refl below (not, λ m entry eid earlier. met m entry eid earlier)
-    where
-      met : (m : ℕ) (entry eid : Option ℕ) → NodeComesBefore m entry eid n None None → AtNode (IsSameNode before after m) entry eid
-      met m entry eid earlier = elim earlier [
-        | inl less ↦ at_node (IsSameNode before after m) entry eid (first m less)
-        | inr (same, rest) ↦
-            (let P : ℕ → Type 0 = λ k. AtNode (IsSameNode before after k) entry eid in
-            subst P (sym same) ((node_fails (IsSameNode before after n) not).1 entry eid rest))
-      ]
 
   pub nodes_hold : MeetsBelow 1 → IsFirstUnlike before after None → MeetsBelow 2
   nodes_hold below same = more 1 below (λ rule n entry eid. at_node (IsSameNode before after n) entry eid (same n))
@@ -234,21 +213,6 @@ module _ (before after : Plan) (cert : Certificate) where
   pub all_hold : MeetsBelow 6 → IsFirstByNode M03 (NeedsWhatIsGiven (moving before after) cert) None → AcceptsMove before after cert
   all_hold below holds r n entry eid = more 6 below (λ rule m entry' eid'. holds m entry' eid') r (all_below r) n entry eid
 
--- what is said of a difference
-pub frame_differs : (before after : Plan) → ¬ HaveSameFrame before after → NamesDifference before after (Differ None)
-frame_differs before after not = not
-
-pub node_differs : (before after : Plan) (n : ℕ) → HaveSameFrame before after → IsFirstUnlike before after (Some n) → NamesDifference before after (Differ (Some n))
-node_differs before after n same first = (same, first.0, first.1)
-
-pub difference_first : (before after : Plan) (cert : Certificate) (e : MoveError) → NamesDifference before after e → NamesFirstMoveFault before after cert e
-difference_first before after cert (Differ None) differs = frame_breaks before after cert differs
-difference_first before after cert (Differ (Some n)) differs = node_breaks before after cert n (frame_holds before after cert differs.0) (differs.1, differs.2)
-difference_first before after cert (Old fault) differs = absurd differs
-difference_first before after cert (New fault) differs = absurd differs
-difference_first before after cert (Both fault) differs = absurd differs
-difference_first before after cert OutOfMemory differs = absurd differs
-
 -- plans that differ in rows alone meet what is asked first
-pub frames_hold : (before after : Plan) (cert : Certificate) → DifferInRows before after → MeetsBelow before after cert 2
+pub frames_hold : (before after : Plan) (cert : Certificate) → DifferInRowsAlone before after → MeetsBelow before after cert 2
 frames_hold before after cert frames = nodes_hold before after cert (frame_holds before after cert frames.0) frames.1

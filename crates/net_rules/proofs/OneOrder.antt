@@ -117,7 +117,7 @@ module _ (records : List PlannedRecord) (named : HaveNewHandles records) where
       let is : here.place ≡ x = same_Some here.place x (sym here.given ∙ at) in
       there.given ∙ ap Some (sym same ∙ is))
 
-places_in : Option NodePlaces → List ℕ
+unfoldable pub places_in : Option NodePlaces → List ℕ
 places_in o = unwrap_or (option_map (λ (x : NodePlaces). map (λ (p : RecordPlace). p.value) x.places.items) o) []
 
 module _ (plan : Plan) (met : PlanMeetsAll plan) where

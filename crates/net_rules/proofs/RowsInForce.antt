@@ -9,7 +9,7 @@ use Rattle.net_tables.specs.Routing.{Holds, HasRow, IsBridge, eid_number}
 use Rattle.net_tables.specs.TwoPlans.{Tables, moving, HasRowAlways, HasRowEver}
 use Rattle.net_rules.specs.HeldEids.{IsLedOn}
 use Rattle.net_rules.specs.Superfluous.{NeedsItsRank}
-use Rattle.net_rules.specs.Stretches.{IsStretch, HasOneRank, IsLeastFailure}
+use Rattle.net_rules.specs.Stretches.{IsStretch, IsLeastFailure}
 use Rattle.net_tables.specs.Ranks.{ranges_of, rank_in, rank}
 use Rattle.net_rules.proofs.StretchLaws.{shorter, rank_of_ranges}
 
@@ -73,29 +73,6 @@ either_alike before after n at a b less one other some le le' =
 -- that a node needs the rank that its ranges give, by one of the plans
 abbrev pub NeedsRankBy : Tables → ℕ → List RankRange → ℕ → Type 0
 NeedsRankBy tables n ranges e = rank_in ranges e ≢ 0 → ¬ Holds tables.plan n e × HasRowEver tables n e
-
-pub need_alike : (tables : Tables) (n : ℕ) (ranges : List RankRange) (at a b c less : ℕ) → HasOneRank ranges at a → IsStretch (HasRowEver tables n) at b
-    → IsStretch (Holds tables.plan n) at c → at < less → less ≤ a → less ≤ b → less ≤ c → IsStretch (NeedsRankBy tables n ranges) at less
-need_alike tables n ranges at a b c less here rows held some le le' le'' = (
-  some,
-  λ e low high.
-      let rank : rank_in ranges e ≡ rank_in ranges at = here.1 e low (omega arith) in
-      let holds = held.1 e low (omega arith) in
-      let row = rows.1 e low (omega arith) in (
-        λ need given. (let met = need (omega arith) in (λ h. met.0 (holds.1 h), row.0 met.1)),
-        λ need given. (let met = need (omega arith) in (λ h. met.0 (holds.0 h), row.1 met.1)),
-      ),
-)
-
-pub need_along_rows : (tables : Tables) (n : ℕ) (ranges : List RankRange) (at a b less : ℕ) → ¬ Holds tables.plan n at → HasRowEver tables n at
-    → IsStretch (HasRowEver tables n) at a → IsStretch (Holds tables.plan n) at b → at < less → less ≤ a → less ≤ b → IsStretch (NeedsRankBy tables n ranges) at less
-need_along_rows tables n ranges at a b less free has rows held some le le' = (
-  some,
-  λ e low high.
-      let holds = held.1 e low (omega arith) in
-      let row = rows.1 e low (omega arith) in
-      (λ _ _. (free, has), λ _ _. (λ h. free (holds.0 h), row.1 has)),
-)
 
 need_of_ranges : (tables : Tables) (cert : Certificate) (n : ℕ) (ranges : List RankRange) (e : ℕ) → rank_in ranges e ≡ rank cert n e → (e ≤ 255 → NeedsRankBy tables n ranges e)
     → NeedsItsRank tables cert n e

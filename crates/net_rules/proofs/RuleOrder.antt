@@ -1,8 +1,10 @@
 -- The order of the rules.
-use Rattle.std.proofs.Common.{◌≡◌, ℕ, zero, suc, ◌+◌, ◌<◌, List, [], ◌∷◌, get_or, Some, refl, sym, ◌∙◌, ap, subst, arith, inl, inr, Option}
+use Rattle.std.proofs.Common.{zero-add, ◌≡◌, ℕ, zero, ◌+◌, ◌<◌, List, [], ◌∷◌, get_or, Some, refl, sym, ◌∙◌, ap, subst, arith, inl, inr, Option}
 use Rattle.std.specs.Prelude.{slice_get}
 use Rattle.std.proofs.lemmas.Bool.{cases_lt}
-use Rattle.std.proofs.lemmas.Option.{same_Some}
+use Rattle.std.proofs.lemmas.List.{get_or-map}
+use Rattle.std.proofs.lemmas.List.FromFn.{get_or-range_with_len}
+use Rattle.std.proofs.lemmas.Option.{same_Some, slice_get_within}
 use Rattle.net_rules.specs.declared.fault.Fault.{Fault}
 use Rattle.net_rules.specs.declared.rule.Rule.{Rule}
 use Rattle.net_rules.specs.declared.rule.Rule.TheVariants.{C01, C02, C03, C04, C05, C06, C07, C08, C09, C10, C11, C12, C13, C14, C15, C16}
@@ -35,42 +37,11 @@ pub one_order : (a b : Rule) → order_of a ≡ order_of b → a ≡ b
 one_order a b same = same_Some a b (sym (stands_in_order a) ∙ (ap (λ k. slice_get in_order k) same ∙ stands_in_order b))
 
 pub order_at : (k : ℕ) (d : Rule) → k < 16 → order_of (get_or in_order k d) ≡ k
-order_at zero d less = refl
-order_at (suc zero) d less = refl
-order_at (suc (suc zero)) d less = refl
-order_at (suc (suc (suc zero))) d less = refl
-order_at (suc (suc (suc (suc zero)))) d less = refl
-order_at (suc (suc (suc (suc (suc zero))))) d less = refl
-order_at (suc (suc (suc (suc (suc (suc zero)))))) d less = refl
-order_at (suc (suc (suc (suc (suc (suc (suc zero))))))) d less = refl
-order_at (suc (suc (suc (suc (suc (suc (suc (suc zero)))))))) d less = refl
-order_at (suc (suc (suc (suc (suc (suc (suc (suc (suc zero))))))))) d less = refl
-order_at (suc (suc (suc (suc (suc (suc (suc (suc (suc (suc zero)))))))))) d less = refl
-order_at (suc (suc (suc (suc (suc (suc (suc (suc (suc (suc (suc zero))))))))))) d less = refl
-order_at (suc (suc (suc (suc (suc (suc (suc (suc (suc (suc (suc (suc zero)))))))))))) d less = refl
-order_at (suc (suc (suc (suc (suc (suc (suc (suc (suc (suc (suc (suc (suc zero))))))))))))) d less = refl
-order_at (suc (suc (suc (suc (suc (suc (suc (suc (suc (suc (suc (suc (suc (suc zero)))))))))))))) d less = refl
-order_at (suc (suc (suc (suc (suc (suc (suc (suc (suc (suc (suc (suc (suc (suc (suc zero))))))))))))))) d less = refl
-order_at (suc (suc (suc (suc (suc (suc (suc (suc (suc (suc (suc (suc (suc (suc (suc (suc k)))))))))))))))) d less = absurd (omega arith)
+order_at k d less = sym (get_or-map order_of in_order k d 0 less) ∙ get_or-range_with_len 0 16 k 0 less ∙ zero-add k
 
 -- each rule has a lesser order than their number
 pub all_below : (rule : Rule) → order_of rule < 16
-all_below C01 = omega arith
-all_below C02 = omega arith
-all_below C03 = omega arith
-all_below C04 = omega arith
-all_below C05 = omega arith
-all_below C06 = omega arith
-all_below C07 = omega arith
-all_below C08 = omega arith
-all_below C09 = omega arith
-all_below C10 = omega arith
-all_below C11 = omega arith
-all_below C12 = omega arith
-all_below C13 = omega arith
-all_below C14 = omega arith
-all_below C15 = omega arith
-all_below C16 = omega arith
+all_below rule = slice_get_within in_order (order_of rule) rule (stands_in_order rule)
 
 -- what holds of the rules before one and of the one itself holds of one more
 pub below_more : (P : Rule → Type 0) (rule : Rule) → ((other : Rule) → order_of other < order_of rule → P other) → P rule → (other : Rule) → order_of other < order_of rule + 1 → P other

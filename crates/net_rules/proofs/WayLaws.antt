@@ -1,14 +1,14 @@
 -- The longest ways of moves, round by round.
-use Rattle.std.proofs.Common.{◌≡◌, ℕ, zero, suc, ◌+◌, ◌-◌, ◌<◌, ◌≤◌, List, [], ◌∷◌, ◌++◌, length, Option, Some, None, refl, sym, ◌∙◌, ap, subst, arith, inl, inr, replicate, get_or, unwrap_or}
+use Rattle.std.proofs.Common.{◌≡◌, ℕ, zero, suc, ◌+◌, ◌-◌, ◌<◌, ◌≤◌, List, length, Option, Some, None, refl, sym, ◌∙◌, ap, subst, arith, inl, inr, replicate, get_or, unwrap_or}
 use Rattle.std.specs.Prelude.{slice_get, max}
 use Rattle.std.proofs.lemmas.Bool.{cases_lt}
-use Rattle.std.proofs.lemmas.List.{length_push, length-replicate, get_or-replicate}
+use Rattle.std.proofs.lemmas.List.{length-replicate, get_or-replicate}
 use Rattle.std.proofs.lemmas.Option.{slice_get_past, slice_get_within, get_or_from_slice_get}
 use Rattle.net_rules.specs.Moves.{Leads, IsEnd}
 use Rattle.net_rules.specs.Circles.{EndsAfter, HasCircle, HasNoCircle, next_in}
 use Rattle.net_rules.specs.LongestWays.{IsLongest, AreLongest, AreLongestWithin, HasWayOf, MovesByEither, one_before}
 use Rattle.net_rules.proofs.Circling.{one_more, spot, spot_parts, circle_in, no_circle_down, table_within}
-use Rattle.net_tables.proofs.Elements.{element, in_push}
+use Rattle.net_tables.proofs.Elements.{element}
 
 -- the count at an index; 0 beyond the list
 abbrev pub count_at : List ℕ → ℕ → ℕ
@@ -57,18 +57,6 @@ either_within old new same n p (inr move) = omega (arith, table_within new n p m
 abbrev pub AreOneMore : List (Option ℕ) → List (Option ℕ) → List ℕ → ℕ → List ℕ → Type 0
 AreOneMore old new counts places more = (length more ≡ places)
     × ((n k : ℕ) → slice_get more n ≡ Some k → k ≡ max (one_before counts (next_in old n)) (one_before counts (next_in new n)))
-
-pub one_more_pushed : (old new : List (Option ℕ)) (counts : List ℕ) (index k : ℕ) (more : List ℕ) → AreOneMore old new counts index more
-    → k ≡ max (one_before counts (next_in old index)) (one_before counts (next_in new index)) → AreOneMore old new counts (index + 1) (more ++ k ∷ [])
-one_more_pushed old new counts index k more are is = (
-  omega (arith, length_push more k, are.0),
-  λ n l at. elim (in_push more k n l at) [
-    | inl before ↦ are.1 n l before
-    | inr (here, same) ↦ (
-        let place : index ≡ n = omega (arith, here, are.0) in
-        sym same ∙ subst (λ i. k ≡ max (one_before counts (next_in old i)) (one_before counts (next_in new i))) place is)
-  ],
-)
 
 module _ (old new : List (Option ℕ)) (same : length new ≡ length old) (most : ℕ) (counts : List ℕ) (long : length counts ≡ length old) (are : AreLongestWithin (MovesByEither old new) most counts) where
   -- what holds of the counts holds beyond them

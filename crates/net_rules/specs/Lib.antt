@@ -5,6 +5,7 @@ pub mod Pools
 pub mod Holders
 pub mod Stretches
 pub mod Following
+pub mod RanksByEid
 pub mod CoveredEids
 pub mod HeldEids
 pub mod Locators

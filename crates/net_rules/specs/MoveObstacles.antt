@@ -32,8 +32,8 @@ abbrev pub HasNoMoveCertificate : Plan → Plan → Type 0
 HasNoMoveCertificate before after = (cert : Certificate) → ¬ AcceptsMove before after cert
 
 -- the plans differ in rows alone
-abbrev pub DifferInRows : Plan → Plan → Type 0
-DifferInRows before after = HaveSameFrame before after × ((n : ℕ) → IsSameNode before after n)
+abbrev pub DifferInRowsAlone : Plan → Plan → Type 0
+DifferInRowsAlone before after = HaveSameFrame before after × ((n : ℕ) → IsSameNode before after n)
 
 -- the rows of the plan after meet the rules of a lesser order, with the certificate
 abbrev pub RowsMeetBefore : Plan → Certificate → ℕ → Type 0
@@ -79,7 +79,7 @@ NamesSureFault before after error.OutOfMemory = ⊥
 abbrev pub NamesMoveObstacle : Plan → Plan → MoveObstacle → Type 0
 NamesMoveObstacle before after obstacle.OutOfMemory = Unit {0}
 NamesMoveObstacle before after (obstacle.Old e) =
-    DifferInRows before after × (e ≢ alone.OutOfMemory) × NamesObstacle before e
+    DifferInRowsAlone before after × (e ≢ alone.OutOfMemory) × NamesObstacle before e
 NamesMoveObstacle before after (obstacle.Fault e) = NamesSureFault before after e
 NamesMoveObstacle before after (obstacle.Loop loop) =
     CanReach before after (record { requirement = After C10; node = 0; entry = None; eid = None })

@@ -1,9 +1,10 @@
 -- The chain that the next handles of records make.
 use Rattle.std.specs.Prelude.{codes, ◌≡◌, ◌≢◌, ◌⊎◌, ℕ, ◌+◌, ◌<◌, List, length}
-use Rattle.std.specs.Prelude.{map, slice_get, Option, Some, None, MatchOption}
+use Rattle.std.specs.Prelude.{map, slice_get, Option, Some, None, MatchOption, unwrap_or}
 use Rattle.std.specs.Ordering.{nat_cmp}
-use Rattle.std.specs.BTreeMap.{BTreeMap, get}
+use Rattle.std.specs.BTreeMap.{get}
 use Rattle.net_plan.specs.declared.terminus.PlannedRecord.{PlannedRecord}
+use Rattle.net_rules.specs.declared.certifying.handle_index.HandleIndex.{HandleIndex}
 use Rattle.net_rules.specs.declared.certifying.chains.Chained.{Chained}
 use Rattle.net_rules.specs.declared.certifying.chains.Chained.TheVariants.{Places, Bad}
 use Rattle.net_rules.specs.declared.certifying.chains.ChainFault.{ChainFault}
@@ -74,10 +75,14 @@ chain_entry_of (Circle j) = j
 abbrev pub IsFirstIndexOf : List ℕ → ℕ → ℕ → Type 0
 IsFirstIndexOf keys key first = (slice_get keys first ≡ Some key) × ((i : ℕ) → i < first → slice_get keys i ≢ Some key)
 
--- each key of the list is mapped to its first index, and no other is
-abbrev pub IsIndexOf : List ℕ → BTreeMap ℕ ℕ → Type 0
+-- the key's index, if it has one: at its own place if there is such a place, or else in the map
+abbrev pub found_in : HandleIndex → ℕ → Option ℕ
+found_in index key = unwrap_or (slice_get index.small.items key) (get nat_cmp index.large key)
+
+-- each key of the list has its first index, and no other has one
+abbrev pub IsIndexOf : List ℕ → HandleIndex → Type 0
 IsIndexOf keys index =
-    (key : ℕ) → MatchOption (get nat_cmp index key) ((i : ℕ) → slice_get keys i ≢ Some key) (IsFirstIndexOf keys key)
+    (key : ℕ) → MatchOption (found_in index key) ((i : ℕ) → slice_get keys i ≢ Some key) (IsFirstIndexOf keys key)
 
 -- no record is without its next one, and no two have one next handle
 pub record AreLinked (records : List PlannedRecord) : Type 0 where

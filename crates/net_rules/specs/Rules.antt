@@ -1,6 +1,6 @@
 -- The rules of a plan and its certificate: what each demands, and where.
 use Rattle.std.specs.Prelude.{ℕ, List, Option, Some, None, ⊤, codes}
-use Rattle.mctp_transport.specs.Frames.{IsAssignable}
+use Rattle.mctp_transport.specs.PacketValues.{IsAssignable}
 use Rattle.net_rules.specs.declared.rule.Rule.{Rule}
 use Rattle.net_rules.specs.declared.rule.Rule.TheVariants.{C01, C02, C03, C04, C05, C06, C07, C08}
 use Rattle.net_rules.specs.declared.rule.Rule.TheVariants.{C09, C10, C11, C12, C13, C14, C15, C16}

@@ -1,15 +1,9 @@
 -- Stretches of endpoint IDs, each from its first to before its end, and what is said of them.
-use Rattle.std.specs.Prelude.{◌≡◌, ◌↔◌, ℕ, ◌<◌, ◌≤◌, List, Option, Some, None}
-use Rattle.net_plan.specs.declared.certificate.RankRange.{RankRange}
-use Rattle.net_tables.specs.Ranks.{rank_in}
+use Rattle.std.specs.Prelude.{◌↔◌, ℕ, ◌<◌, ◌≤◌, Option, Some, None}
 
 -- the fact holds all along the stretch, or nowhere on it
 abbrev pub IsStretch : (ℕ → Type 0) → ℕ → ℕ → Type 0
 IsStretch P first end = (first < end) × ((e : ℕ) → first ≤ e → e < end → P e ↔ P first)
-
--- the ranges give one rank all along the stretch
-abbrev pub HasOneRank : List RankRange → ℕ → ℕ → Type 0
-HasOneRank ranges first end = (first < end) × ((e : ℕ) → first ≤ e → e < end → rank_in ranges e ≡ rank_in ranges first)
 
 -- the least number from first to before end of which the fact fails, if any
 abbrev pub IsLeastFailure : (ℕ → Type 0) → ℕ → ℕ → Option ℕ → Type 0

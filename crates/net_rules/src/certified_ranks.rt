@@ -18,7 +18,7 @@ pub struct CertifiedRanks<'a> {
 
 impl<'a> Model for CertifiedRanks<'a> {
     ghost use Rattle.net_plan.specs.declared.certificate.Certificate.{Certificate};
-    ghost use Rattle.net_rules.specs.Following.{AreRangesByNode};
+    ghost use Rattle.net_rules.specs.RanksByEid.{AreRangesByNode};
 
     ghost Value = { Certificate };
 
@@ -28,7 +28,7 @@ impl<'a> Model for CertifiedRanks<'a> {
 }
 
 impl<'a> CertifiedRanks<'a> {
-    ghost use Rattle.net_rules.specs.Following.{AreRangesByNode};
+    ghost use Rattle.net_rules.specs.RanksByEid.{AreRangesByNode};
 
     /// Those of the certificate, with the ranges of so many nodes at hand.
     pub fn of(alloc: Global, certificate: &'a Certificate, count: usize) -> Result<Self, AllocError>

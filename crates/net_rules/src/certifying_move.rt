@@ -9,7 +9,7 @@ ghost use Rattle.net_rules.specs.Faults.{order_of};
 ghost use Rattle.net_rules.specs.Rules.{Accepts};
 ghost use Rattle.net_rules.specs.MoveRules.{AcceptsMove};
 ghost use Rattle.net_rules.specs.Certificates.{IsExact};
-ghost use Rattle.net_rules.specs.MoveObstacles.{DifferInRows, RowsMeetBefore, IsExactForMove, IsOnlyExactForMove, NamesMoveObstacle, RulesOutMoveCertificates, obstacle_of_old};
+ghost use Rattle.net_rules.specs.MoveObstacles.{DifferInRowsAlone, RowsMeetBefore, IsExactForMove, IsOnlyExactForMove, NamesMoveObstacle, RulesOutMoveCertificates, obstacle_of_old};
 
 use crate::asked::Asked;
 use crate::certify_error::CertifyError;
@@ -48,7 +48,7 @@ pub fn certify_move(alloc: Global, before: &Plan, after: &Plan) -> Result<Certif
 
 /// The certificate of the old plan by itself.
 fn certify_old(alloc: Global, before: &Plan, after: &Plan) -> Result<Certificate, MoveObstacle>
-    requires { DifferInRows before.now after.now }
+    requires { DifferInRowsAlone before.now after.now }
     ensures accepted { IfOk result (λ certificate. Accepts before.now certificate) }
     ensures exact { IfOk result (λ certificate. IsExact before.now certificate) }
     ensures obstacle { IfErr result (λ obstacle. NamesMoveObstacle before.now after.now obstacle) }
@@ -78,7 +78,7 @@ fn meet_new_rows(
     after: &Plan,
     made: &Certificate,
 ) -> Result<(), MoveObstacle>
-    requires frames { DifferInRows before.now after.now }
+    requires frames { DifferInRowsAlone before.now after.now }
     requires accepted { Accepts before.now made.now }
     ensures met { OnOk result (RowsMeetBefore after.now made.now (order_of C10)) }
     ensures obstacle { IfErr result (λ obstacle. NamesMoveObstacle before.now after.now obstacle) }

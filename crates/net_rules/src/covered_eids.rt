@@ -2,7 +2,6 @@
 ghost use Rattle.std.specs.Prelude.{◌≡◌, ◌⊎◌, ◌↔◌, ℕ, IsTrue};
 ghost use Rattle.net_tables.specs.Routing.{Covers};
 ghost use Rattle.net_rules.specs.CoveredEids.{IsMarked, IsCovered};
-ghost use Rattle.net_rules.specs.Stretches.{IsStretch};
 
 use mctp_transport::Eid;
 use net_plan::Row;
@@ -60,18 +59,5 @@ impl CoveredEids {
             }
         }
         false
-    }
-
-    /// The end of a stretch from the endpoint ID on that is covered, or that isn't.
-    pub fn border(&self, eid: Eid) -> u16
-        ensures { IsStretch (IsMarked self.now) eid.value result }
-    {
-        let is_covered = self.has(eid);
-        for next in u16::from(eid.value) + 1..256 {
-            if self.marks[usize::from(next)] != is_covered {
-                return next;
-            }
-        }
-        256
     }
 }

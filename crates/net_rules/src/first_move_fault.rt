@@ -1,13 +1,13 @@
 //! The search for the first fault of a move.
 ghost use Rattle.std.specs.Prelude.{◌≡◌, OnOk, IfErr};
-ghost use Rattle.net_rules.specs.PlanTables.{tables_of};
+ghost use Rattle.net_rules.specs.PlanTables.{plans_value};
 ghost use Rattle.net_rules.specs.Rules.{AtRowEid, AtNodeOrEid};
 ghost use Rattle.net_rules.specs.HeldEids.{IsLedOn};
 ghost use Rattle.net_rules.specs.Superfluous.{NeedsWhatItIsGiven, NeedsItsRank};
 ghost use Rattle.net_rules.specs.MoveRules.{AcceptsMove};
 ghost use Rattle.net_rules.specs.MoveFaults.{NamesFirstMoveFault};
 ghost use Rattle.net_rules.specs.MoveSearch.{IsFirstByNode};
-ghost use Rattle.net_rules.specs.MoveObstacles.{DifferInRows, NamesDifference};
+ghost use Rattle.net_rules.specs.MoveObstacles.{DifferInRowsAlone, NamesDifference};
 
 use crate::asked::Asked;
 use crate::fault::Fault;
@@ -59,7 +59,7 @@ pub fn meet_rules_of_move(
 
 /// Whether the plans differ in rows alone (M01).
 pub fn meet_frames(before: &Plan, after: &Plan) -> Result<(), MoveError>
-    ensures met { OnOk result (DifferInRows before.now after.now) }
+    ensures met { OnOk result (DifferInRowsAlone before.now after.now) }
     ensures difference { IfErr result (NamesDifference before.now after.now) }
 {
     if !have_same_frame(before, after) {
@@ -86,7 +86,7 @@ pub fn fault_of_plan(fault: Fault) -> MoveFault
 /// The first fault of M02 along the rows of one of the plans.
 fn first_without_way_on(plans: &Plans<'_>, holders: &Holders<'_>, whose: &Plan) -> Option<MoveFault>
     requires { holders.now ≡ plans.now.plan.now }
-    ensures { IsFirstByNode MoveRule.M02 (λ n. AtRowEid whose.now n (λ row e. IsLedOn (tables_of plans.now) n e row.next)) result }
+    ensures { IsFirstByNode MoveRule.M02 (λ n. AtRowEid whose.now n (λ row e. IsLedOn (plans_value plans.now) n e row.next)) result }
 {
     for node in 0..whose.nodes.len() {
         if let Some(spot) = row_without_way_on(plans, holders, whose, node) {
@@ -103,7 +103,7 @@ fn first_without_way_on(plans: &Plans<'_>, holders: &Holders<'_>, whose: &Plan) 
 
 /// The first fault of M03.
 fn first_superfluous(plans: &Plans<'_>, certificate: &Certificate) -> Option<MoveFault>
-    ensures { IsFirstByNode MoveRule.M03 (λ n. AtNodeOrEid (NeedsWhatItIsGiven plans.now.plan.now certificate.now n) (NeedsItsRank (tables_of plans.now) certificate.now n)) result }
+    ensures { IsFirstByNode MoveRule.M03 (λ n. AtNodeOrEid (NeedsWhatItIsGiven plans.now.plan.now certificate.now n) (NeedsItsRank (plans_value plans.now) certificate.now n)) result }
 {
     for node in 0..plans.plan.nodes.len() {
         if let Some(spot) = superfluous_entry(plans, certificate, node) {

@@ -44,3 +44,7 @@ pub use move_obstacle::MoveObstacle;
 pub use rule::Rule;
 pub use rules::frames::{first_unlike_node, have_same_frame};
 pub use rules::locators::{eid_locator, is_held_with_tid};
+pub use rules::names::have_one_name;
+pub use rules::owners::share_bus;
+pub use rules::pools::is_pool_in_range;
+pub use rules::rows::is_in_range;

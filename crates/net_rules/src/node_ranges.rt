@@ -1,33 +1,32 @@
 //! The ranges that give a node its ranks, ready for look-ups.
-ghost use Rattle.std.specs.Prelude.{◌≡◌, ◌+◌, List, IsTrue};
+ghost use Rattle.std.specs.Prelude.{◌≡◌, ◌∷◌, List};
+ghost use Rattle.net_plan.specs.declared.certificate.RankRange.{RankRange};
 ghost use Rattle.net_tables.specs.Ranks.{rank_in};
-ghost use Rattle.net_rules.specs.Stretches.{HasOneRank};
-ghost use Rattle.net_rules.specs.Following.{RangesFollow, EndedBy};
+ghost use Rattle.net_rules.specs.RanksByEid.{AreRanksOf};
 
-use crate::borders::rank_border;
 use mctp_transport::Eid;
 use net_plan::RankRange;
-use net_tables::lookup::{range_end, rank_in_ranges};
+use net_tables::lookup::range_end;
 use std::marker::Model;
 
-/// The ranges that give a node its ranks. Where each ends before the next one begins, as a text's and those of
-/// `certify` do, a rank is found by halving.
+/// The ranges that give a node its ranks, in any order, with the rank of each endpoint ID.
 #[derive(Drop)]
 pub struct NodeRanges<'a> {
     ranges: &'a [RankRange],
-    follow: bool,
+    /// By endpoint ID, its rank.
+    ranks: [u8; 256],
 }
 
 impl<'a> Model for NodeRanges<'a> {
-    ghost use Rattle.std.specs.Prelude.{List, IsTrue};
+    ghost use Rattle.std.specs.Prelude.{List};
     ghost use Rattle.net_plan.specs.declared.certificate.RankRange.{RankRange};
-    ghost use Rattle.net_rules.specs.Following.{RangesFollow};
+    ghost use Rattle.net_rules.specs.RanksByEid.{AreRanksOf};
 
     ghost Value = { List RankRange };
 
     ghost view = { λ r. r.ranges.now };
 
-    ghost invariant = { λ r. IsTrue r.follow → RangesFollow r.ranges.now };
+    ghost invariant = { λ r. AreRanksOf r.ranges.now r.ranks };
 }
 
 impl<'a> NodeRanges<'a> {
@@ -37,7 +36,7 @@ impl<'a> NodeRanges<'a> {
     {
         NodeRanges {
             ranges,
-            follow: ranges_follow(ranges),
+            ranks: ranks_of(ranges),
         }
     }
 
@@ -45,79 +44,30 @@ impl<'a> NodeRanges<'a> {
     pub fn rank_of(&self, eid: Eid) -> u8
         ensures { result ≡ rank_in self.now eid.value }
     {
-        if self.follow {
-            rank_by_halving(self.ranges, eid)
-        } else {
-            rank_in_ranges(self.ranges, eid.value)
-        }
-    }
-
-    /// The end of a stretch from the endpoint ID on that has one rank.
-    pub fn border(&self, eid: Eid) -> u16
-        ensures { HasOneRank self.now eid.value result }
-    {
-        if self.follow {
-            border_by_halving(self.ranges, eid)
-        } else {
-            rank_border(self.ranges, eid)
-        }
+        self.ranks[usize::from(eid.value)]
     }
 }
 
-/// Whether each range ends before the next one begins.
-fn ranges_follow(ranges: &[RankRange]) -> bool
-    ensures { IsTrue result → RangesFollow ranges.now }
+/// The rank of each endpoint ID. Of several ranges that have one the first counts, so it is written last.
+fn ranks_of(ranges: &[RankRange]) -> [u8; 256]
+    ensures { AreRanksOf ranges.now result }
 {
-    let mut end = 0;
-    for range in ranges {
-        if u16::from(range.first.value) < end {
-            return false;
-        }
-        end = range_end(range);
+    let mut ranks = [0; 256];
+    for at in (0..ranges.len()).rev() {
+        add_before(&mut ranks, &ranges[at]);
     }
-    true
+    ranks
 }
 
-/// How many of the ranges end by the endpoint ID. They are found by halving.
-fn ranges_ended_by(ranges: &[RankRange], eid: Eid) -> usize
-    requires { RangesFollow ranges.now }
-    ensures { EndedBy (λ range. range.first.value + range.size) ranges.now eid.value result }
+/// Adds a range before those of which these are the ranks. Most ranges are one endpoint ID.
+fn add_before(ranks: &mut [u8; 256], range: &RankRange)
+    ensures { (later : List RankRange) → AreRanksOf later ranks.old → AreRanksOf (range.now ∷ later) ranks.new }
 {
-    ranges.partition_point(|range| {
-        u16::from(range.first.value) + u16::from(range.size) <= u16::from(eid.value)
-    })
-}
-
-/// The rank of the first range that ends past the endpoint ID, if it has that.
-fn rank_by_halving(ranges: &[RankRange], eid: Eid) -> u8
-    requires { RangesFollow ranges.now }
-    ensures { result ≡ rank_in ranges.now eid.value }
-{
-    let ended = ranges_ended_by(ranges, eid);
-    if ended == ranges.len() {
-        return 0;
+    if range.size == 1 {
+        ranks[usize::from(range.first.value)] = range.rank;
+        return;
     }
-    let range = &ranges[ended];
-    if range.first.value <= eid.value {
-        range.rank
-    } else {
-        0
-    }
-}
-
-/// Where the first range that ends past the endpoint ID begins, if that lies further on, or else ends.
-fn border_by_halving(ranges: &[RankRange], eid: Eid) -> u16
-    requires { RangesFollow ranges.now }
-    ensures { HasOneRank ranges.now eid.value result }
-{
-    let ended = ranges_ended_by(ranges, eid);
-    if ended == ranges.len() {
-        return 256;
-    }
-    let range = &ranges[ended];
-    if range.first.value <= eid.value {
-        range_end(range)
-    } else {
-        u16::from(range.first.value)
+    for eid in u16::from(range.first.value)..range_end(range).min(256) {
+        ranks[usize::from(eid)] = range.rank;
     }
 }

@@ -1,6 +1,6 @@
 //! The rows that nodes go by: those of one plan, or of two while they move from one to the other.
 ghost use Rattle.std.specs.Prelude.{◌↔◌, IsTrue};
-ghost use Rattle.net_rules.specs.PlanTables.{tables_of};
+ghost use Rattle.net_rules.specs.PlanTables.{plans_value};
 ghost use Rattle.net_tables.specs.TwoPlans.{HasRowAlways, HasRowEver};
 ghost use Rattle.net_rules.specs.Stretches.{IsStretch};
 
@@ -21,7 +21,7 @@ pub struct Plans<'a> {
 impl<'a> Plans<'a> {
     /// Whether the node has a row for the endpoint ID in each of the plans.
     pub fn has_row_in_each(&self, node: usize, eid: Eid) -> bool
-        ensures { IsTrue result ↔ HasRowAlways (tables_of self.now) node eid.value }
+        ensures { IsTrue result ↔ HasRowAlways (plans_value self.now) node eid.value }
     {
         match self.after {
             Some(after) => has_row(self.plan, node, eid) && has_row(after, node, eid),
@@ -31,8 +31,8 @@ impl<'a> Plans<'a> {
 
     /// The end of a stretch from the endpoint ID on for which the node has rows or has none, in each plan for itself.
     pub fn row_border(&self, node: usize, eid: Eid) -> u16
-        ensures always { IsStretch (HasRowAlways (tables_of self.now) node) eid.value result }
-        ensures ever { IsStretch (HasRowEver (tables_of self.now) node) eid.value result }
+        ensures always { IsStretch (HasRowAlways (plans_value self.now) node) eid.value result }
+        ensures ever { IsStretch (HasRowEver (plans_value self.now) node) eid.value result }
     {
         let end = row_border(self.plan, node, eid);
         match self.after {

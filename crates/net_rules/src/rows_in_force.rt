@@ -1,8 +1,7 @@
 //! The rows of a node by each of the plans, ready for look-ups.
 ghost use Rattle.std.specs.Prelude.{◌≡◌, ◌↔◌, IsTrue};
-ghost use Rattle.net_rules.specs.PlanTables.{tables_of};
+ghost use Rattle.net_rules.specs.PlanTables.{plans_value};
 ghost use Rattle.net_tables.specs.TwoPlans.{HasRowEver};
-ghost use Rattle.net_rules.specs.Stretches.{IsStretch};
 
 use crate::covered_eids::CoveredEids;
 use crate::plans::Plans;
@@ -23,14 +22,14 @@ impl<'a> Model for RowsInForce<'a> {
     ghost use Rattle.std.specs.Prelude.{ℕ, ◌↔◌};
     ghost use Rattle.net_rules.specs.declared.plans.Plans.{Plans};
     ghost use Rattle.net_rules.specs.CoveredEids.{IsMarked};
-    ghost use Rattle.net_rules.specs.PlanTables.{tables_of};
+    ghost use Rattle.net_rules.specs.PlanTables.{plans_value};
     ghost use Rattle.net_tables.specs.TwoPlans.{HasRowEver};
 
     ghost Value = { Plans × ℕ };
 
     ghost view = { λ r. (r.plans.now, r.node) };
 
-    ghost invariant = { λ r. (e : ℕ) → IsMarked r.covered e ↔ HasRowEver (tables_of r.plans.now) r.node e };
+    ghost invariant = { λ r. (e : ℕ) → IsMarked r.covered e ↔ HasRowEver (plans_value r.plans.now) r.node e };
 }
 
 impl<'a> RowsInForce<'a> {
@@ -67,15 +66,8 @@ impl<'a> RowsInForce<'a> {
 
     /// Whether the node has a row for the endpoint ID in one of the plans.
     pub fn has_in_one(&self, eid: Eid) -> bool
-        ensures { IsTrue result ↔ HasRowEver (tables_of self.now.0) self.now.1 eid.value }
+        ensures { IsTrue result ↔ HasRowEver (plans_value self.now.0) self.now.1 eid.value }
     {
         self.covered.has(eid)
-    }
-
-    /// The end of a stretch from the endpoint ID on for which the node has rows in one of the plans, or has none.
-    pub fn border(&self, eid: Eid) -> u16
-        ensures { IsStretch (HasRowEver (tables_of self.now.0) self.now.1) eid.value result }
-    {
-        self.covered.border(eid)
     }
 }

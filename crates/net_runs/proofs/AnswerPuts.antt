@@ -3,7 +3,7 @@ use Rattle.std.proofs.Common.{◌≡◌, ◌⊎◌, ℕ, ◌+◌, ◌≤◌, Lis
 use Rattle.std.specs.List.{AllByRecursion}
 use Rattle.std.proofs.lemmas.Bool.Decides.{eqb_tells}
 use Rattle.std.proofs.lemmas.Option.{same_Some}
-use Rattle.mctp_transport.specs.Frames.{Frame, Spelled}
+use Rattle.mctp_transport.specs.PacketValues.{PacketValue, Spelled}
 use Rattle.mctp_transport.specs.Sending.{IsPacketOf}
 use Rattle.mctp_transport.proofs.InOrder.{all_from}
 use Rattle.net_plan.specs.declared.plan.Plan.{Plan}
@@ -18,7 +18,7 @@ use Rattle.net_runs.specs.Runs.{IsPutOf}
 use Rattle.net_runs.proofs.Nexts.{new_flight, older_stays}
 
 -- the flights that are made for packets hold these packets
-made_hold : (P : Frame → Type 0) (w : NetworkState) (node : ℕ) (ps : List Frame) (k : ℕ) (f : Flight) → AllByRecursion P ps
+pub made_hold : (P : PacketValue → Type 0) (w : NetworkState) (node : ℕ) (ps : List PacketValue) (k : ℕ) (f : Flight) → AllByRecursion P ps
     → w.made + 1 ≤ k → k ≤ w.made + length ps → (with_packets w node ps).flight k ≡ Some f → P f.packet
 made_hold P w node [] k f all low high is = absurd (omega (arith, low, high))
 made_hold P w node (p ∷ ps) k f all low high is = elim (eqb_tells k (w.made + 1)) [
@@ -31,7 +31,7 @@ made_hold P w node (p ∷ ps) k f all low high is = elim (eqb_tells k (w.made + 
 ]
 
 -- the packet is one of the answer to the oldest message that waits at the node
-pub record IsOfAnswer (plan : Plan) (w : NetworkState) (node : ℕ) (p : Frame) : Type 0 where
+pub record IsOfAnswer (plan : Plan) (w : NetworkState) (node : ℕ) (p : PacketValue) : Type 0 where
   pub state : TerminusState
   pub oldest : WaitingMessage
   pub rest : List WaitingMessage
@@ -44,18 +44,18 @@ pub record IsOfAnswer (plan : Plan) (w : NetworkState) (node : ℕ) (p : Frame) 
   pub holds : Holds plan node eid
   pub is : IsPacketOf (unit_of plan) answer oldest.key.source (answer_key eid oldest.key) 0 p
 
-abbrev pub IsPutBy : Plan → NetworkState → EventValue → OutcomeValue → Frame → Type 0
+abbrev pub IsPutBy : Plan → NetworkState → EventValue → OutcomeValue → PacketValue → Type 0
 IsPutBy plan w event outcome p =
     ((node flight at : ℕ) × (bytes : List ℕ) × (event ≡ Put node bytes) × (outcome ≡ PutIn flight at) × Spelled (unit_of plan) p bytes)
     ⊎ ((node : ℕ) × (event ≡ AnswerAt node) × IsOfAnswer plan w node p)
 
 pub put_is_by : (tables : Tables) (w : NetworkState) (event : EventValue) (outcome : OutcomeValue) (new : NetworkState) → Step tables w event outcome new
-    → (p : Frame) → IsPutOf tables.plan event outcome new p → IsPutBy tables.plan w event outcome p
+    → (p : PacketValue) → IsPutOf tables.plan event outcome new p → IsPutBy tables.plan w event outcome p
 put_is_by tables w (Put node bytes) (PutIn k at) new step p put = inl (node, k, at, bytes, refl, refl, put)
 put_is_by tables w (AnswerAt node) (Answered at first last) new (lawful, (t, oldest, rest, Some answer, tid, stands, waits, answers, (eid, ps, holds, cut, place, begins, ends, is)))
     p (k, f, low, high, flies, same) =
     let v : NetworkState = with_terminus w node (Some (record t { tid = tid; waiting = rest })) in
-    let P : Frame → Type 0 = λ q. IsPacketOf (unit_of tables.plan) answer oldest.key.source (answer_key eid oldest.key) 0 q in
+    let P : PacketValue → Type 0 = λ q. IsPacketOf (unit_of tables.plan) answer oldest.key.source (answer_key eid oldest.key) 0 q in
     let all : AllByRecursion P ps = all_from P ps (λ i q at. (ps, i, cut, at)) in
     let one = made_hold P v node ps k f all (omega (arith, begins, low)) (omega (arith, ends, high)) (ap (λ (u : NetworkState). u.flight k) (sym is) ∙ flies) in
     inr (

@@ -3,7 +3,7 @@ use Rattle.std.proofs.Common.{◌≡◌, ℕ, ◌+◌, ◌<◌, ◌≤◌, true,
 use Rattle.std.specs.Prelude.{All}
 use Rattle.std.proofs.lemmas.Bool.Decides.{eqb_tells}
 use Rattle.std.proofs.lemmas.Option.{none-some}
-use Rattle.mctp_transport.specs.Frames.{Frame, KeyValue}
+use Rattle.mctp_transport.specs.PacketValues.{PacketValue, KeyValue}
 use Rattle.mctp_transport.specs.Cutting.{ArePacketsOf}
 use Rattle.mctp_transport.specs.Histories.{Arrived, after, Comes}
 use Rattle.mctp_transport.specs.Hearing.{Whole}
@@ -43,7 +43,7 @@ record IsAnsweredTurn (plan : Plan) (n d : ℕ) (key : KeyValue) (request : List
   answer : List ℕ
   tid : ℕ
   answered : Answers t.tid t.records request (Some answer) tid
-  packets : List Frame
+  packets : List PacketValue
   some : 0 < length packets
   are : ArePacketsOf (unit_of plan) answer key.source (answer_key d key) 0 packets
   tells : turn.outcome ≡ Answered n (w.made + 1) (w.made + length packets)
@@ -51,7 +51,7 @@ record IsAnsweredTurn (plan : Plan) (n d : ℕ) (key : KeyValue) (request : List
 
 module _ (plan : Plan) (cert : Certificate) (n d : ℕ) (key : KeyValue) (request : List ℕ) (there : n < length plan.nodes.items) (holds : Holds plan n d) (small : d < 256) (fits : FitsKey key) where
   -- the oldest message is a request, so the terminus answers it
-  answers_oldest : (w : NetworkState) (made : ℕ) (ps : List Frame) (t : TerminusState) (rest : List WaitingMessage) → HasHeard w n made ps → made + 64 < most_flights
+  answers_oldest : (w : NetworkState) (made : ℕ) (ps : List PacketValue) (t : TerminusState) (rest : List WaitingMessage) → HasHeard w n made ps → made + 64 < most_flights
       → w.terminus n ≡ Some t → t.waiting ≡ record { key = key; bytes = request } ∷ rest → All (λ e. AreBytes e.bytes) t.records → AreBytes request → IsAsked request
       → IsAnsweredTurn plan n d key request w t rest
   answers_oldest w made ps t rest stands few is waits records bytes asked = by (some_answering t.tid t.records request records bytes)
@@ -97,7 +97,7 @@ module _ (plan : Plan) (cert : Certificate) (n d : ℕ) (key : KeyValue) (reques
       → 1 ≤ length request → length request ≤ (unit_of plan) → IsAnsweredRun plan cert n d key request
   asked_run owner t is records bytes asked some short = by (message_packets plan request d key)
     where
-      by : (ps : List Frame) × ArePacketsOf (unit_of plan) request d key 0 ps → IsAnsweredRun plan cert n d key request
+      by : (ps : List PacketValue) × ArePacketsOf (unit_of plan) request d key 0 ps → IsAnsweredRun plan cert n d key request
       by ([], are) = absurd (omega (arith, many_packets (unit_of plan) request d key 0 [] are))
       by (p ∷ q ∷ ps, are) = absurd (omega (arith, few_packets (unit_of plan) 1 request d key 0 (p ∷ q ∷ ps) are (omega arith)))
       by (p ∷ [], are) =

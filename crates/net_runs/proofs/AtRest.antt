@@ -4,7 +4,7 @@ use Rattle.std.specs.Prelude.{All}
 use Rattle.std.proofs.lemmas.List.Elements.{All-nil}
 use Rattle.std.proofs.lemmas.Bool.Decides.{eqb_tells}
 use Rattle.std.proofs.lemmas.Option.{none-some, same_Some}
-use Rattle.mctp_transport.specs.Frames.{Frame, KeyValue}
+use Rattle.mctp_transport.specs.PacketValues.{PacketValue, KeyValue}
 use Rattle.net_plan.specs.declared.plan.Plan.{Plan}
 use Rattle.net_plan.specs.declared.certificate.Certificate.{Certificate}
 use Rattle.net_plan.specs.declared.terminus.PlannedTerminus.{PlannedTerminus}
@@ -52,32 +52,32 @@ start_at_rest plan cert n some = by (terminus_of plan n) refl
 
 -- ---- flights that are put in one after another
 
-pub packets_made : (w : NetworkState) (node : ℕ) (ps : List Frame) → (with_packets w node ps).made ≡ w.made + length ps
+pub packets_made : (w : NetworkState) (node : ℕ) (ps : List PacketValue) → (with_packets w node ps).made ≡ w.made + length ps
 packets_made w node [] = omega arith
 packets_made w node (p ∷ ps) = packets_made (with_packet w node p) node ps ∙ omega arith
 
-pub packet_there : (w : NetworkState) (node : ℕ) (p : Frame) → (with_packet w node p).flight (w.made + 1) ≡ Some (new_flight node p)
+pub packet_there : (w : NetworkState) (node : ℕ) (p : PacketValue) → (with_packet w node p).flight (w.made + 1) ≡ Some (new_flight node p)
 packet_there w node p = elim (eqb_tells (w.made + 1) (w.made + 1)) [ inl same ↦ rw same.0 refl | inr other ↦ absurd (other.1 refl) ]
 
-pub packet_others : (w : NetworkState) (node : ℕ) (p : Frame) (k : ℕ) → k ≢ w.made + 1 → (with_packet w node p).flight k ≡ w.flight k
+pub packet_others : (w : NetworkState) (node : ℕ) (p : PacketValue) (k : ℕ) → k ≢ w.made + 1 → (with_packet w node p).flight k ≡ w.flight k
 packet_others w node p k other = elim (eqb_tells k (w.made + 1)) [ inl same ↦ absurd (other same.1) | inr apart ↦ rw apart.0 refl ]
 
-pub packets_history : (w : NetworkState) (node : ℕ) (ps : List Frame) → (with_packets w node ps).history ≡ w.history
+pub packets_history : (w : NetworkState) (node : ℕ) (ps : List PacketValue) → (with_packets w node ps).history ≡ w.history
 packets_history w node [] = refl
 packets_history w node (p ∷ ps) = packets_history (with_packet w node p) node ps
 
 -- what is on its way where these packets were put in from a number on, and nothing else is there
-pub record AreUnderWay (w : NetworkState) (base node : ℕ) (ps : List Frame) : Type 0 where
-  pub flights : (i : ℕ) (p : Frame) → slice_get ps i ≡ Some p → w.flight (base + 1 + i) ≡ Some (new_flight node p)
+pub record AreUnderWay (w : NetworkState) (base node : ℕ) (ps : List PacketValue) : Type 0 where
+  pub flights : (i : ℕ) (p : PacketValue) → slice_get ps i ≡ Some p → w.flight (base + 1 + i) ≡ Some (new_flight node p)
   pub others : (k : ℕ) → (k ≤ base) ⊎ (base + length ps < k) → w.flight k ≡ None
 
-pub packets_under_way : (w : NetworkState) (node : ℕ) (ps : List Frame) → ((k : ℕ) → w.flight k ≡ None) → AreUnderWay (with_packets w node ps) w.made node ps
+pub packets_under_way : (w : NetworkState) (node : ℕ) (ps : List PacketValue) → ((k : ℕ) → w.flight k ≡ None) → AreUnderWay (with_packets w node ps) w.made node ps
 packets_under_way w node ps none = record {
   flights = flights w ps;
   others = λ k out. others w ps k out ∙ none k;
 }
   where
-    flights : (w : NetworkState) (ps : List Frame) (i : ℕ) (p : Frame) → slice_get ps i ≡ Some p → (with_packets w node ps).flight (w.made + 1 + i) ≡ Some (new_flight node p)
+    flights : (w : NetworkState) (ps : List PacketValue) (i : ℕ) (p : PacketValue) → slice_get ps i ≡ Some p → (with_packets w node ps).flight (w.made + 1 + i) ≡ Some (new_flight node p)
     flights w [] i p is = absurd (none-some p is)
     flights w (q ∷ qs) zero p is =
         let S : ℕ → Type 0 = λ k. (with_packets (with_packet w node q) node qs).flight k ≡ Some (new_flight node p) in
@@ -88,7 +88,7 @@ packets_under_way w node ps none = record {
         let number : w.made + 1 + 1 + i ≡ w.made + 1 + suc i = omega arith in
         subst S number (flights (with_packet w node q) qs i p is)
 
-    others : (w : NetworkState) (ps : List Frame) (k : ℕ) → (k ≤ w.made) ⊎ (w.made + length ps < k) → (with_packets w node ps).flight k ≡ w.flight k
+    others : (w : NetworkState) (ps : List PacketValue) (k : ℕ) → (k ≤ w.made) ⊎ (w.made + length ps < k) → (with_packets w node ps).flight k ≡ w.flight k
     others w [] k out = refl
     others w (q ∷ qs) k (inl low) = others (with_packet w node q) qs k (inl (omega arith)) ∙ packet_others w node q k (λ same. omega (arith, low, same))
     others w (q ∷ qs) k (inr high) = others (with_packet w node q) qs k (inr (omega arith)) ∙ packet_others w node q k (λ same. omega (arith, high, same))

@@ -4,8 +4,8 @@ use Rattle.std.specs.Prelude.{slice_get}
 use Rattle.std.specs.List.{AllByRecursion}
 use Rattle.std.proofs.lemmas.Bool.Decides.{eqb_tells}
 use Rattle.std.proofs.lemmas.Option.{same_Some, none-some}
-use Rattle.mctp_transport.specs.Frames.{Frame, KeyValue, Spelled}
-use Rattle.mctp_transport.specs.FrameLaws.{one_frame}
+use Rattle.mctp_transport.specs.PacketValues.{PacketValue, KeyValue, Spelled}
+use Rattle.mctp_transport.specs.PacketValueLaws.{one_packet_value}
 use Rattle.mctp_transport.specs.Hearing.{Answer}
 use Rattle.net_tables.specs.Routing.{Holds}
 use Rattle.net_runs.specs.States.{NetworkState, Flight, with_packet, unit_of}
@@ -119,9 +119,9 @@ after_joins w (turn ∷ earlier) later = after_joins turn.after earlier later
 
 -- the flight of a put has its packet
 put_flies : (tables : Tables) (w : NetworkState) (node flight : ℕ) (bytes : List ℕ) (new : NetworkState) → network.Step tables w (Put node bytes) (PutIn flight node) new
-    → (p : Frame) → Spelled (unit_of tables.plan) p bytes → (f : Flight) × (new.flight flight ≡ Some f) × (f.packet ≡ p)
+    → (p : PacketValue) → Spelled (unit_of tables.plan) p bytes → (f : Flight) × (new.flight flight ≡ Some f) × (f.packet ≡ p)
 put_flies tables w node flight bytes new (may, (q, spelled, number, at, is)) p mine =
-    let same : q ≡ p = one_frame (unit_of tables.plan) q p spelled.0 mine.0 (sym spelled.1 ∙ mine.1) in
+    let same : q ≡ p = one_packet_value (unit_of tables.plan) q p spelled.0 mine.0 (sym spelled.1 ∙ mine.1) in
     let there : (with_packet w node q).flight flight ≡ Some (new_flight node q) = elim (eqb_tells flight (w.made + 1)) [
       | inl here ↦ rw here.0 refl
       | inr other ↦ absurd (other.1 number)
@@ -130,7 +130,7 @@ put_flies tables w node flight bytes new (may, (q, spelled, number, at, is)) p m
 
 module _ (tables : Tables) where
   pub puts_alike : (w : WalkedState) (event : WalkedEvent) (outcome : WalkedOutcome) (new : WalkedState) (lower : EventValue) (told : OutcomeValue) → IsAlikeBelow tables w event outcome new lower told
-      → (p : Frame) → IsPutOf tables.plan lower told new.network p → IsPutOfWalked tables.plan event outcome new.network p
+      → (p : PacketValue) → IsPutOf tables.plan lower told new.network p → IsPutOfWalked tables.plan event outcome new.network p
   puts_alike w (Happening event) (Happened outcome handed) new lower told (is, said) p put =
       let E : EventValue → Type 0 = λ e. IsPutOf tables.plan e told new.network p in
       let O : OutcomeValue → Type 0 = λ o. IsPutOf tables.plan event o new.network p in
@@ -166,7 +166,7 @@ module _ (tables : Tables) where
 
   -- ---- what alike runs say alike
 
-  pub puts_below : (w : WalkedState) (turns : List WalkedTurn) (below : List Turn) → AreBelow tables w turns below → (p : Frame) → WasPutIn tables.plan below p → WasPutInWalked tables.plan turns p
+  pub puts_below : (w : WalkedState) (turns : List WalkedTurn) (below : List Turn) → AreBelow tables w turns below → (p : PacketValue) → WasPutIn tables.plan below p → WasPutInWalked tables.plan turns p
   puts_below w [] [] alike p put = absurd put
   puts_below w [] (b ∷ bs) alike p put = absurd alike
   puts_below w (turn ∷ turns) [] alike p put = absurd put

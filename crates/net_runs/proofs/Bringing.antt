@@ -3,7 +3,7 @@ use Rattle.std.proofs.Common.{◌≡◌, ◌≢◌, ◌⊎◌, ℕ, suc, ◌+◌
 use Rattle.std.specs.List.{AllByRecursion}
 use Rattle.std.proofs.lemmas.Bool.{cases_order}
 use Rattle.std.proofs.lemmas.List.{append_assoc}
-use Rattle.mctp_transport.specs.Frames.{Frame, KeyValue, key_of}
+use Rattle.mctp_transport.specs.PacketValues.{PacketValue, KeyValue, key_of}
 use Rattle.mctp_transport.specs.Messages.{Joined}
 use Rattle.mctp_transport.specs.Histories.{History}
 use Rattle.mctp_transport.specs.Hearing.{Answer, Whole, Held, Hears}
@@ -24,7 +24,7 @@ use Rattle.net_runs.proofs.Travels.{Now, HasEnteredThere, enters_there}
 
 module _ (tables : Tables) (cert : Certificate) (lawful : IsLawful tables cert) (walkers : ℕ → Option WalkerValue) (begun : ℕ) where
   -- a packet has a way from where it is put in
-  pub way_is_route : (n d : ℕ) (p : Frame) → p.destination ≡ d → Holds tables.plan n d ⊎ HasRowAlways tables n d → IsOnRoute tables (new_flight n p)
+  pub way_is_route : (n d : ℕ) (p : PacketValue) → p.destination ≡ d → Holds tables.plan n d ⊎ HasRowAlways tables n d → IsOnRoute tables (new_flight n p)
   way_is_route n d p to way =
       let W : ℕ → Type 0 = λ e. Holds tables.plan n e ⊎ HasRowAlways tables n e in
       elim (subst W (sym to) way) [ inl here ↦ inl here | inr row ↦ inr (inr refl, row) ]
@@ -57,10 +57,10 @@ module _ (tables : Tables) (cert : Certificate) (lawful : IsLawful tables cert) 
       terminus = later.terminus ∙ terminus;
     }
 
-    abbrev pub IsOfMessage : Frame → Type 0
+    abbrev pub IsOfMessage : PacketValue → Type 0
     IsOfMessage p = (key_of p ≡ key) × (p.destination ≡ d)
 
-    enters : (w : NetworkState) (k : ℕ) (p : Frame) (answer : Answer) → w.flight k ≡ Some (new_flight n p) → IsOfMessage p → Hears slots limit (w.history a) p answer
+    enters : (w : NetworkState) (k : ℕ) (p : PacketValue) (answer : Answer) → w.flight k ≡ Some (new_flight n p) → IsOfMessage p → Hears slots limit (w.history a) p answer
         → HasEnteredThere tables cert lawful walkers begun w k (new_flight n p) a answer
     enters w k p answer there (mine, to) hears =
         let H : ℕ → Type 0 = λ e. Holds tables.plan a e in
@@ -69,7 +69,7 @@ module _ (tables : Tables) (cert : Certificate) (lawful : IsLawful tables cert) 
     stays_closed : (w new : NetworkState) → ((j : ℕ) → j ≢ a → new.history j ≡ w.history j) → ((m : ℕ) → m ≢ a → IsClosed (w.history m)) → (m : ℕ) → m ≢ a → IsClosed (new.history m)
     stays_closed w new elsewhere closed m other = let C : History → Type 0 = IsClosed in subst C (sym (elsewhere m other)) (closed m other)
 
-    brings : (front rest : List Frame) (w : NetworkState) (base : ℕ) → 0 < length rest → Joined (front ++ rest) message → AllByRecursion IsOfMessage rest → AreUnderWay w base n rest
+    brings : (front rest : List PacketValue) (w : NetworkState) (base : ℕ) → 0 < length rest → Joined (front ++ rest) message → AllByRecursion IsOfMessage rest → AreUnderWay w base n rest
         → Awaits (w.history a) key front → ((m : ℕ) → m ≢ a → IsClosed (w.history m)) → Brings w
     brings front [] w base some joined all under awaits closed = absurd (omega arith)
     brings front (p ∷ []) w base some joined all under awaits closed =
@@ -104,7 +104,7 @@ module _ (tables : Tables) (cert : Certificate) (lawful : IsLawful tables cert) 
         no_owner : (k : KeyValue) → k.owner ≡ false → (with_received w a k (Whole message)).terminus ≡ w.terminus
         no_owner k is = rw is refl
     brings front (p ∷ q ∷ rest) w base some joined all under awaits closed =
-        let J : List Frame → Type 0 = λ ps. Joined ps message in
+        let J : List PacketValue → Type 0 = λ ps. Joined ps message in
         let joined_on : Joined ((front ++ p ∷ []) ++ q ∷ rest) message = subst J (sym (append_assoc front (p ∷ []) (q ∷ rest))) joined in
         let kept = held message key fits (w.history a) front rest p q joined_on all.0.0 awaits in
         let number_first : w.flight (base + 1) ≡ w.flight (base + 1 + 0) = ap w.flight (let e : base + 1 ≡ base + 1 + 0 = omega arith in e) in
@@ -130,6 +130,6 @@ module _ (tables : Tables) (cert : Certificate) (lawful : IsLawful tables cert) 
         e.made e.terminus later
 
     -- all packets of the message
-    pub all_brought : (ps : List Frame) (w : NetworkState) (base : ℕ) → 0 < length ps → Joined ps message → AllByRecursion IsOfMessage ps → AreUnderWay w base n ps
+    pub all_brought : (ps : List PacketValue) (w : NetworkState) (base : ℕ) → 0 < length ps → Joined ps message → AllByRecursion IsOfMessage ps → AreUnderWay w base n ps
         → ((m : ℕ) → IsClosed (w.history m)) → Brings w
     all_brought ps w base some joined all under closed = brings [] ps w base some joined all under (closed a) (λ m other. closed m)

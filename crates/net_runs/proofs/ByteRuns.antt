@@ -4,7 +4,7 @@ use Rattle.std.specs.Prelude.{All, option_map}
 use Rattle.std.specs.List.{AllByRecursion}
 use Rattle.std.proofs.lemmas.Option.{same_Some}
 use Rattle.std.proofs.lemmas.List.Elements.{All-head, All-tail, All-from_recursion, recursion_from_All}
-use Rattle.mctp_transport.specs.Frames.{Frame, KeyValue, key_of}
+use Rattle.mctp_transport.specs.PacketValues.{PacketValue, KeyValue, key_of}
 use Rattle.mctp_transport.specs.Messages.{payloads_of}
 use Rattle.mctp_transport.specs.Cutting.{ArePacketsOf}
 use Rattle.mctp_transport.specs.Histories.{Input, Arrived, TimeUp, History, EachArrival}
@@ -12,7 +12,7 @@ use Rattle.mctp_transport.specs.Hearing.{Answer, Whole, Held, Dropped, Hears}
 use Rattle.mctp_transport.proofs.Arrivals.{EachArrival-append, EachArrival-last_of}
 use Rattle.mctp_transport.proofs.Collecting.{comes_from_such}
 use Rattle.mctp_transport.proofs.PacketLists.{joined_payloads}
-use Rattle.mctp_bridge.specs.declared.decision.Decision.TheVariants.{Here, Drop, Forward}
+use Rattle.mctp_bridge.specs.declared.decision.Decision.TheVariants.{Deliver, Drop, Forward}
 use Rattle.net_plan.specs.declared.certificate.Certificate.{Certificate}
 use Rattle.net_plan.specs.declared.terminus.PlannedTerminus.{PlannedTerminus}
 use Rattle.net_tables.specs.Repositories.{terminus_of, records_by_place}
@@ -34,7 +34,7 @@ pub are_bytes : (bytes : List ℕ) → EachByte bytes → AreBytes bytes
 are_bytes bytes all = All-from_recursion (λ b. b < 256) bytes all
 
 -- a packet of bytes
-abbrev IsOfBytes : Frame → Type 0
+abbrev IsOfBytes : PacketValue → Type 0
 IsOfBytes p = EachByte p.payload
 
 -- the parts of bytes are bytes
@@ -42,15 +42,15 @@ left_bytes : (xs ys : List ℕ) → EachByte (xs ++ ys) → EachByte xs × EachB
 left_bytes [] ys all = (tt, all)
 left_bytes (x ∷ xs) ys all = let h = left_bytes xs ys all.1 in ((all.0, h.0), h.1)
 
-packets_of_bytes : (ps : List Frame) → EachByte (payloads_of ps) → AllByRecursion IsOfBytes ps
+packets_of_bytes : (ps : List PacketValue) → EachByte (payloads_of ps) → AllByRecursion IsOfBytes ps
 packets_of_bytes [] all = tt
 packets_of_bytes (p ∷ ps) all = let h = left_bytes p.payload (payloads_of ps) all in (h.0, packets_of_bytes ps h.1)
 
-joined_bytes : (ps : List Frame) → AllByRecursion IsOfBytes ps → EachByte (payloads_of ps)
+joined_bytes : (ps : List PacketValue) → AllByRecursion IsOfBytes ps → EachByte (payloads_of ps)
 joined_bytes [] all = tt
 joined_bytes (p ∷ ps) all = bytes_append p.payload (payloads_of ps) all.0 (joined_bytes ps all.1)
 
-cut_bytes : (unit : ℕ) (answer : List ℕ) (d : ℕ) (key : KeyValue) (ps : List Frame) → ArePacketsOf unit answer d key 0 ps → EachByte answer → AllByRecursion IsOfBytes ps
+cut_bytes : (unit : ℕ) (answer : List ℕ) (d : ℕ) (key : KeyValue) (ps : List PacketValue) → ArePacketsOf unit answer d key 0 ps → EachByte answer → AllByRecursion IsOfBytes ps
 cut_bytes unit answer d key ps are all = let E : List ℕ → Type 0 = EachByte in packets_of_bytes ps (subst E (are.cut.whole ∙ joined_payloads ps) all)
 
 -- a terminus of bytes
@@ -75,7 +75,7 @@ next_flights tables w new bytes next number g is = elim (next.flights number g i
 ]
 
 given_bytes : (tables : Tables) (w : NetworkState) (n : ℕ) (i : Input) → IsByteNetwork w → MayBeGiven tables w n i → EachArrival IsOfBytes (i ∷ [])
-given_bytes tables w n (Arrived p) bytes (holds, (f, (number, there), same)) = let P : Frame → Type 0 = IsOfBytes in (subst P same (bytes.flights number f there), tt)
+given_bytes tables w n (Arrived p) bytes (holds, (f, (number, there), same)) = let P : PacketValue → Type 0 = IsOfBytes in (subst P same (bytes.flights number f there), tt)
 given_bytes tables w n (TimeUp key) bytes may = tt
 
 next_arrivals : (tables : Tables) (w new : NetworkState) → IsByteNetwork w → IsNext tables w IsOfBytes new → (n : ℕ) → EachArrival IsOfBytes (new.history n)
@@ -126,7 +126,7 @@ received_bytes w node key (Dropped why) kept whole = kept
 
 module _ (tables : Tables) where
   -- what is heard whole is bytes
-  pub whole_bytes : (h : History) (p : Frame) (answer : Answer) → EachArrival IsOfBytes h → IsOfBytes p → Hears slots limit h p answer → (message : List ℕ) → answer ≡ Whole message
+  pub whole_bytes : (h : History) (p : PacketValue) (answer : Answer) → EachArrival IsOfBytes h → IsOfBytes p → Hears slots limit h p answer → (message : List ℕ) → answer ≡ Whole message
       → EachByte message
   whole_bytes h p answer arrived new hears message is =
       let H : Answer → Type 0 = Hears slots limit h p in
@@ -136,7 +136,7 @@ module _ (tables : Tables) where
 
   moves_bytes : (w v : NetworkState) (k : ℕ) (f : Flight) (outcome : OutcomeValue) (new : NetworkState) → IsByteNetwork w → v.history ≡ w.history → v.terminus ≡ w.terminus
       → IsOfBytes f.packet → Moves tables v k f outcome new → ByteTermini new
-  moves_bytes w v k f (Entered j node key answer) new bytes same held packet (Here, holds, (number, at, whose, hears, is)) =
+  moves_bytes w v k f (Entered j node key answer) new bytes same held packet (Deliver, holds, (number, at, whose, hears, is)) =
       let P : NetworkState → Type 0 = ByteTermini in
       let T : (ℕ → Option TerminusState) → Type 0 = λ terminus. (n : ℕ) (t : TerminusState) → terminus n ≡ Some t → IsOfByteValues t in
       let H : (ℕ → History) → Type 0 = λ history. (n : ℕ) → EachArrival IsOfBytes (history n) in

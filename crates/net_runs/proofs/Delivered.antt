@@ -3,15 +3,15 @@ use Rattle.std.proofs.Common.{◌≡◌, ◌≢◌, ◌⊎◌, ℕ, suc, ◌+◌
 use Rattle.std.specs.List.{AllByRecursion}
 use Rattle.std.proofs.lemmas.List.Elements.{recursion_from_All}
 use Rattle.std.proofs.lemmas.Option.{same_Some, none-some}
-use Rattle.mctp_transport.specs.Frames.{Frame}
+use Rattle.mctp_transport.specs.PacketValues.{PacketValue}
 use Rattle.net_plan.specs.declared.certificate.Certificate.{Certificate}
 use Rattle.net_tables.specs.Routing.{Holds, IsBridge}
 use Rattle.net_tables.proofs.TableLaws.{routed, named}
 use Rattle.net_tables.specs.Ranks.{rank}
 use Rattle.mctp_bridge.specs.declared.row.Hop.{Hop}
-use Rattle.mctp_bridge.specs.declared.decision.Obstacle.{Obstacle}
-use Rattle.mctp_bridge.specs.declared.decision.Obstacle.TheVariants.{Unassignable, NoBridge, NoRow}
-use Rattle.mctp_bridge.specs.declared.decision.Decision.TheVariants.{Here, Drop, Forward}
+use Rattle.mctp_bridge.specs.declared.decision.ForwardFault.{ForwardFault}
+use Rattle.mctp_bridge.specs.declared.decision.ForwardFault.TheVariants.{Unassignable, NoBridge, NoRow}
+use Rattle.mctp_bridge.specs.declared.decision.Decision.TheVariants.{Deliver, Drop, Forward}
 use Rattle.net_runs.specs.States.{NetworkState, Flight, at_start, destination, without_flight, with_made, rows_now}
 use Rattle.net_tables.specs.TwoPlans.{Tables, HasRowAlways}
 use Rattle.net_runs.specs.Events.{EventValue, Move, OutcomeValue, Stopped, Lost}
@@ -24,6 +24,7 @@ use Rattle.net_runs.proofs.RowsNow.{row_now}
 use Rattle.net_runs.proofs.Kept.{Kept, at_start_keeps, next_keeps}
 use Rattle.net_runs.proofs.Fates.{counts, moved_to, step_fate}
 use Rattle.net_runs.proofs.Promised.{run_parts}
+use Rattle.net_runs.proofs.Below.{after_joins}
 
 -- the flight is where its destination is held, or where it is forwarded along a row
 abbrev pub IsOnRoute : Tables → Flight → Type 0
@@ -52,7 +53,7 @@ module _ (tables : Tables) (cert : Certificate) (lawful : IsLawful tables cert) 
       ] in
       subst P (sym moved.is) now deliverable
 
-  new_on_route : (puts : Frame → Type 0) (g : Flight) → IsNew puts g → IsDeliverable tables g → IsOnRoute tables g
+  new_on_route : (puts : PacketValue → Type 0) (g : Flight) → IsNew puts g → IsDeliverable tables g → IsOnRoute tables g
   new_on_route puts g new deliverable =
       let P : Flight → Type 0 = λ h. IsDeliverable tables h → IsOnRoute tables h in
       subst P (sym new.is) (λ d. elim d.1 [ inl holds ↦ inl holds | inr row ↦ inr (inr refl, row) ]) deliverable
@@ -73,7 +74,7 @@ module _ (tables : Tables) (cert : Certificate) (lawful : IsLawful tables cert) 
   run_is_ready w (turn ∷ turns) ready (step, rest) = run_is_ready turn.after turns (step_is_ready w turn ready step) rest
 
   -- no flight on its route is stopped
-  never_ends : (w : NetworkState) (f : Flight) (why : Obstacle) → IsDeliverable tables f → IsOnRoute tables f
+  never_ends : (w : NetworkState) (f : Flight) (why : ForwardFault) → IsDeliverable tables f → IsOnRoute tables f
       → IsDecided tables.plan (rows_now tables w f.node) f (Drop why) → ⊥
   never_ends w f Unassignable deliverable route (away, not) = not (lawful.eids deliverable.0.0 (destination f) deliverable.0.1)
   never_ends w f NoBridge deliverable route (away, may, stays) = elim route [ inl here ↦ away here | inr goes ↦ stays goes.0 ]
@@ -193,17 +194,13 @@ module _ (tables : Tables) (cert : Certificate) (lawful : IsLawful tables cert) 
   run_splits w [] later run = (tt, run)
   run_splits w (turn ∷ earlier) later (step, rest) = let h = run_splits turn.after earlier later rest in ((step, h.0), h.1)
 
-  after_splits : (w : NetworkState) (earlier later : List Turn) → after_all w (earlier ++ later) ≡ after_all (after_all w earlier) later
-  after_splits w [] later = refl
-  after_splits w (turn ∷ earlier) later = after_splits turn.after earlier later
-
   becomes : (earlier later : List Turn) (number : ℕ) (f : Flight) → RunOf tables cert (earlier ++ later) → (reached tables.plan cert earlier).flight number ≡ Some f
       → IsDeliverable tables f → IsNotLost number later → Becomes number f later (reached tables.plan cert (earlier ++ later))
   becomes earlier later number f run stands deliverable kept =
       let parts = run_splits (at_start tables.plan cert) earlier later run in
       let ready = run_is_ready (at_start tables.plan cert) earlier (start_is_ready tables cert) parts.0 in
       let B : NetworkState → Type 0 = Becomes number f later in
-      subst B (sym (after_splits (at_start tables.plan cert) earlier later))
+      subst B (sym (after_joins (at_start tables.plan cert) earlier later))
       (track (reached tables.plan cert earlier) later number f ready parts.1 stands deliverable (recursion_from_All (λ turn. turn.outcome ≢ Lost number) later kept))
 
   -- a flight on its way has made no more moves than it is certified
@@ -212,19 +209,19 @@ module _ (tables : Tables) (cert : Certificate) (lawful : IsLawful tables cert) 
   few_hops turns later number f run way =
       let ready = run_is_ready (at_start tables.plan cert) turns (start_is_ready tables cert) run in
       let within = (ready.kept.flights number way.flight way.stands).0 in
-      let R : Frame → Type 0 = λ p. way.flight.hops + rank cert way.flight.node p.destination ≤ rank cert way.flight.origin p.destination in
+      let R : PacketValue → Type 0 = λ p. way.flight.hops + rank cert way.flight.node p.destination ≤ rank cert way.flight.origin p.destination in
       let O : ℕ → Type 0 = λ n. way.flight.hops + rank cert way.flight.node (destination f) ≤ rank cert n (destination f) in
       let h = subst O way.origin (subst R way.packet within) in
       let hops = way.hops in
       omega arith
 
   -- what a move that ends a flight has decided
-  stopped_by : (v : NetworkState) (k j : ℕ) (f : Flight) (why : Obstacle) (new : NetworkState) → Moves tables v k f (Stopped j why) new → IsDecided tables.plan (rows_now tables v f.node) f (Drop why)
-  stopped_by v k j f why new (Here, decided, done) = absurd done
-  stopped_by v k j f why new (Drop other, decided, (same, told, is)) = let D : Obstacle → Type 0 = λ o. IsDecided tables.plan (rows_now tables v f.node) f (Drop o) in subst D (sym told) decided
+  stopped_by : (v : NetworkState) (k j : ℕ) (f : Flight) (why : ForwardFault) (new : NetworkState) → Moves tables v k f (Stopped j why) new → IsDecided tables.plan (rows_now tables v f.node) f (Drop why)
+  stopped_by v k j f why new (Deliver, decided, done) = absurd done
+  stopped_by v k j f why new (Drop other, decided, (same, told, is)) = let D : ForwardFault → Type 0 = λ o. IsDecided tables.plan (rows_now tables v f.node) f (Drop o) in subst D (sym told) decided
   stopped_by v k j f why new (Forward hop, decided, done) = absurd done
 
-  step_stopped : (w : NetworkState) (number : ℕ) (keep : Bool) (f : Flight) (k : ℕ) (why : Obstacle) (new : NetworkState) → w.flight number ≡ Some f
+  step_stopped : (w : NetworkState) (number : ℕ) (keep : Bool) (f : Flight) (k : ℕ) (why : ForwardFault) (new : NetworkState) → w.flight number ≡ Some f
       → Step tables w (Move number keep) (Stopped k why) new → IsDecided tables.plan (rows_now tables w f.node) f (Drop why)
   step_stopped w number false f k why new stands (may, (g, stood, moves)) =
       let D : Flight → Type 0 = λ h. IsDecided tables.plan (rows_now tables w h.node) h (Drop why) in

@@ -3,7 +3,7 @@ use Rattle.std.proofs.Common.{◌≡◌, ◌⊎◌, ℕ, ◌*◌, ◌≤◌, Lis
 use Rattle.std.specs.List.{AllByRecursion}
 use Rattle.std.proofs.lemmas.Option.{same_Some}
 use Rattle.std.proofs.lemmas.List.Elements.{All-from_recursion}
-use Rattle.mctp_transport.specs.Frames.{Frame, KeyValue, key_of}
+use Rattle.mctp_transport.specs.PacketValues.{PacketValue, KeyValue, key_of}
 use Rattle.mctp_transport.specs.Histories.{Input, Arrived, TimeUp, History, EachArrival, key_of_input, last_of, IsOpen}
 use Rattle.mctp_transport.proofs.Collecting.{collected_more, comes_from_such}
 use Rattle.mctp_transport.proofs.Sending.{joins_to_itself}
@@ -38,10 +38,10 @@ module _ (unit : ℕ) (tables : Tables) (key : KeyValue) (d : ℕ) where
   one_eid : (n e : ℕ) → Holds tables.plan n e → Holds tables.plan n d → e ≡ d
   one_eid n e one other = same_Some e d (sym one ∙ other)
 
-  abbrev PutsOfEpoch : Epoch → (Frame → Type 0) → Type 0
-  PutsOfEpoch epoch puts = (p : Frame) → puts p → key_of p ≡ key → p.destination ≡ d → IsOfEpoch unit epoch key d p
+  abbrev PutsOfEpoch : Epoch → (PacketValue → Type 0) → Type 0
+  PutsOfEpoch epoch puts = (p : PacketValue) → puts p → key_of p ≡ key → p.destination ≡ d → IsOfEpoch unit epoch key d p
 
-  flight_of_epoch : (epoch : Epoch) (w : NetworkState) (puts : Frame → Type 0) (g : Flight) → IsExact epoch w → PutsOfEpoch epoch puts
+  flight_of_epoch : (epoch : Epoch) (w : NetworkState) (puts : PacketValue → Type 0) (g : Flight) → IsExact epoch w → PutsOfEpoch epoch puts
       → IsThere w g ⊎ (HasMoved tables w g ⊎ IsNew puts g) → key_of g.packet ≡ key → destination g ≡ d → IsOfEpoch unit epoch key d g.packet
   flight_of_epoch epoch w puts g exact tidy (inl (number, is)) mine there = exact.flights number g is mine there
   flight_of_epoch epoch w puts g exact tidy (inr (inl moved)) mine there =
@@ -54,12 +54,12 @@ module _ (unit : ℕ) (tables : Tables) (key : KeyValue) (d : ℕ) where
   given_of_epoch : (epoch : Epoch) (w : NetworkState) (n : ℕ) (i : Input) → IsExact epoch w → Holds tables.plan n d → MayBeGiven tables w n i → key_of_input i ≡ key
       → EachArrival (IsOfEpoch unit epoch key d) (i ∷ [])
   given_of_epoch epoch w n (Arrived p) exact holds (there, (f, (number, is), same)) mine =
-      let P : Frame → Type 0 = λ q. key_of q ≡ key → q.destination ≡ d → IsOfEpoch unit epoch key d q in
+      let P : PacketValue → Type 0 = λ q. key_of q ≡ key → q.destination ≡ d → IsOfEpoch unit epoch key d q in
       (subst P same (exact.flights number f is) mine (one_eid n p.destination there holds), tt)
   given_of_epoch epoch w n (TimeUp k) exact holds may mine = tt
 
   -- each step keeps it, where what it puts in is of the epoch
-  next_is_exact : (epoch : Epoch) (w : NetworkState) (puts : Frame → Type 0) (new : NetworkState) → IsExact epoch w → PutsOfEpoch epoch puts → IsNext tables w puts new
+  next_is_exact : (epoch : Epoch) (w : NetworkState) (puts : PacketValue → Type 0) (new : NetworkState) → IsExact epoch w → PutsOfEpoch epoch puts → IsNext tables w puts new
       → IsExact epoch new
   next_is_exact epoch w puts new exact tidy next = record {
     flights = λ number g is mine there. flight_of_epoch epoch w puts g exact tidy (next.flights number g is) mine there;

@@ -3,7 +3,7 @@ use Rattle.std.proofs.Common.{◌≡◌, ◌≢◌, ◌⊎◌, ℕ, ◌<◌, ◌
 use Rattle.std.specs.Prelude.{All, option_map, ◌==◌, ◌||◌, if◌then◌else◌}
 use Rattle.std.proofs.lemmas.Option.{same_Some}
 use Rattle.std.proofs.lemmas.List.Elements.{All-nil}
-use Rattle.mctp_transport.specs.Frames.{Frame, KeyValue, IsFrame, frame_bytes}
+use Rattle.mctp_transport.specs.PacketValues.{PacketValue, KeyValue, IsPacketValue, packet_value_bytes}
 use Rattle.mctp_transport.specs.Cutting.{ArePacketsOf}
 use Rattle.mctp_transport.proofs.Sending.{few_packets, many_packets}
 use Rattle.pldm_message.specs.InstanceIds.{IdSet}
@@ -107,7 +107,7 @@ module _ (tables : Tables) (cert : Certificate) (switched : ℕ → Bool) (node 
   abbrev asked : WalkState
   asked = record first.walk { waiting = Some 0 }
 
-  may_put : (p : Frame) → IsFrame (unit_of tables.plan) p → (why : Refusal) → ¬ IsRefused tables (switched_at_start tables.plan cert switched) (Put node (frame_bytes p)) why
+  may_put : (p : PacketValue) → IsPacketValue (unit_of tables.plan) p → (why : Refusal) → ¬ IsRefused tables (switched_at_start tables.plan cert switched) (Put node (packet_value_bytes p)) why
   may_put p lawful N01 refused = omega (arith, within, refused)
   may_put p lawful N02 refused = refused p (lawful, refl)
   may_put p lawful N03 refused = refused
@@ -116,14 +116,14 @@ module _ (tables : Tables) (cert : Certificate) (switched : ℕ → Bool) (node 
   may_put p lawful N06 refused = omega arith
   may_put p lawful N07 refused = refused
 
-  asking : (p : Frame) → ArePacketsOf (unit_of tables.plan) request eid key 0 (p ∷ []) → IsFrame (unit_of tables.plan) p
+  asking : (p : PacketValue) → ArePacketsOf (unit_of tables.plan) request eid key 0 (p ∷ []) → IsPacketValue (unit_of tables.plan) p
       → IsAsking tables (switched_at_start tables.plan cert switched) first 1 (with_packet (switched_at_start tables.plan cert switched) node p) (record first { walk = asked; ids = ids })
   asking p are lawful = record {
     own = own;
     id = 0;
     request = request;
     packet = p;
-    bytes = frame_bytes p;
+    bytes = packet_value_bytes p;
     walk = asked;
     ids = ids;
     holds = home;
@@ -160,7 +160,7 @@ module _ (tables : Tables) (cert : Certificate) (switched : ℕ → Bool) (node 
   asks : (three : WalkedTurn) × WalkedStep tables begun_at three.event three.outcome three.after × (three.event ≡ Ask 1) × (three.outcome ≡ Asked 1 1)
   asks = by (message_packets tables.plan request eid key)
     where
-      by : (ps : List Frame) × ArePacketsOf (unit_of tables.plan) request eid key 0 ps
+      by : (ps : List PacketValue) × ArePacketsOf (unit_of tables.plan) request eid key 0 ps
           → (three : WalkedTurn) × WalkedStep tables begun_at three.event three.outcome three.after × (three.event ≡ Ask 1) × (three.outcome ≡ Asked 1 1)
       by ([], are) = absurd (omega (arith, many_packets (unit_of tables.plan) request eid key 0 [] are))
       by (p ∷ q ∷ ps, are) = absurd (omega (arith, few_packets (unit_of tables.plan) 1 request eid key 0 (p ∷ q ∷ ps) are (omega (arith, least_unit tables.plan))))

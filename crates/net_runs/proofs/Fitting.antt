@@ -8,19 +8,19 @@ use Rattle.std.proofs.lemmas.Nat.{mul-le}
 use Rattle.std.proofs.lemmas.List.{length-map, length-take, length-drop}
 use Rattle.std.proofs.lemmas.List.Sums.{sum_by-append}
 use Rattle.std.proofs.lemmas.Option.{same_Some, slice_get_within, none-some}
-use Rattle.pldm_message.specs.Messages.{AnswerMessage}
+use Rattle.pldm_message.specs.Messages.{ResponseMessage}
 use Rattle.pldm_message.specs.Pdrs.{PartRequest, Part}
-use Rattle.pldm_message.specs.PdrLaws.{one_get_pdr_answer}
+use Rattle.pldm_message.specs.PdrLaws.{one_get_pdr_response}
 use Rattle.pdr_repository.specs.Records.{Entry, bytes_by_place}
 use Rattle.pdr_repository.specs.Parts.{PartAnswer, offset_of}
 use Rattle.pdr_repository.specs.Walks.{Exchange, exchanges}
 use Rattle.pdr_repository.specs.Faults.{Room, IsTooMuch, Judges}
-use Rattle.pdr_repository.specs.declared.walk_fault.Step.{Step}
+use Rattle.pdr_repository.specs.declared.walk_fault.WalkProgress.{WalkProgress}
 use Rattle.pdr_repository.specs.declared.walk_fault.WalkFault.{WalkFault}
 use Rattle.pdr_repository.specs.declared.walk_fault.WalkFault.TheVariants.{FailedBefore, NotAsked, Unreadable, RecordChanged, OtherCode, WrongFlag, WrongSize, WrongCrc, WrongHandle, DoubledHandle, TooMuch, OutOfMemory}
 use Rattle.pdr_repository.specs.Walkers.{WalkState, IsAnswerIn, Takes, TakesOutcome, room_of, IsDueAnswer, WalksOn}
 use Rattle.pdr_repository.proofs.Collecting.{collects_once}
-use Rattle.pdr_repository.proofs.Dues.{IsAt}
+use Rattle.pdr_repository.proofs.Dues.{at_offset}
 use Rattle.pdr_repository.proofs.Following.{goes_on}
 use Rattle.pdr_repository.proofs.Walks.{Within, stands, one_step}
 use Rattle.pdr_repository.proofs.SomeTakings.{takes_something}
@@ -63,7 +63,7 @@ exchanges_most count some (e ∷ es) =
 
 -- ---- what is too much
 
-other_told : (f g : WalkFault) → ◌≡◌ {A = Result Step WalkFault} (Err f) (Err g) → f ≡ g
+other_told : (f g : WalkFault) → ◌≡◌ {A = Result WalkProgress WalkFault} (Err f) (Err g) → f ≡ g
 other_told f g e = cc
 
 same_part : (p q : Part) → ◌≡◌ {A = PartAnswer} (Ok p) (Ok q) → p ≡ q
@@ -90,19 +90,15 @@ outcome_much old r (Ok p) new (Some fault, judges, (told, is)) =
     let J : WalkFault → Type 0 = λ f. Judges (room_of old) old.records old.under_way r p (Some f) in
     (p, refl, judged_much (room_of old) old.records old.under_way r p (subst J (sym (other_told TooMuch fault told)) judges))
 
-takes_much : (old : WalkState) (bytes : List ℕ) (m : AnswerMessage Part) (new : WalkState) → IsAnswerIn bytes m → Takes old bytes (Err TooMuch) new → MuchIn old m.outcome
+takes_much : (old : WalkState) (bytes : List ℕ) (m : ResponseMessage Part) (new : WalkState) → IsAnswerIn bytes m → Takes old bytes (Err TooMuch) new → MuchIn old m.outcome
 takes_much old bytes m new spelled (inl (_, (told, is))) = absurd (let e : TooMuch ≡ FailedBefore = other_told _ _ told in cc)
 takes_much old bytes m new spelled (inr (_, inl (_, (told, is)))) = absurd (let e : TooMuch ≡ NotAsked = other_told _ _ told in cc)
 takes_much old bytes m new spelled (inr (_, inr (_, inl (_, (told, is))))) = absurd (let e : TooMuch ≡ Unreadable = other_told _ _ told in cc)
 takes_much old bytes m new spelled (inr (_, inr (_, inr (_, (h, begins, inl (_, (told, is))))))) = absurd (let e : TooMuch ≡ NotAsked = other_told _ _ told in cc)
 takes_much old bytes m new spelled (inr (_, inr (_, inr (_, (h, begins, inr (_, inl (none, out))))))) = absurd (none m spelled)
 takes_much old bytes m new spelled (inr (_, inr (_, inr (_, (h, begins, inr (_, inr (_, (other, r, is, due, out)))))))) =
-    let M : AnswerMessage Part → Type 0 = λ a. MuchIn old a.outcome in
-    subst M (one_get_pdr_answer other m is.0 spelled.0 (sym is.1 ∙ spelled.1)) (outcome_much old r other.outcome new out)
-
-offset_is : (e : Entry) (offset : ℕ) (r : PartRequest) → IsAt e offset r → offset_of r ≡ offset
-offset_is e offset r (inl (o, op)) = rw (op, o) refl
-offset_is e offset r (inr (o, op, t, c)) = rw op t
+    let M : ResponseMessage Part → Type 0 = λ a. MuchIn old a.outcome in
+    subst M (one_get_pdr_response other m is.0 spelled.0 (sym is.1 ∙ spelled.1)) (outcome_much old r other.outcome new out)
 
 module _ (records : List Entry) (old : WalkState) (bytes : List ℕ) (xs : List Exchange) (x : Exchange) (least : 8 ≤ old.count) (most : old.count ≤ 4079) (given : IsDueAnswer old bytes records xs x) where
   answer_fits : (new : WalkState) → length records ≤ old.max_records → sum_by (λ (e : Entry). length e.bytes) records ≤ old.max_bytes → ¬ Takes old bytes (Err TooMuch) new
@@ -118,7 +114,7 @@ module _ (records : List Entry) (old : WalkState) (bytes : List ℕ) (xs : List 
           let same = collects_once xs old.records (bytes_by_place (take w.place records)) old.under_way (take w.offset w.e.bytes) given.stands.collects w.collects in
           let part : step.part ≡ p = same_part step.part p (sym step.is ∙ is) in
           let long : length p.bytes ≡ length (take (min w.r.count 4079) (drop (offset_of w.r) w.e.bytes)) = ap (λ (q : Part). length q.bytes) (sym part) ∙ ap length step.of_record.taken in
-          let at = offset_is w.e w.offset w.r w.due.operation in
+          let at = at_offset w.e w.offset w.r w.due.operation in
           let within = w.within in
           let rest : length p.bytes ≤ length w.e.bytes - offset_of w.r = omega (arith, long, length-take (min w.r.count 4079) (drop (offset_of w.r) w.e.bytes), length-drop (offset_of w.r) w.e.bytes) in
           let so_far : length old.under_way ≤ w.offset = omega (arith, ap length same.1, length-take w.offset w.e.bytes) in
@@ -133,7 +129,7 @@ module _ (records : List Entry) (old : WalkState) (bytes : List ℕ) (xs : List 
 
   -- it is taken, and the walk goes on
   pub record TakesOn : Type 0 where
-    pub step : Step
+    pub step : WalkProgress
     pub new : WalkState
     pub takes : Takes old bytes (Ok step) new
     pub walks : WalksOn records (xs ++ x ∷ []) step new
@@ -143,7 +139,7 @@ module _ (records : List Entry) (old : WalkState) (bytes : List ℕ) (xs : List 
       let t = takes_something old bytes (λ some none. let e : Some x.request ≡ None = sym given.due ∙ none in cc) in
       by t.result t.new t.takes t.memory
     where
-      by : (result : Result Step WalkFault) (new : WalkState) → Takes old bytes result new → result ≢ Err OutOfMemory → TakesOn
+      by : (result : Result WalkProgress WalkFault) (new : WalkState) → Takes old bytes result new → result ≢ Err OutOfMemory → TakesOn
       by (Ok step) new takes memory = record { step = step; new = new; takes = takes; walks = goes_on old new bytes (Ok step) least most takes records xs x given }
       by (Err fault) new takes memory = elim (goes_on old new bytes (Err fault) least most takes records xs x given) [
         | inl much ↦ let T : WalkFault → Type 0 = λ f. Takes old bytes (Err f) new in absurd (answer_fits new few small (subst T much takes))

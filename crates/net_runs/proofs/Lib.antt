@@ -18,7 +18,7 @@ mod ByteRuns
 mod Asked
 mod Such
 mod Waitings
-mod AnswerPuts
+pub mod AnswerPuts
 mod UnderWay
 mod Soundness
 mod Replies

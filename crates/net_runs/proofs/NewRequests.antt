@@ -3,8 +3,8 @@ use Rattle.std.proofs.Common.{◌≡◌, ◌≢◌, ◌⊎◌, ℕ, ◌+◌, ◌
 use Rattle.std.specs.List.{AllByRecursion}
 use Rattle.std.proofs.lemmas.List.Elements.{recursion_from_All}
 use Rattle.std.proofs.lemmas.Option.{same_Some}
-use Rattle.mctp_transport.specs.Frames.{Frame, KeyValue, key_of, Spelled}
-use Rattle.mctp_transport.specs.FrameLaws.{one_frame}
+use Rattle.mctp_transport.specs.PacketValues.{PacketValue, KeyValue, key_of, Spelled}
+use Rattle.mctp_transport.specs.PacketValueLaws.{one_packet_value}
 use Rattle.mctp_transport.specs.Sending.{IsPacketOf}
 use Rattle.pldm_message.specs.Pdrs.{PartRequest, IsPartRequest, get_pdr_request_bytes}
 use Rattle.pldm_message.specs.InstanceIds.{Gives}
@@ -47,9 +47,9 @@ module _ (tables : Tables) (cert : Certificate) (own n : ℕ) (first : WalkerVal
   Only id r event outcome = PutsOnlyThis tables cert own first.eid first.tag n alone lawful id r event outcome
 
   module _ (w new : NetworkState) (walker next : WalkerValue) (flight : ℕ) (asking : IsAsking tables w walker flight new next) where
-    its_packet : (at : ℕ) (bytes : List ℕ) (p : Frame) → Put walker.node asking.bytes ≡ Put at bytes → Spelled (unit_of tables.plan) p bytes → p ≡ asking.packet
+    its_packet : (at : ℕ) (bytes : List ℕ) (p : PacketValue) → Put walker.node asking.bytes ≡ Put at bytes → Spelled (unit_of tables.plan) p bytes → p ≡ asking.packet
     its_packet at bytes p is spelled =
-        one_frame (unit_of tables.plan) p asking.packet spelled.0 asking.spelled.0 (sym spelled.1 ∙ sym (same_put walker.node at asking.bytes bytes is) ∙ asking.spelled.1)
+        one_packet_value (unit_of tables.plan) p asking.packet spelled.0 asking.spelled.0 (sym spelled.1 ∙ sym (same_put walker.node at asking.bytes bytes is) ∙ asking.spelled.1)
 
     -- the request of a walker elsewhere, to another endpoint or under another tag, is under neither key
     pub other_ask : (id : ℕ) (r : PartRequest) → ((m : ℕ) → Holds tables.plan m own → m ≡ first.node) → ¬ IsAlike walker first → Only id r (Put walker.node asking.bytes) (PutIn flight walker.node)
@@ -60,7 +60,7 @@ module _ (tables : Tables) (cert : Certificate) (own n : ℕ) (first : WalkerVal
               let k : asking_key asking.own walker ≡ Own = sym key ∙ mine in
               let H : ℕ → Type 0 = λ e. Holds tables.plan walker.node e in
               let at_home : walker.node ≡ first.node = one_home walker.node (subst H (ap (λ (x : KeyValue). x.source) k) asking.holds) in
-              let eid : walker.eid ≡ first.eid = sym (asking.cut.addressed 0 asking.packet refl) ∙ ap (λ (q : Frame). q.destination) (sym same) ∙ there in
+              let eid : walker.eid ≡ first.eid = sym (asking.cut.addressed 0 asking.packet refl) ∙ ap (λ (q : PacketValue). q.destination) (sym same) ∙ there in
               absurd (unlike (at_home, eid, ap (λ (x : KeyValue). x.tag) k)),
           λ mine there. let clash : true ≡ false = ap (λ (x : KeyValue). x.owner) (sym key ∙ mine) in cc,
         )
@@ -79,7 +79,7 @@ module _ (tables : Tables) (cert : Certificate) (own n : ℕ) (first : WalkerVal
           let A : List ℕ → Type 0 = λ m. IsPacketOf (unit_of tables.plan) m walker.eid (asking_key asking.own walker) 0 asking.packet in
           let B : ℕ → Type 0 = λ d. IsPacketOf (unit_of tables.plan) (get_pdr_request_bytes (asked_under asking.id r)) d (asking_key asking.own walker) 0 asking.packet in
           let C : KeyValue → Type 0 = λ k. IsPacketOf (unit_of tables.plan) (get_pdr_request_bytes (asked_under asking.id r)) first.eid k 0 asking.packet in
-          let D : Frame → Type 0 = λ q. IsPacketOf (unit_of tables.plan) (get_pdr_request_bytes (asked_under asking.id r)) first.eid Own 0 q in
+          let D : PacketValue → Type 0 = λ q. IsPacketOf (unit_of tables.plan) (get_pdr_request_bytes (asked_under asking.id r)) first.eid Own 0 q in
           let one : A asking.request = (asking.packet ∷ [], 0, asking.cut, refl) in
           let key : key_of p ≡ asking_key asking.own walker = ap key_of same ∙ asking.cut.of_key 0 asking.packet refl in (
             λ mine there. subst D (sym same) (subst C its_key (subst B walks.same.eid (subst A request one))),

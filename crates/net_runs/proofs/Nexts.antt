@@ -3,12 +3,12 @@ use Rattle.std.proofs.Common.{◌≡◌, ◌⊎◌, ℕ, ◌+◌, ◌≤◌, Boo
 use Rattle.std.specs.Prelude.{option_map}
 use Rattle.std.specs.List.{AllByRecursion}
 use Rattle.std.proofs.lemmas.Bool.Decides.{eqb_tells}
-use Rattle.mctp_transport.specs.Frames.{Frame, KeyValue}
+use Rattle.mctp_transport.specs.PacketValues.{PacketValue, KeyValue}
 use Rattle.mctp_transport.specs.Histories.{Input, Arrived, TimeUp, after}
 use Rattle.mctp_transport.specs.Hearing.{Answer, Whole, Held, Dropped}
 use Rattle.net_tables.specs.Routing.{Holds}
 use Rattle.mctp_bridge.specs.declared.row.Hop.{Hop}
-use Rattle.mctp_bridge.specs.declared.decision.Decision.TheVariants.{Here, Drop, Forward}
+use Rattle.mctp_bridge.specs.declared.decision.Decision.TheVariants.{Deliver, Drop, Forward}
 use Rattle.net_runs.specs.Termini.{WaitingMessage, with_waiting}
 use Rattle.net_runs.specs.States.{NetworkState, Flight, with_flight, without_flight, with_made, with_input, with_terminus, with_packet, with_packets, with_received, with_switched, rows_now}
 use Rattle.net_tables.specs.TwoPlans.{Tables, rows_by}
@@ -31,13 +31,13 @@ pub record HasMoved (tables : Tables) (w : NetworkState) (g : Flight) : Type 0 w
   pub decided : IsDecided tables.plan (rows_now tables w flight.node) flight (Forward hop)
   pub is : g ≡ record flight { node = hop.next; hops = flight.hops + 1 }
 
-abbrev pub new_flight : ℕ → Frame → Flight
+abbrev pub new_flight : ℕ → PacketValue → Flight
 new_flight node p = record { packet = p; origin = node; node = node; hops = 0 }
 
 -- a flight of a packet that is put in
-pub record IsNew (puts : Frame → Type 0) (g : Flight) : Type 0 where
+pub record IsNew (puts : PacketValue → Type 0) (g : Flight) : Type 0 where
   pub node : ℕ
-  pub packet : Frame
+  pub packet : PacketValue
   pub put : puts packet
   pub is : g ≡ new_flight node packet
 
@@ -47,7 +47,7 @@ MayBeGiven tables w n (Arrived p) = Holds tables.plan n p.destination × ((f : F
 MayBeGiven tables w n (TimeUp key) = Unit {0}
 
 -- Each flight after a step was there, has moved on or is put in, and each node was given one thing more at most.
-pub record IsNext (tables : Tables) (w : NetworkState) (puts : Frame → Type 0) (new : NetworkState) : Type 0 where
+pub record IsNext (tables : Tables) (w : NetworkState) (puts : PacketValue → Type 0) (new : NetworkState) : Type 0 where
   pub flights : (number : ℕ) (g : Flight) → new.flight number ≡ Some g → IsThere w g ⊎ (HasMoved tables w g ⊎ IsNew puts g)
   pub given : (n : ℕ) → (new.history n ≡ w.history n) ⊎ ((i : Input) × (new.history n ≡ after (w.history n) i) × MayBeGiven tables w n i)
   pub numbers : IsNumbered w → IsNumbered new
@@ -104,7 +104,7 @@ received_same v node key (Whole message) =
 received_same v node key Held = record { flight = refl; made = refl; history = refl }
 received_same v node key (Dropped why) = record { flight = refl; made = refl; history = refl }
 
-module _ (tables : Tables) (w : NetworkState) (puts : Frame → Type 0) where
+module _ (tables : Tables) (w : NetworkState) (puts : PacketValue → Type 0) where
   pub same_is_next : (v u : NetworkState) → SameFlights v u → IsNext tables w puts v → IsNext tables w puts u
   same_is_next v u same next =
       let F : (ℕ → Option Flight) → Type 0 = λ flight. (number : ℕ) (g : Flight) → flight number ≡ Some g → IsThere w g ⊎ (HasMoved tables w g ⊎ IsNew puts g) in
@@ -156,7 +156,7 @@ module _ (tables : Tables) (w : NetworkState) (puts : Frame → Type 0) where
   -- moving a flight
   pub moves_is_next : (v : NetworkState) (k : ℕ) (f : Flight) (outcome : OutcomeValue) (new : NetworkState) → IsWithin w v → v.switched ≡ w.switched → IsThere w f → (IsNumbered w → k ≤ v.made)
       → Moves tables v k f outcome new → IsNext tables w puts new
-  moves_is_next v k f (Entered j node key answer) new within same there small (Here, holds, (number, at, whose, hears, is)) =
+  moves_is_next v k f (Entered j node key answer) new within same there small (Deliver, holds, (number, at, whose, hears, is)) =
       let P : NetworkState → Type 0 = IsNext tables w puts in
       let entered : NetworkState = with_input v f.node (Arrived f.packet) in
       subst P (sym is) (same_is_next entered (with_received entered f.node key answer) (received_same entered f.node key answer)
@@ -191,7 +191,7 @@ module _ (tables : Tables) (w : NetworkState) (puts : Frame → Type 0) where
     made = omega (arith, same.made);
   }
 
-  pub one_is_put : (v : NetworkState) (node : ℕ) (p : Frame) → IsPutInto v → puts p → IsPutInto (with_packet v node p)
+  pub one_is_put : (v : NetworkState) (node : ℕ) (p : PacketValue) → IsPutInto v → puts p → IsPutInto (with_packet v node p)
   one_is_put v node p into put = record {
     flights = λ number g is. elim (changed_or_older (v.made + 1) number (new_flight node p) g (v.flight number) is) [
       | inl (same, _) ↦ inr (record { node = node; packet = p; put = put; is = sym same })
@@ -205,7 +205,7 @@ module _ (tables : Tables) (w : NetworkState) (puts : Frame → Type 0) where
     made = let h = into.made in omega arith;
   }
 
-  pub all_are_put : (v : NetworkState) (node : ℕ) (ps : List Frame) → IsPutInto v → AllByRecursion puts ps → IsPutInto (with_packets v node ps)
+  pub all_are_put : (v : NetworkState) (node : ℕ) (ps : List PacketValue) → IsPutInto v → AllByRecursion puts ps → IsPutInto (with_packets v node ps)
   all_are_put v node [] into all = into
   all_are_put v node (p ∷ ps) into all = all_are_put (with_packet v node p) node ps (one_is_put v node p into all.0) all.1
 
@@ -218,21 +218,21 @@ module _ (tables : Tables) (w : NetworkState) (puts : Frame → Type 0) where
   }
 
 -- a flight that was made before stays where packets are put in
-pub older_stays : (w : NetworkState) (node : ℕ) (ps : List Frame) (k : ℕ) → k ≤ w.made → (with_packets w node ps).flight k ≡ w.flight k
+pub older_stays : (w : NetworkState) (node : ℕ) (ps : List PacketValue) (k : ℕ) → k ≤ w.made → (with_packets w node ps).flight k ≡ w.flight k
 older_stays w node [] k small = refl
 older_stays w node (p ∷ ps) k small =
     older_stays (with_packet w node p) node ps k (omega arith)
     ∙ elim (eqb_tells k (w.made + 1)) [ inl same ↦ absurd (omega (arith, same.1)) | inr other ↦ rw other.0 refl ]
 
 -- each packet that is put in is one of the flights made
-among_weaker : (w : NetworkState) (first last others : ℕ) (ps : List Frame) → AllByRecursion (IsAmongFlights w (first + 1) last) ps → last ≡ others
+among_weaker : (w : NetworkState) (first last others : ℕ) (ps : List PacketValue) → AllByRecursion (IsAmongFlights w (first + 1) last) ps → last ≡ others
     → AllByRecursion (IsAmongFlights w first others) ps
 among_weaker w first last others [] all same = tt
 among_weaker w first last others (p ∷ ps) all same =
     let (k, f, low, high, stands, is) = all.0 in
     ((k, f, omega arith, omega arith, stands, is), among_weaker w first last others ps all.1 same)
 
-pub packets_stand : (w : NetworkState) (node : ℕ) (ps : List Frame) → AllByRecursion (IsAmongFlights (with_packets w node ps) (w.made + 1) (w.made + length ps)) ps
+pub packets_stand : (w : NetworkState) (node : ℕ) (ps : List PacketValue) → AllByRecursion (IsAmongFlights (with_packets w node ps) (w.made + 1) (w.made + length ps)) ps
 packets_stand w node [] = tt
 packets_stand w node (p ∷ ps) =
     let there : (with_packet w node p).flight (w.made + 1) ≡ Some (new_flight node p) = elim (eqb_tells (w.made + 1) (w.made + 1)) [
@@ -255,7 +255,7 @@ packets_stand w node (p ∷ ps) =
 happens_is_next : (tables : Tables) (w : NetworkState) (event : EventValue) (outcome : OutcomeValue) (new : NetworkState) → Happens tables w event outcome new
     → IsNext tables w (IsPutOf tables.plan event outcome new) new
 happens_is_next tables w (Put node bytes) (PutIn k at) new (p, spelled, number, place, is) =
-    let puts : Frame → Type 0 = IsPutOf tables.plan (Put node bytes) (PutIn k at) new in
+    let puts : PacketValue → Type 0 = IsPutOf tables.plan (Put node bytes) (PutIn k at) new in
     let P : NetworkState → Type 0 = IsNext tables w puts in
     let same : SameFlights w w = record { flight = refl; made = refl; history = refl } in
     subst P (sym is) (put_is_next tables w puts (with_packet w node p) (one_is_put tables w puts w node p (none_is_put tables w puts w same) spelled))
@@ -266,22 +266,22 @@ happens_is_next tables w (Move number true) outcome new (f, stands, moves) =
     moves_is_next tables w (IsPutOf tables.plan (Move number true) outcome new) (with_made w (w.made + 1)) (w.made + 1) f outcome new (made_is_within w) refl (number, stands)
     (λ numbered. omega arith) moves
 happens_is_next tables w (Lose number) (Lost k) new (ended, is) =
-    let puts : Frame → Type 0 = IsPutOf tables.plan (Lose number) (Lost k) new in
+    let puts : PacketValue → Type 0 = IsPutOf tables.plan (Lose number) (Lost k) new in
     let P : NetworkState → Type 0 = IsNext tables w puts in
     subst P (sym is) (within_is_next tables w puts (without_flight w number) (without_is_within w number))
 happens_is_next tables w (Expire node key) (Expired at was_open) new (place, opened, is) =
-    let puts : Frame → Type 0 = IsPutOf tables.plan (Expire node key) (Expired at was_open) new in
+    let puts : PacketValue → Type 0 = IsPutOf tables.plan (Expire node key) (Expired at was_open) new in
     let P : NetworkState → Type 0 = IsNext tables w puts in
     subst P (sym is) (input_is_next tables w puts w node (TimeUp key) (itself_is_within w) tt)
 happens_is_next tables w (AnswerAt node) (Silent at) new (t, oldest, rest, None, tid, stands, waits, answers, (place, is)) =
-    let puts : Frame → Type 0 = IsPutOf tables.plan (AnswerAt node) (Silent at) new in
+    let puts : PacketValue → Type 0 = IsPutOf tables.plan (AnswerAt node) (Silent at) new in
     let P : NetworkState → Type 0 = IsNext tables w puts in
     let v : NetworkState = with_terminus w node (Some (record t { tid = tid; waiting = rest })) in
     let same : SameFlights w v = record { flight = refl; made = refl; history = refl } in
     subst P (sym is) (put_is_next tables w puts v (none_is_put tables w puts v same))
 happens_is_next tables w (AnswerAt node) (Answered at first last) new (t, oldest, rest, Some answer, tid, stands, waits, answers, (eid, ps, holds, cut, place, begins, ends, is)) =
     let v : NetworkState = with_terminus w node (Some (record t { tid = tid; waiting = rest })) in
-    let puts : Frame → Type 0 = IsAmongFlights new first last in
+    let puts : PacketValue → Type 0 = IsAmongFlights new first last in
     let P : NetworkState → Type 0 = IsNext tables w puts in
     let same : SameFlights w v = record { flight = refl; made = refl; history = refl } in
     let put : AllByRecursion puts ps =
@@ -292,7 +292,7 @@ happens_is_next tables w (AnswerAt node) (Answered at first last) new (t, oldest
 happens_is_next tables w (AnswerAt node) _ new (t, oldest, rest, None, tid, stands, waits, answers, done) = absurd done
 happens_is_next tables w (AnswerAt node) _ new (t, oldest, rest, Some answer, tid, stands, waits, answers, done) = absurd done
 happens_is_next tables w (Switch node) (Switched at) new (place, is) =
-    let puts : Frame → Type 0 = IsPutOf tables.plan (Switch node) (Switched at) new in
+    let puts : PacketValue → Type 0 = IsPutOf tables.plan (Switch node) (Switched at) new in
     let P : NetworkState → Type 0 = IsNext tables w puts in
     subst P (sym is)
     (within_is_next tables w puts (with_switched w node) (record { flights = λ number f is. is; histories = λ n. refl; made = omega arith }))
@@ -301,6 +301,6 @@ happens_is_next tables w _ _ new h = absurd h
 pub step_is_next : (tables : Tables) (w : NetworkState) (event : EventValue) (outcome : OutcomeValue) (new : NetworkState) → Step tables w event outcome new
     → IsNext tables w (IsPutOf tables.plan event outcome new) new
 step_is_next tables w event (Refused why) new h =
-    let puts : Frame → Type 0 = IsPutOf tables.plan event (Refused why) new in
+    let puts : PacketValue → Type 0 = IsPutOf tables.plan event (Refused why) new in
     let P : NetworkState → Type 0 = IsNext tables w puts in subst P (sym h.1) (within_is_next tables w puts w (itself_is_within w))
 step_is_next tables w event outcome new h = happens_is_next tables w event outcome new h.1

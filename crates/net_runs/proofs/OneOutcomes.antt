@@ -3,16 +3,16 @@ use Rattle.std.proofs.Common.{◌≡◌, ◌⊎◌, ℕ, zero, suc, ◌+◌, Boo
 use Rattle.std.specs.Prelude.{IfSome}
 use Rattle.std.proofs.lemmas.Bool.{cases_order}
 use Rattle.std.proofs.lemmas.Option.{same_Some}
-use Rattle.mctp_transport.specs.Frames.{Frame, KeyValue}
-use Rattle.mctp_transport.specs.FrameLaws.{one_frame}
+use Rattle.mctp_transport.specs.PacketValues.{PacketValue, KeyValue}
+use Rattle.mctp_transport.specs.PacketValueLaws.{one_packet_value}
 use Rattle.mctp_transport.specs.Cutting.{ArePacketsOf}
 use Rattle.mctp_transport.specs.Histories.{Arrived}
 use Rattle.mctp_transport.proofs.PacketLists.{same_packets}
 use Rattle.mctp_transport.proofs.Verdicts.{hears_one}
 use Rattle.mctp_bridge.specs.declared.row.Hop.{Hop}
-use Rattle.mctp_bridge.specs.declared.decision.Obstacle.TheVariants.{Unassignable, NoBridge, NoRow}
+use Rattle.mctp_bridge.specs.declared.decision.ForwardFault.TheVariants.{Unassignable, NoBridge, NoRow}
 use Rattle.mctp_bridge.specs.declared.decision.Decision.{Decision}
-use Rattle.mctp_bridge.specs.declared.decision.Decision.TheVariants.{Here, Drop, Forward}
+use Rattle.mctp_bridge.specs.declared.decision.Decision.TheVariants.{Deliver, Drop, Forward}
 use Rattle.mctp_bridge.specs.Decisions.{Decides}
 use Rattle.net_plan.specs.declared.plan.Plan.{Plan}
 use Rattle.net_plan.specs.declared.certificate.Certificate.{Certificate}
@@ -36,7 +36,7 @@ use Rattle.net_runs.proofs.TerminiThere.{termini_are_there}
 
 -- ---- refusals
 
-refusal_of : ℕ → Refusal
+pub refusal_of : ℕ → Refusal
 refusal_of zero = N01
 refusal_of (suc zero) = N01
 refusal_of (suc (suc zero)) = N02
@@ -46,7 +46,7 @@ refusal_of (suc (suc (suc (suc (suc zero))))) = N05
 refusal_of (suc (suc (suc (suc (suc (suc zero)))))) = N06
 refusal_of (suc (suc (suc (suc (suc (suc (suc n))))))) = N07
 
-numbered : (why : Refusal) → refusal_of (refusal_number why) ≡ why
+pub numbered : (why : Refusal) → refusal_of (refusal_number why) ≡ why
 unfolding refusal_of
 numbered N01 = refl
 numbered N02 = refl
@@ -72,7 +72,7 @@ next_in plan (Some after) true n e m k apart also (r, row, at, covers, next) (q,
 
 -- the decisions are one, but for the port
 Alike : Decision → Decision → Type 0
-Alike Here Here = Unit {0}
+Alike Deliver Deliver = Unit {0}
 Alike (Drop why) (Drop told) = why ≡ told
 Alike (Forward hop) (Forward other) = hop.next ≡ other.next
 Alike _ _ = ⊥
@@ -80,27 +80,27 @@ Alike _ _ = ⊥
 module _ (holds forwards : Type 0) (routes : Hop → Type 0) (one : (hop other : Hop) → routes hop → routes other → hop.next ≡ other.next) (e : ℕ) where
   alike : (a b : Decision) → Decides holds forwards routes e a → Decides holds forwards routes e b → Alike a b
   unfolding Alike
-  alike Here Here x y = tt
-  alike Here (Drop Unassignable) x y = absurd (y.0 x)
-  alike Here (Drop NoBridge) x y = absurd (y.0 x)
-  alike Here (Drop NoRow) x y = absurd (y.0 x)
-  alike Here (Forward hop) x y = absurd (y.0 x)
-  alike (Drop Unassignable) Here x y = absurd (x.0 y)
+  alike Deliver Deliver x y = tt
+  alike Deliver (Drop Unassignable) x y = absurd (y.0 x)
+  alike Deliver (Drop NoBridge) x y = absurd (y.0 x)
+  alike Deliver (Drop NoRow) x y = absurd (y.0 x)
+  alike Deliver (Forward hop) x y = absurd (y.0 x)
+  alike (Drop Unassignable) Deliver x y = absurd (x.0 y)
   alike (Drop Unassignable) (Drop Unassignable) x y = refl
   alike (Drop Unassignable) (Drop NoBridge) x y = absurd (x.1 y.1)
   alike (Drop Unassignable) (Drop NoRow) x y = absurd (x.1 y.1)
   alike (Drop Unassignable) (Forward hop) x y = absurd (x.1 y.1)
-  alike (Drop NoBridge) Here x y = absurd (x.0 y)
+  alike (Drop NoBridge) Deliver x y = absurd (x.0 y)
   alike (Drop NoBridge) (Drop Unassignable) x y = absurd (y.1 x.1)
   alike (Drop NoBridge) (Drop NoBridge) x y = refl
   alike (Drop NoBridge) (Drop NoRow) x y = absurd (x.2 y.2)
   alike (Drop NoBridge) (Forward hop) x y = absurd (x.2 y.2)
-  alike (Drop NoRow) Here x y = absurd (x.0 y)
+  alike (Drop NoRow) Deliver x y = absurd (x.0 y)
   alike (Drop NoRow) (Drop Unassignable) x y = absurd (y.1 x.1)
   alike (Drop NoRow) (Drop NoBridge) x y = absurd (y.2 x.2)
   alike (Drop NoRow) (Drop NoRow) x y = refl
   alike (Drop NoRow) (Forward hop) x y = absurd (x.3 hop y.3)
-  alike (Forward hop) Here x y = absurd (x.0 y)
+  alike (Forward hop) Deliver x y = absurd (x.0 y)
   alike (Forward hop) (Drop Unassignable) x y = absurd (y.1 x.1)
   alike (Forward hop) (Drop NoBridge) x y = absurd (y.2 x.2)
   alike (Forward hop) (Drop NoRow) x y = absurd (y.3 hop x.3)
@@ -111,7 +111,7 @@ abbrev AreOne : OutcomeValue → OutcomeValue → NetworkState → NetworkState 
 AreOne a b u v = (a ≡ b) × (u ≡ v)
 
 module _ (w : NetworkState) (number : ℕ) (f : Flight) where
-  done_here : (a b : OutcomeValue) (u v : NetworkState) → IsDone w number f a Here u → IsDone w number f b Here v → AreOne a b u v
+  done_here : (a b : OutcomeValue) (u v : NetworkState) → IsDone w number f a Deliver u → IsDone w number f b Deliver v → AreOne a b u v
   done_here (Entered k n key x) (Entered j m other y) u v (number_is, at, whose, hears, is) (number_is', at', whose', hears', is') =
       let flight : k ≡ j = number_is ∙ sym number_is' in
       let node : n ≡ m = at ∙ sym at' in
@@ -140,13 +140,13 @@ module _ (w : NetworkState) (number : ℕ) (f : Flight) where
 
   done_one : (d c : Decision) (a b : OutcomeValue) (u v : NetworkState) → Alike d c → IsDone w number f a d u → IsDone w number f b c v → AreOne a b u v
   unfolding Alike
-  done_one Here Here a b u v same x y = done_here a b u v x y
-  done_one Here (Drop why) a b u v same x y = absurd same
-  done_one Here (Forward hop) a b u v same x y = absurd same
-  done_one (Drop why) Here a b u v same x y = absurd same
+  done_one Deliver Deliver a b u v same x y = done_here a b u v x y
+  done_one Deliver (Drop why) a b u v same x y = absurd same
+  done_one Deliver (Forward hop) a b u v same x y = absurd same
+  done_one (Drop why) Deliver a b u v same x y = absurd same
   done_one (Drop why) (Drop told) a b u v same x y = done_drop why told a b u v same x y
   done_one (Drop why) (Forward hop) a b u v same x y = absurd same
-  done_one (Forward hop) Here a b u v same x y = absurd same
+  done_one (Forward hop) Deliver a b u v same x y = absurd same
   done_one (Forward hop) (Drop why) a b u v same x y = absurd same
   done_one (Forward hop) (Forward other) a b u v same x y = done_on hop other a b u v same x y
 
@@ -169,8 +169,8 @@ module _ (plan : Plan) (node : ℕ) where
       let packets : ps ≡ qs = same_packets (unit_of plan) answer key.source (answer_key e key) 0 ps qs (subst P eids are) are' in
       let nodes : n ≡ m = at ∙ sym at' in
       let firsts : first ≡ begin = from ∙ sym from' in
-      let lasts : last ≡ end = to ∙ (ap (λ (xs : List Frame). w.made + length xs) packets ∙ sym to') in
-      (λ i. Answered (nodes i) (firsts i) (lasts i), is ∙ (ap (λ (xs : List Frame). with_packets w node xs) packets ∙ sym is'))
+      let lasts : last ≡ end = to ∙ (ap (λ (xs : List PacketValue). w.made + length xs) packets ∙ sym to') in
+      (λ i. Answered (nodes i) (firsts i) (lasts i), is ∙ (ap (λ (xs : List PacketValue). with_packets w node xs) packets ∙ sym is'))
   answered_one key w (Some answer) (Answered n first last) _ u v x y = absurd y
   answered_one key w (Some answer) _ _ u v x y = absurd x
 
@@ -207,10 +207,10 @@ module _ (tables : Tables) (apart : HaveRowsApart tables) where
 
   happens_one : (w : NetworkState) (lists : HoldsLawfulLists w) (event : EventValue) (a b : OutcomeValue) (u v : NetworkState) → Happens tables w event a u → Happens tables w event b v → AreOne a b u v
   happens_one w lists (Put node bytes) (PutIn k n) (PutIn j m) u v (p, spelled, number, at, is) (q, spelled', number', at', is') =
-      let packets : p ≡ q = one_frame (unit_of tables.plan) p q spelled.0 spelled'.0 (spelling spelled.1 spelled'.1) in
+      let packets : p ≡ q = one_packet_value (unit_of tables.plan) p q spelled.0 spelled'.0 (spelling spelled.1 spelled'.1) in
       let flights : k ≡ j = number ∙ sym number' in
       let nodes : n ≡ m = at ∙ sym at' in
-      (λ i. PutIn (flights i) (nodes i), is ∙ (ap (λ (x : Frame). with_packet w node x) packets ∙ sym is'))
+      (λ i. PutIn (flights i) (nodes i), is ∙ (ap (λ (x : PacketValue). with_packet w node x) packets ∙ sym is'))
     where
       spelling : {x y : List ℕ} → bytes ≡ x → bytes ≡ y → x ≡ y
       spelling e g = sym e ∙ g

@@ -1,11 +1,11 @@
 -- The exchanges that a walker takes in turns are determined by the turns.
 use Rattle.std.proofs.Common.{◌≡◌, ℕ, List, [], ◌∷◌, Option, Some, Ok, sym, ap, ◌∙◌, subst, inl, inr}
 use Rattle.std.proofs.lemmas.Option.{same_Some}
-use Rattle.mctp_transport.specs.Frames.{KeyValue}
+use Rattle.mctp_transport.specs.PacketValues.{KeyValue}
 use Rattle.mctp_transport.specs.Hearing.{Whole}
-use Rattle.pldm_message.specs.Messages.{AnswerMessage}
+use Rattle.pldm_message.specs.Messages.{ResponseMessage}
 use Rattle.pldm_message.specs.Pdrs.{Part}
-use Rattle.pldm_message.specs.PdrLaws.{one_get_pdr_answer}
+use Rattle.pldm_message.specs.PdrLaws.{one_get_pdr_response}
 use Rattle.pdr_repository.specs.Walks.{Exchange}
 use Rattle.net_runs.specs.Events.{OutcomeValue, Entered}
 use Rattle.net_runs.specs.Walkers.{WalkerValue, WalkedState, WalkedOutcome, Happened, Handed, answering_key}
@@ -15,14 +15,14 @@ use Rattle.net_runs.specs.NetworkWalks.{IsExchange, TakesWith, AreTakenIn}
 same_lower : (a b : OutcomeValue) (x y : Option Handed) → ◌≡◌ {A = WalkedOutcome} (Happened a x) (Happened b y) → a ≡ b
 same_lower a b x y e = cc
 
-same_message : (f g n m : ℕ) (k l : KeyValue) (x y : List ℕ) → ◌≡◌ {A = OutcomeValue} (Entered f n k (Whole x)) (Entered g m l (Whole y)) → x ≡ y
+pub same_message : (f g n m : ℕ) (k l : KeyValue) (x y : List ℕ) → ◌≡◌ {A = OutcomeValue} (Entered f n k (Whole x)) (Entered g m l (Whole y)) → x ≡ y
 same_message f g n m k l x y e = cc
 
 exchange_one : (walker : WalkerValue) (message : List ℕ) (x y : Exchange) → IsExchange walker message x → IsExchange walker message y → x ≡ y
 exchange_one walker message x y e f =
     let requests : x.request ≡ y.request = same_Some x.request y.request (sym e.due ∙ f.due) in
-    let messages = one_get_pdr_answer (record { head = e.head; outcome = x.answer }) (record { head = f.head; outcome = y.answer }) e.spelled.0 f.spelled.0 (sym e.spelled.1 ∙ f.spelled.1) in
-    let answers : x.answer ≡ y.answer = ap (λ (m : AnswerMessage Part). m.outcome) messages in
+    let messages = one_get_pdr_response (record { head = e.head; outcome = x.answer }) (record { head = f.head; outcome = y.answer }) e.spelled.0 f.spelled.0 (sym e.spelled.1 ∙ f.spelled.1) in
+    let answers : x.answer ≡ y.answer = ap (λ (m : ResponseMessage Part). m.outcome) messages in
     λ j. record { request = requests j; answer = answers j }
 
 takes_one : (k : ℕ) (w : WalkedState) (outcome : WalkedOutcome) (x y : Exchange) → TakesWith k w outcome x → TakesWith k w outcome y → x ≡ y

@@ -3,7 +3,7 @@ use Rattle.std.proofs.Common.{◌≡◌, ◌⊎◌, ℕ, ◌==◌, if◌then◌e
 use Rattle.std.specs.Prelude.{MatchResult}
 use Rattle.std.proofs.lemmas.Bool.{cases_order}
 use Rattle.std.proofs.lemmas.Option.{same_Some}
-use Rattle.mctp_transport.specs.Frames.{Frame, KeyValue, frame_bytes}
+use Rattle.mctp_transport.specs.PacketValues.{PacketValue, KeyValue, packet_value_bytes}
 use Rattle.mctp_transport.specs.Cutting.{ArePacketsOf}
 use Rattle.mctp_transport.specs.Hearing.{Whole}
 use Rattle.mctp_transport.proofs.PacketLists.{same_packets}
@@ -11,7 +11,7 @@ use Rattle.pldm_message.specs.InstanceIds.{IdSet, Gives, TakesBack}
 use Rattle.pldm_message.proofs.OneInstanceIds.{gives_one, takes_back_one}
 use Rattle.pdr_repository.specs.Walkers.{Asks, Takes}
 use Rattle.pdr_repository.proofs.OneTakings.{takes_one, asks_one}
-use Rattle.pdr_repository.specs.declared.walk_fault.Step.{Step}
+use Rattle.pdr_repository.specs.declared.walk_fault.WalkProgress.{WalkProgress}
 use Rattle.pdr_repository.specs.declared.walk_fault.WalkFault.{WalkFault}
 use Rattle.net_plan.specs.declared.plan.Plan.{Plan}
 use Rattle.net_plan.specs.declared.certificate.Certificate.{Certificate}
@@ -25,6 +25,7 @@ use Rattle.net_runs.specs.Walkers.{WalkerValue, WalkedState, WalkedEvent, Happen
 use Rattle.net_runs.specs.WalkedRuns.{IsAsking, IsHanded, WalkedHappens, WalkedStep, walked_reached}
 use Rattle.net_runs.proofs.Below.{runs_below}
 use Rattle.net_runs.proofs.Soundness.{AreApart, run_sound, start_sound}
+use Rattle.net_runs.proofs.OneTaken.{same_message}
 
 -- ---- refusals
 
@@ -68,7 +69,7 @@ one_refusal plan w event why other (is, first) (is', first') = elim (cases_order
 same_flight : (k j node : ℕ) → ◌≡◌ {A = OutcomeValue} (PutIn k node) (PutIn j node) → k ≡ j
 same_flight k j node e = cc
 
-same_first : (p q : Frame) → ◌≡◌ {A = List Frame} (p ∷ []) (q ∷ []) → p ≡ q
+same_first : (p q : PacketValue) → ◌≡◌ {A = List PacketValue} (p ∷ []) (q ∷ []) → p ≡ q
 same_first p q e = cc
 
 module _ (tables : Tables) (w : NetworkState) (one : (event : EventValue) → HasOneOutcome tables w event) (walker : WalkerValue) where
@@ -95,7 +96,7 @@ module _ (tables : Tables) (w : NetworkState) (one : (event : EventValue) → Ha
       let Q : ℕ → Type 0 = λ o. ArePacketsOf (unit_of tables.plan) y.request walker.eid (asking_key o walker) 0 (y.packet ∷ []) in
       let packet : x.packet ≡ y.packet =
       same_first x.packet y.packet (same_packets (unit_of tables.plan) y.request walker.eid (asking_key x.own walker) 0 (x.packet ∷ []) (y.packet ∷ []) (subst P asks.0 x.cut) (subst Q own y.cut)) in
-      let bytes : x.bytes ≡ y.bytes = x.spelled.1 ∙ (ap frame_bytes packet ∙ sym y.spelled.1) in
+      let bytes : x.bytes ≡ y.bytes = x.spelled.1 ∙ (ap packet_value_bytes packet ∙ sym y.spelled.1) in
       let S : List ℕ → Type 0 = λ b. network.Step tables w (Put walker.node b) (PutIn flight walker.node) u in
       let put = one (Put walker.node y.bytes) (PutIn flight walker.node) (PutIn other walker.node) u v (subst S bytes x.put) y.put in
       record {
@@ -106,24 +107,16 @@ module _ (tables : Tables) (w : NetworkState) (one : (event : EventValue) → Ha
 
 -- ---- messages
 
-record IsOneEntered (n m : ℕ) (k l : KeyValue) (x y : List ℕ) : Type 0 where
-  nodes : n ≡ m
-  keys : k ≡ l
-  messages : x ≡ y
-
 same_node : (f g n m : ℕ) (k l : KeyValue) (x y : List ℕ) → ◌≡◌ {A = OutcomeValue} (Entered f n k (Whole x)) (Entered g m l (Whole y)) → n ≡ m
 same_node f g n m k l x y e = cc
 
 same_word : (f g n m : ℕ) (k l : KeyValue) (x y : List ℕ) → ◌≡◌ {A = OutcomeValue} (Entered f n k (Whole x)) (Entered g m l (Whole y)) → k ≡ l
 same_word f g n m k l x y e = cc
 
-same_message : (f g n m : ℕ) (k l : KeyValue) (x y : List ℕ) → ◌≡◌ {A = OutcomeValue} (Entered f n k (Whole x)) (Entered g m l (Whole y)) → x ≡ y
-same_message f g n m k l x y e = cc
-
-GivesBack : WalkerValue → Result Step WalkFault → IdSet → Type 0
+GivesBack : WalkerValue → Result WalkProgress WalkFault → IdSet → Type 0
 GivesBack walker result ids = MatchResult result (λ step. (id : ℕ) × (walker.walk.waiting ≡ Some id) × TakesBack walker.ids id ids) (λ fault. ids ≡ walker.ids)
 
-back_one : (walker : WalkerValue) (result : Result Step WalkFault) (a b : IdSet) → GivesBack walker result a → GivesBack walker result b → a ≡ b
+back_one : (walker : WalkerValue) (result : Result WalkProgress WalkFault) (a b : IdSet) → GivesBack walker result a → GivesBack walker result b → a ≡ b
 unfolding GivesBack
 back_one walker (Ok step) a b (id, waits, back) (other, waits', back') =
     let same : id ≡ other = same_Some id other (sym waits ∙ waits') in
@@ -144,7 +137,7 @@ module _ (walkers : ℕ → Option WalkerValue) (begun : ℕ) (apart : AreApart 
       let T : WalkerValue → Type 0 = λ k. Takes k.walk y.message g.result y.walk in
       let M : List ℕ → Type 0 = λ m. Takes x.walker.walk m g.result y.walk in
       let taken = takes_one x.walker.walk h.result g.result x.walk y.walk x.memory y.memory x.message x.takes (subst M (sym message) (subst T walker y.takes)) in
-      let R : Result Step WalkFault → Type 0 = λ r. GivesBack x.walker r x.ids in
+      let R : Result WalkProgress WalkFault → Type 0 = λ r. GivesBack x.walker r x.ids in
       let W : WalkerValue → Type 0 = λ k. GivesBack k g.result y.ids in
       let ids = back_one x.walker g.result x.ids y.ids (subst R taken.0 x.given_back) (subst W walker y.given_back) in (
         λ j. record { number = number j; result = taken.0 j },

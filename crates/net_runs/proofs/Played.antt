@@ -27,8 +27,8 @@ use Rattle.net_runs.proofs.FirstAsks.{may_begin}
 use Rattle.net_runs.proofs.Fitting.{exchanges_most}
 use Rattle.net_tables.specs.Lawful as ways
 use Rattle.net_runs.proofs.Reaching.{Reaches, stays_there, reaches_on}
-use Rattle.net_runs.proofs.SettledOrNot.{holder_is_there}
 use Rattle.net_runs.proofs.WalkedGoings.{fresh_is_kept}
+use Rattle.net_tables.proofs.Elements.{holder_within}
 
 module _ (tables : Tables) (cert : Certificate) (lawful : ways.IsLawful tables cert) (own n : ℕ) (small : own < 256) (back : HasWay tables n own)
     (right_records : IsLawful (records_by_place tables.plan cert n)) (all : All (λ e. AreBytes e.bytes) (records_by_place tables.plan cert n)) (first : WalkerValue) where
@@ -121,7 +121,7 @@ walks_can_be_played tables cert lawful orders node own eid tag count n home held
     let first = fresh_walker node eid tag count in
     let start = walked_at_start tables.plan cert in
     let w : WalkedState = record { network = at_start tables.plan cert; walker = with_walker (λ _. None) 1 first; begun = 1 } in
-    let may = may_begin tables cert unswitched node own eid tag count n (holder_is_there tables.plan node own home) (holder_is_there tables.plan n eid held) home held has small (bytes n eid held) few_tag least most in
+    let may = may_begin tables cert unswitched node own eid tag count n (holder_within tables.plan node own home) (holder_within tables.plan n eid held) home held has small (bytes n eid held) few_tag least most in
     let ready : IsReady tables cert lawful own n small back right_records all first w [] = record {
       rest = start_at_rest tables.plan cert n has;
       walker = first;

@@ -2,7 +2,7 @@
 use Rattle.std.proofs.Common.{◌≡◌, ℕ, suc, ◌+◌, true, false, List, [], ◌∷◌, ◌++◌, Some, None, sym, refl, ap, ◌∙◌, subst}
 use Rattle.std.specs.List.{AllByRecursion}
 use Rattle.std.proofs.lemmas.List.Elements.{All-from_recursion}
-use Rattle.mctp_transport.specs.Frames.{Frame, KeyValue, key_of}
+use Rattle.mctp_transport.specs.PacketValues.{PacketValue, KeyValue, key_of}
 use Rattle.mctp_transport.specs.Messages.{EachPacket}
 use Rattle.mctp_transport.specs.Histories.{Input, Arrived, History, EachArrival, after, last_of, Comes}
 use Rattle.mctp_transport.specs.Hearing.{Whole}
@@ -11,7 +11,7 @@ use Rattle.mctp_transport.proofs.LastStarts.{packets_key}
 use Rattle.mctp_transport.proofs.FirstIndexes.{snoc_same}
 use Rattle.net_plan.specs.declared.certificate.Certificate.{Certificate}
 use Rattle.net_tables.specs.Routing.{Holds}
-use Rattle.mctp_bridge.specs.declared.decision.Decision.TheVariants.{Here, Drop, Forward}
+use Rattle.mctp_bridge.specs.declared.decision.Decision.TheVariants.{Deliver, Drop, Forward}
 use Rattle.net_runs.specs.States.{NetworkState, Flight, at_start, without_flight, with_made, slots, limit}
 use Rattle.net_tables.specs.TwoPlans.{Tables}
 use Rattle.net_runs.specs.Events.{EventValue, Put, Move, Lose, Expire, AnswerAt, Switch, OutcomeValue, PutIn, Entered, Lost, Expired, Answered, Silent, Switched, Refused}
@@ -25,20 +25,20 @@ use Rattle.net_runs.proofs.Records.{keeps_records}
 use Rattle.net_runs.proofs.ByPlace.{walks_collect_each}
 
 -- what is said of each packet by its place holds of all
-each_all : (P : Frame → Type 0) (ps : List Frame) → EachPacket ps (λ _ p. P p) → AllByRecursion P ps
+each_all : (P : PacketValue → Type 0) (ps : List PacketValue) → EachPacket ps (λ _ p. P p) → AllByRecursion P ps
 each_all P [] h = tt
 each_all P (p ∷ ps) h = (h 0 p refl, each_all P ps (λ i q is. h (suc i) q is))
 
-both : (P Q : Frame → Type 0) (ps : List Frame) → AllByRecursion P ps → AllByRecursion Q ps → AllByRecursion (λ p. P p × Q p) ps
+both : (P Q : PacketValue → Type 0) (ps : List PacketValue) → AllByRecursion P ps → AllByRecursion Q ps → AllByRecursion (λ p. P p × Q p) ps
 both P Q [] a b = tt
 both P Q (p ∷ ps) a b = ((a.0, b.0), both P Q ps a.1 b.1)
 
-weaker : (P Q : Frame → Type 0) → ((p : Frame) → P p → Q p) → (ps : List Frame) → AllByRecursion P ps → AllByRecursion Q ps
+weaker : (P Q : PacketValue → Type 0) → ((p : PacketValue) → P p → Q p) → (ps : List PacketValue) → AllByRecursion P ps → AllByRecursion Q ps
 weaker P Q f [] a = tt
 weaker P Q f (p ∷ ps) a = (f p a.0, weaker P Q f ps a.1)
 
 -- what is known of each packet that arrived is known of those that a message joins
-came_known : (P : Frame → Type 0) (history : History) (message : List ℕ) (comes : Comes slots limit history message) → EachArrival P history
+came_known : (P : PacketValue → Type 0) (history : History) (message : List ℕ) (comes : Comes slots limit history message) → EachArrival P history
     → AllByRecursion (λ p. P p × (key_of p ≡ key_of comes.packet)) comes.packets
 came_known P history message comes arrived =
     let key = key_of comes.packet in
@@ -49,8 +49,8 @@ came_known P history message comes arrived =
 came_joins : (tables : Tables) (turns : List Turn) (n : ℕ) (history : History) (message : List ℕ) (comes : Comes slots limit history message)
     → EachArrival (λ p. Holds tables.plan n p.destination × WasPutIn tables.plan turns p) history → JoinsPackets tables.plan turns n (key_of comes.packet) message
 came_joins tables turns n history message comes arrived =
-    let P : Frame → Type 0 = λ p. Holds tables.plan n p.destination × WasPutIn tables.plan turns p in
-    let Q : Frame → Type 0 = λ p. WasPutIn tables.plan turns p × Holds tables.plan n p.destination × (key_of p ≡ key_of comes.packet) in (
+    let P : PacketValue → Type 0 = λ p. Holds tables.plan n p.destination × WasPutIn tables.plan turns p in
+    let Q : PacketValue → Type 0 = λ p. WasPutIn tables.plan turns p × Holds tables.plan n p.destination × (key_of p ≡ key_of comes.packet) in (
       comes.packets,
       comes.joined,
       All-from_recursion Q comes.packets
@@ -74,7 +74,7 @@ pub record TellsMessage (tables : Tables) (w : NetworkState) (n : ℕ) (key : Ke
 
 moves_tell : (tables : Tables) (w v : NetworkState) (stood k j : ℕ) (f : Flight) (n : ℕ) (key : KeyValue) (message : List ℕ) (new : NetworkState) → w.flight stood ≡ Some f
     → v.history ≡ w.history → Moves tables v k f (Entered j n key (Whole message)) new → TellsMessage tables w n key message
-moves_tell tables w v stood k j f n key message new stands same (Here, holds, (number, at, whose, hears, is)) =
+moves_tell tables w v stood k j f n key message new stands same (Deliver, holds, (number, at, whose, hears, is)) =
     let P : ℕ → Type 0 = λ m. Holds tables.plan m f.packet.destination in
     let Q : (ℕ → History) → Type 0 = λ history. Comes slots limit (after (history f.node) (Arrived f.packet)) message in
     let R : ℕ → Type 0 = λ m. Comes slots limit (after (w.history m) (Arrived f.packet)) message in
@@ -113,10 +113,10 @@ step_tells tables w event (Refused why) j n key message new step is = absurd (cc
 step_tells tables w event outcome j n key message new step is = happens_tells tables w event outcome j n key message new step.1 is
 
 -- the packet of the message that ends a history is its last
-last_packet : (history : History) (p : Frame) (message : List ℕ) (comes : Comes slots limit (after history (Arrived p)) message) → p ≡ comes.packet
+last_packet : (history : History) (p : PacketValue) (message : List ℕ) (comes : Comes slots limit (after history (Arrived p)) message) → p ≡ comes.packet
 last_packet history p message comes = same_packet (snoc_same history comes.earlier (Arrived p) (Arrived comes.packet) comes.ends).1
   where
-    same_packet : {a b : Frame} → ◌≡◌ {A = Input} (Arrived a) (Arrived b) → a ≡ b
+    same_packet : {a b : PacketValue} → ◌≡◌ {A = Input} (Arrived a) (Arrived b) → a ≡ b
     same_packet e = cc
 
 module _ (tables : Tables) (cert : Certificate) (lawful : IsLawful tables cert) where
@@ -127,7 +127,7 @@ module _ (tables : Tables) (cert : Certificate) (lawful : IsLawful tables cert) 
       → TellsMessage tables (reached tables.plan cert earlier) n key message → JoinsPackets tables.plan earlier n key message
   joins_told earlier n key message run told =
       let known = kept earlier run in
-      let P : Frame → Type 0 = λ p. Holds tables.plan n p.destination × WasPutIn tables.plan earlier p in
+      let P : PacketValue → Type 0 = λ p. Holds tables.plan n p.destination × WasPutIn tables.plan earlier p in
       let p = told.flight.packet in
       let history = (reached tables.plan cert earlier).history n in
       let arrived : EachArrival P (after history (Arrived p)) =

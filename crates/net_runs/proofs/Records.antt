@@ -3,10 +3,10 @@ use Rattle.std.proofs.Common.{◌≡◌, ℕ, ◌+◌, inl, inr, Bool, true, fal
 use Rattle.std.specs.Prelude.{option_map}
 use Rattle.std.proofs.lemmas.Bool.Decides.{eqb_tells}
 use Rattle.std.proofs.lemmas.Option.{same_Some}
-use Rattle.mctp_transport.specs.Frames.{Frame, KeyValue}
+use Rattle.mctp_transport.specs.PacketValues.{PacketValue, KeyValue}
 use Rattle.mctp_transport.specs.Histories.{Arrived}
 use Rattle.mctp_transport.specs.Hearing.{Answer, Whole, Held, Dropped}
-use Rattle.mctp_bridge.specs.declared.decision.Decision.TheVariants.{Here, Drop, Forward}
+use Rattle.mctp_bridge.specs.declared.decision.Decision.TheVariants.{Deliver, Drop, Forward}
 use Rattle.net_plan.specs.declared.certificate.Certificate.{Certificate}
 use Rattle.net_plan.specs.declared.terminus.PlannedTerminus.{PlannedTerminus}
 use Rattle.net_tables.specs.Repositories.{terminus_of, records_by_place}
@@ -34,7 +34,7 @@ mapped None m t is = absurd (cc)
 mapped (Some x) m t is = (x, refl, same_Some (with_waiting x m) t is)
 
 -- putting packets in changes no terminus
-pub packets_termini : (w : NetworkState) (node : ℕ) (ps : List Frame) → (with_packets w node ps).terminus ≡ w.terminus
+pub packets_termini : (w : NetworkState) (node : ℕ) (ps : List PacketValue) → (with_packets w node ps).terminus ≡ w.terminus
 packets_termini w node [] = refl
 packets_termini w node (p ∷ ps) = packets_termini (with_packet w node p) node ps
 
@@ -58,7 +58,7 @@ module _ (tables : Tables) (cert : Certificate) where
 
   moves_keep : (w : NetworkState) (k : ℕ) (f : Flight) (outcome : OutcomeValue) (new : NetworkState) → HasPlannedRecords tables.plan cert w → Moves tables w k f outcome new
       → HasPlannedRecords tables.plan cert new
-  moves_keep w k f (Entered j node key answer) new kept (Here, holds, (number, at, whose, hears, is)) =
+  moves_keep w k f (Entered j node key answer) new kept (Deliver, holds, (number, at, whose, hears, is)) =
       let P : NetworkState → Type 0 = HasPlannedRecords tables.plan cert in
       subst P (sym is) (received_keeps (with_input w f.node (Arrived f.packet)) f.node key answer kept)
   moves_keep w k f (Stopped j told) new kept (Drop why, decided, (number, same, is)) = let P : NetworkState → Type 0 = HasPlannedRecords tables.plan cert in subst P (sym is) kept

@@ -4,12 +4,12 @@ use Rattle.std.specs.Prelude.{All}
 use Rattle.std.proofs.lemmas.Bool.{cases_order}
 use Rattle.std.proofs.lemmas.Bool.Decides.{eqb_tells}
 use Rattle.std.proofs.lemmas.Option.{none-some}
-use Rattle.mctp_transport.specs.Frames.{Frame, KeyValue, key_of}
+use Rattle.mctp_transport.specs.PacketValues.{PacketValue, KeyValue, key_of}
 use Rattle.mctp_transport.specs.Cutting.{ArePacketsOf}
 use Rattle.mctp_transport.specs.Histories.{History}
 use Rattle.mctp_transport.specs.Hearing.{Whole}
 use Rattle.mctp_transport.proofs.PacketLists.{packets_join}
-use Rattle.pldm_message.specs.Pdrs.{PartRequest, IsPartRequest, get_pdr_request_bytes, get_pdr_answer_bytes}
+use Rattle.pldm_message.specs.Pdrs.{PartRequest, IsPartRequest, get_pdr_request_bytes, get_pdr_response_bytes}
 use Rattle.pdr_repository.specs.Records.{Entry, IsLawful}
 use Rattle.pdr_repository.specs.Parts.{PartAnswer, AnswersPart}
 use Rattle.pdr_repository.specs.Answers.{Answers}
@@ -36,10 +36,10 @@ use Rattle.net_runs.proofs.Reaching.{Reaches, reaches_on, network_turn}
 use Rattle.net_runs.proofs.Records.{packets_termini}
 use Rattle.net_runs.proofs.Replies.{answer_is_short}
 use Rattle.net_runs.proofs.Sent.{message_packets}
-use Rattle.net_runs.proofs.SettledOrNot.{holder_is_there}
 use Rattle.net_runs.proofs.Travels.{Now, enters_there}
 use Rattle.net_runs.proofs.UnderWay.{answer_under}
 use Rattle.net_runs.proofs.WalkedGoings.{request_is_bytes}
+use Rattle.net_tables.proofs.Elements.{holder_within}
 
 module _ (tables : Tables) (cert : Certificate) (lawful : ways.IsLawful tables cert) (walkers : ℕ → Option WalkerValue) (begun : ℕ) where
   -- what waits at the terminus then
@@ -62,7 +62,7 @@ module _ (tables : Tables) (cert : Certificate) (lawful : ways.IsLawful tables c
       pub there : new.terminus n ≡ Some (with_waiting t (record { key = key; bytes = request }))
       pub elsewhere : (m : ℕ) → m ≢ n → new.terminus m ≡ w.terminus m
 
-    pub comes_there : (w : NetworkState) (k : ℕ) (p : Frame) (t : TerminusState) → ArePacketsOf (unit_of tables.plan) request eid key 0 (p ∷ []) → w.flight k ≡ Some (new_flight from p)
+    pub comes_there : (w : NetworkState) (k : ℕ) (p : PacketValue) (t : TerminusState) → ArePacketsOf (unit_of tables.plan) request eid key 0 (p ∷ []) → w.flight k ≡ Some (new_flight from p)
         → ((j : ℕ) → j ≢ k → w.flight j ≡ None) → ((m : ℕ) → IsClosed (w.history m)) → w.terminus n ≡ Some t → HasAsked w t
     comes_there w k p t are stands others closed is =
         let mine = are.of_key 0 p refl in
@@ -110,7 +110,7 @@ module _ (tables : Tables) (cert : Certificate) (lawful : ways.IsLawful tables c
     pub bytes : EachByte message
     pub few : length message ≤ r.count + 17
     pub some : 0 < length message
-    pub packets : List Frame
+    pub packets : List PacketValue
     pub are : ArePacketsOf (unit_of tables.plan) message own (answer_key eid key) 0 packets
     pub base : ℕ
     pub under : AreUnderWay new base n packets
@@ -137,7 +137,7 @@ module _ (tables : Tables) (cert : Certificate) (lawful : ways.IsLawful tables c
       asked_bytes = are_bytes (get_pdr_request_bytes (asked_under id r)) (request_is_bytes id r small fits)
 
       may : (why : Refusal) → ¬ IsRefused tables w (AnswerAt n) why
-      may N01 refused = let inside = holder_is_there tables.plan n eid holds in omega arith
+      may N01 refused = let inside = holder_within tables.plan n eid holds in omega arith
       may N02 refused = refused
       may N03 refused = refused
       may N04 refused = none-some t (sym refused ∙ is)
@@ -145,7 +145,7 @@ module _ (tables : Tables) (cert : Certificate) (lawful : ways.IsLawful tables c
       may N06 refused = omega arith
       may N07 refused = refused
 
-      some_bytes : (a : PartAnswer) → 0 < length (get_pdr_answer_bytes (answer_under id a))
+      some_bytes : (a : PartAnswer) → 0 < length (get_pdr_response_bytes (answer_under id a))
       some_bytes (Ok p) = omega arith
       some_bytes (Err code) = omega arith
 
@@ -162,7 +162,7 @@ module _ (tables : Tables) (cert : Certificate) (lawful : ways.IsLawful tables c
         where
           put_in : (s : SomeAnswer t.tid t.records (get_pdr_request_bytes (asked_under id r))) (a : AnswersWalker (records_by_place tables.plan cert n) id r s.answer)
               → Answers t.tid t.records (get_pdr_request_bytes (asked_under id r)) (Some a.bytes) s.tid_after → EachByte a.bytes → s.tid_after < 256
-              → (ps : List Frame) × ArePacketsOf (unit_of tables.plan) a.bytes key.source (answer_key eid key) 0 ps → HasReplied n eid own key id r w t
+              → (ps : List PacketValue) × ArePacketsOf (unit_of tables.plan) a.bytes key.source (answer_key eid key) 0 ps → HasReplied n eid own key id r w t
           put_in s a answers content low (ps, are) =
               let after_it : TerminusState = record t { tid = s.tid_after; waiting = [] } in
               let v : NetworkState = with_terminus w n (Some after_it) in

@@ -4,17 +4,17 @@ use Rattle.std.specs.List.{AllByRecursion}
 use Rattle.std.proofs.lemmas.Bool.Decides.{eqb_tells}
 use Rattle.std.proofs.lemmas.List.{append-nil, append_assoc, map-append}
 use Rattle.std.proofs.lemmas.Option.{none-some}
-use Rattle.mctp_transport.specs.Frames.{Frame, KeyValue, key_of, IsFrame, Spelled, frame_bytes}
-use Rattle.mctp_transport.specs.FrameLaws.{one_frame}
+use Rattle.mctp_transport.specs.PacketValues.{PacketValue, KeyValue, key_of, IsPacketValue, Spelled, packet_value_bytes}
+use Rattle.mctp_transport.specs.PacketValueLaws.{one_packet_value}
 use Rattle.mctp_transport.specs.Messages.{Joined}
 use Rattle.mctp_transport.specs.Histories.{Arrived, History, after, Comes}
 use Rattle.mctp_transport.specs.Hearing.{Answer, Whole, Hears}
-use Rattle.mctp_transport.proofs.Heard.{some_answer}
+use Rattle.mctp_transport.proofs.SomeAnswers.{some_answer}
 use Rattle.mctp_transport.proofs.InOrder.{arrivals, comes_in_order}
 use Rattle.net_plan.specs.declared.plan.Plan.{Plan}
 use Rattle.net_plan.specs.declared.certificate.Certificate.{Certificate}
 use Rattle.net_tables.specs.Routing.{Holds}
-use Rattle.mctp_bridge.specs.declared.decision.Decision.TheVariants.{Here}
+use Rattle.mctp_bridge.specs.declared.decision.Decision.TheVariants.{Deliver}
 use Rattle.net_runs.specs.States.{NetworkState, at_start, without_flight, with_input, with_packet, with_received, unit_of, slots, limit}
 use Rattle.net_tables.specs.TwoPlans.{one_plan}
 use Rattle.net_runs.specs.Events.{Put, Move, Refusal, N01, N02, N03, N04, N05, N06, N07, PutIn, Entered, IsRefused, most_flights}
@@ -24,7 +24,7 @@ use Rattle.net_runs.specs.ExactMessages.{IsQuiet, Epoch, IsOfEpoch, TurnOfEpoch,
 use Rattle.net_runs.proofs.Nexts.{new_flight, received_same}
 
 -- nothing is on its way, so many flights were made, and the node has been given these packets
-pub record HasHeard (w : NetworkState) (n made : ℕ) (ps : List Frame) : Type 0 where
+pub record HasHeard (w : NetworkState) (n made : ℕ) (ps : List PacketValue) : Type 0 where
   pub none : (k : ℕ) → w.flight k ≡ None
   pub number : w.made ≡ made
   pub heard : w.history n ≡ arrivals ps
@@ -35,27 +35,27 @@ start_is_quiet plan cert key d = record { no_flight = λ number f is. absurd (cc
 
 module _ (plan : Plan) (n d : ℕ) (key : KeyValue) (epoch : Epoch) (there : n < length plan.nodes.items) (holds : Holds plan n d) where
   -- a packet that may be sent
-  pub record IsSendable (p : Frame) : Type 0 where
-    pub lawful : IsFrame (unit_of plan) p
+  pub record IsSendable (p : PacketValue) : Type 0 where
+    pub lawful : IsPacketValue (unit_of plan) p
     pub to : p.destination ≡ d
     pub of_key : key_of p ≡ key
     pub of_epoch : IsOfEpoch (unit_of plan) epoch key d p
 
-  abbrev pub put_turn : NetworkState → Frame → Turn
-  put_turn w p = record { event = Put n (frame_bytes p); outcome = PutIn (w.made + 1) n; after = with_packet w n p }
+  abbrev pub put_turn : NetworkState → PacketValue → Turn
+  put_turn w p = record { event = Put n (packet_value_bytes p); outcome = PutIn (w.made + 1) n; after = with_packet w n p }
 
-  abbrev pub moved_turn : NetworkState → Frame → Answer → Turn
+  abbrev pub moved_turn : NetworkState → PacketValue → Answer → Turn
   moved_turn w p answer = record {
     event = Move (w.made + 1) false;
     outcome = Entered (w.made + 1) n key answer;
     after = with_received (with_input (without_flight (with_packet w n p) (w.made + 1)) n (Arrived p)) n key answer;
   }
 
-  module _ (w : NetworkState) (ps : List Frame) (made : ℕ) (stands : HasHeard w n made ps) (few : made < most_flights) (p : Frame) (sendable : IsSendable p) where
-    spelled : Spelled (unit_of plan) p (frame_bytes p)
+  module _ (w : NetworkState) (ps : List PacketValue) (made : ℕ) (stands : HasHeard w n made ps) (few : made < most_flights) (p : PacketValue) (sendable : IsSendable p) where
+    spelled : Spelled (unit_of plan) p (packet_value_bytes p)
     spelled = (sendable.lawful, refl)
 
-    may_put : (why : Refusal) → ¬ IsRefused (one_plan plan) w (Put n (frame_bytes p)) why
+    may_put : (why : Refusal) → ¬ IsRefused (one_plan plan) w (Put n (packet_value_bytes p)) why
     may_put N01 refused = omega arith
     may_put N02 refused = refused p spelled
     may_put N03 refused = refused
@@ -64,7 +64,7 @@ module _ (plan : Plan) (n d : ℕ) (key : KeyValue) (epoch : Epoch) (there : n <
     may_put N06 refused = omega (arith, stands.number)
     may_put N07 refused = refused
 
-    pub puts : Step (one_plan plan) w (Put n (frame_bytes p)) (PutIn (w.made + 1) n) (with_packet w n p)
+    pub puts : Step (one_plan plan) w (Put n (packet_value_bytes p)) (PutIn (w.made + 1) n) (with_packet w n p)
     puts = (may_put, (p, spelled, refl, refl, refl))
 
     put_there : (with_packet w n p).flight (w.made + 1) ≡ Some (new_flight n p)
@@ -83,7 +83,7 @@ module _ (plan : Plan) (n d : ℕ) (key : KeyValue) (epoch : Epoch) (there : n <
         → Step (one_plan plan) (with_packet w n p) (Move (w.made + 1) false) (Entered (w.made + 1) n key answer) (moved_turn w p answer).after
     moves answer hears =
         let H : ℕ → Type 0 = λ e. Holds plan n e in
-        (may_move, (new_flight n p, put_there, (Here, subst H (sym sendable.to) holds, (refl, refl, sym sendable.of_key, hears, refl))))
+        (may_move, (new_flight n p, put_there, (Deliver, subst H (sym sendable.to) holds, (refl, refl, sym sendable.of_key, hears, refl))))
 
     pub has_heard : (answer : Answer) → HasHeard (moved_turn w p answer).after n (made + 1) (ps ++ p ∷ [])
     has_heard answer =
@@ -92,7 +92,7 @@ module _ (plan : Plan) (n d : ℕ) (key : KeyValue) (epoch : Epoch) (there : n <
         record {
           none = λ k. ap (λ flight. flight k) same.flight ∙ gone k;
           number = same.made ∙ ap (λ m. m + 1) stands.number;
-          heard = ap (λ history. history n) same.history ∙ given ∙ ap (λ h. after h (Arrived p)) stands.heard ∙ sym (map-append (λ (q : Frame). Arrived q) ps (p ∷ []));
+          heard = ap (λ history. history n) same.history ∙ given ∙ ap (λ h. after h (Arrived p)) stands.heard ∙ sym (map-append (λ (q : PacketValue). Arrived q) ps (p ∷ []));
         }
       where
         gone : (k : ℕ) → (without_flight (with_packet w n p) (w.made + 1)).flight k ≡ None
@@ -102,10 +102,10 @@ module _ (plan : Plan) (n d : ℕ) (key : KeyValue) (epoch : Epoch) (there : n <
         given = elim (eqb_tells n n) [ inl same ↦ rw same.0 refl | inr other ↦ absurd (other.1 refl) ]
 
     -- what is put in is of the epoch
-    put_is_tidy : (q : Frame) → PutsIn plan (put_turn w p) q → key_of q ≡ key → q.destination ≡ d → IsOfEpoch (unit_of plan) epoch key d q
+    put_is_tidy : (q : PacketValue) → PutsIn plan (put_turn w p) q → key_of q ≡ key → q.destination ≡ d → IsOfEpoch (unit_of plan) epoch key d q
     put_is_tidy q put mine to =
-        let P : Frame → Type 0 = IsOfEpoch (unit_of plan) epoch key d in
-        subst P (sym (one_frame (unit_of plan) q p put.0 sendable.lawful (sym put.1))) sendable.of_epoch
+        let P : PacketValue → Type 0 = IsOfEpoch (unit_of plan) epoch key d in
+        subst P (sym (one_packet_value (unit_of plan) q p put.0 sendable.lawful (sym put.1))) sendable.of_epoch
 
   -- the packets are sent, and then the last, with which the message is told
   pub record IsSent (w : NetworkState) (whole : List ℕ) : Type 0 where
@@ -116,7 +116,7 @@ module _ (plan : Plan) (n d : ℕ) (key : KeyValue) (epoch : Epoch) (there : n <
     pub tidy : IsTidyFrom (unit_of plan) plan key d w epoch (earlier ++ (turn, epoch) ∷ [])
     pub told : turn.outcome ≡ Entered number n key (Whole whole)
 
-  send : (w : NetworkState) (ps rest : List Frame) (made : ℕ) (p : Frame) (whole : List ℕ) → HasHeard w n made ps → made + length rest < most_flights
+  send : (w : NetworkState) (ps rest : List PacketValue) (made : ℕ) (p : PacketValue) (whole : List ℕ) → HasHeard w n made ps → made + length rest < most_flights
       → AllByRecursion IsSendable rest → IsSendable p → Comes slots limit (after (arrivals (ps ++ rest)) (Arrived p)) whole → IsSent w whole
   send w ps [] made p whole stands few all sendable comes =
       let here : w.history n ≡ arrivals (ps ++ []) = stands.heard ∙ ap arrivals (sym (append-nil ps)) in
@@ -133,7 +133,7 @@ module _ (plan : Plan) (n d : ℕ) (key : KeyValue) (epoch : Epoch) (there : n <
   send w ps (r ∷ rest) made p whole stands few all sendable comes =
       let heard = some_answer slots limit (w.history n) r in
       let answer = heard.0 in
-      let C : List Frame → Type 0 = λ qs. Comes slots limit (after (arrivals qs) (Arrived p)) whole in
+      let C : List PacketValue → Type 0 = λ qs. Comes slots limit (after (arrivals qs) (Arrived p)) whole in
       let then_heard = has_heard w ps made stands (omega arith) r all.0 answer in
       let sent =
       send (moved_turn w r answer).after (ps ++ r ∷ []) rest (made + 1) p whole then_heard (omega arith) all.1 sendable
@@ -148,7 +148,7 @@ module _ (plan : Plan) (n d : ℕ) (key : KeyValue) (epoch : Epoch) (there : n <
       }
 
   -- packets that join to a message, sent from the start on
-  pub sent_is_told : (cert : Certificate) (ps : List Frame) (p : Frame) (whole : List ℕ) → length ps < most_flights → AllByRecursion IsSendable ps → IsSendable p
+  pub sent_is_told : (cert : Certificate) (ps : List PacketValue) (p : PacketValue) (whole : List ℕ) → length ps < most_flights → AllByRecursion IsSendable ps → IsSendable p
       → Joined (ps ++ p ∷ []) whole → length whole ≤ limit → IsTold (unit_of plan) plan cert key d epoch whole
   sent_is_told cert ps p whole few all sendable joined fits =
       let sent = send (at_start plan cert) [] ps 0 p whole (record { none = λ k. refl; number = refl; heard = refl }) (omega arith) all sendable (comes_in_order slots limit ps p whole (omega arith) joined fits) in

@@ -1,10 +1,10 @@
 -- A key is settled or not, where flights have numbers up to the last one made.
-use Rattle.std.proofs.Common.{◌≡◌, ◌≢◌, ℕ, ◌+◌, ◌<◌, Bool, true, false, length, Option, Some, None, refl, ap, subst, inl, inr, arith}
+use Rattle.std.proofs.Common.{◌≡◌, ◌≢◌, ℕ, ◌+◌, Bool, true, false, length, Option, Some, None, refl, ap, subst, inl, inr, arith}
 use Rattle.std.specs.Prelude.{All, ◌↔◌}
-use Rattle.std.proofs.lemmas.Option.{same_Some, slice_get_cases}
-use Rattle.mctp_transport.specs.Frames.{KeyValue, key_of}
+use Rattle.std.proofs.lemmas.Option.{same_Some}
+use Rattle.mctp_transport.specs.PacketValues.{KeyValue, key_of}
 use Rattle.mctp_transport.specs.Histories.{IsOpen}
-use Rattle.mctp_transport.proofs.Heard.{open_or_not}
+use Rattle.mctp_transport.proofs.SomeAnswers.{open_or_not}
 use Rattle.net_plan.specs.declared.plan.Plan.{Plan}
 use Rattle.net_tables.specs.Routing.{Holds}
 use Rattle.net_runs.specs.Termini.{TerminusState, WaitingMessage}
@@ -15,6 +15,7 @@ use Rattle.net_runs.specs.WalkedGoing.{HasNumberedFlights}
 use Rattle.pdr_repository.proofs.Deciding.{OrNot, both_or_not, implied_or_not, not_or_not, same_or_not}
 use Rattle.pdr_repository.proofs.Searching.{all_or_not, items_or_not, three_or_not}
 use Rattle.net_runs.proofs.Steps.{holds_or_not}
+use Rattle.net_tables.proofs.Elements.{holder_within}
 
 flag_or_not : (a b : Bool) → OrNot (a ≡ b)
 flag_or_not true true = inl refl
@@ -36,13 +37,6 @@ flight_or_not (Some g) P test = elim (test g) [ inl is ↦ inl (λ f same. subst
 terminus_or_not : (o : Option TerminusState) (P : TerminusState → Type 0) → ((t : TerminusState) → OrNot (P t)) → OrNot ((t : TerminusState) → o ≡ Some t → P t)
 terminus_or_not None P test = inl (λ t is. absurd (cc))
 terminus_or_not (Some s) P test = elim (test s) [ inl is ↦ inl (λ t same. subst P (same_Some s t same) is) | inr not ↦ inr (λ all. not (all s refl)) ]
-
--- who holds an EID is a node of the plan
-pub holder_is_there : (plan : Plan) (n e : ℕ) → Holds plan n e → n < length plan.nodes.items
-holder_is_there plan n e holds = elim (slice_get_cases plan.nodes.items n).1 [
-  | inl there ↦ there.1
-  | inr beyond ↦ absurd (let f : None ≡ Some e = rw beyond.1 at holds in cc)
-]
 
 -- a flight of another key or to elsewhere, and a terminus where nothing of the key waits
 abbrev IsOther : KeyValue → ℕ → Flight → Type 0
@@ -80,14 +74,14 @@ module _ (plan : Plan) (w : NetworkState) (numbered : HasNumberedFlights w) wher
       not_open : OrNot ((n : ℕ) → Holds plan n d → ¬ IsOpen slots limit (w.history n) key)
       not_open =
           all_or_not (λ n. Holds plan n d → ¬ IsOpen slots limit (w.history n) key) (λ n. implied_or_not _ _ (holds_or_not plan n d) (not_or_not _ (open_there n)))
-          (length plan.nodes.items) (λ n large holds. let inside = holder_is_there plan n d holds in absurd (omega arith))
+          (length plan.nodes.items) (λ n large holds. let inside = holder_within plan n d holds in absurd (omega arith))
 
       none_waits : OrNot ((n : ℕ) → Holds plan n d → (t : TerminusState) → w.terminus n ≡ Some t → Rests key t)
       none_waits =
           all_or_not (λ n. Holds plan n d → (t : TerminusState) → w.terminus n ≡ Some t → Rests key t)
           (λ n. implied_or_not _ _ (holds_or_not plan n d)
           (terminus_or_not (w.terminus n) (Rests key) (λ t. items_or_not (λ (m : WaitingMessage). m.key ≢ key) (λ m. not_or_not _ (key_or_not m.key key)) t.waiting)))
-          (length plan.nodes.items) (λ n large holds. let inside = holder_is_there plan n d holds in absurd (omega arith))
+          (length plan.nodes.items) (λ n large holds. let inside = holder_within plan n d holds in absurd (omega arith))
 
   pub both_settled_or_not : (own : ℕ) (walker : WalkerValue) → OrNot (AreSettled plan w own walker)
   both_settled_or_not own walker = both_or_not _ _ (settled_or_not (asking_key own walker) walker.eid) (settled_or_not (answering_key walker) own)

@@ -1,15 +1,15 @@
 -- Whatever the event, some step is there: the network is never stuck.
-use Rattle.std.proofs.Common.{List, ◌≡◌, ℕ, zero, suc, ◌+◌, ◌-◌, ◌<◌, ◌≤◌, [], ◌∷◌, sym, ap, ◌∙◌, subst, Bool, true, false, Option, Some, None, refl, arith, inl, inr, length}
+use Rattle.std.proofs.Common.{List, ◌≡◌, ℕ, ◌+◌, ◌-◌, ◌<◌, ◌≤◌, [], ◌∷◌, sym, ap, ◌∙◌, subst, Bool, true, false, Option, Some, None, refl, arith, inl, inr, length}
 use Rattle.std.specs.Prelude.{◌⊎◌, All}
 use Rattle.std.proofs.lemmas.List.Elements.{All-head}
 use Rattle.std.proofs.lemmas.Bool.{cases_lt}
 use Rattle.std.proofs.lemmas.Option.{slice_get_cases}
-use Rattle.mctp_transport.specs.Frames.{Frame, KeyValue, key_of, IsAssignable, Spelled}
+use Rattle.mctp_transport.specs.PacketValues.{PacketValue, KeyValue, key_of, IsAssignable, Spelled}
 use Rattle.mctp_transport.specs.Histories.{Arrived, TimeUp}
 use Rattle.mctp_transport.specs.Cutting.{ArePacketsOf}
 use Rattle.mctp_transport.specs.PacketsLeft.{cut}
 use Rattle.mctp_transport.proofs.PacketLists.{all_packets}
-use Rattle.mctp_transport.proofs.Heard.{some_answer, open_or_not}
+use Rattle.mctp_transport.proofs.SomeAnswers.{some_answer, open_or_not}
 use Rattle.mctp_transport.proofs.Spellings.{spelled_or_not}
 use Rattle.net_plan.specs.declared.plan.Plan.{Plan}
 use Rattle.net_plan.specs.declared.nodes.Node.{Node}
@@ -18,38 +18,19 @@ use Rattle.net_plan.specs.declared.nodes.Kind.TheVariants.{Bridge, Endpoint}
 use Rattle.net_runs.proofs.Units.{least_unit}
 use Rattle.net_tables.specs.Routing.{Holds, IsBridge, node_at, eid_of, NamesFor}
 use Rattle.mctp_bridge.specs.declared.decision.Decision.{Decision}
-use Rattle.mctp_bridge.specs.declared.decision.Obstacle.TheVariants.{Unassignable, NoBridge, NoRow}
-use Rattle.mctp_bridge.specs.declared.decision.Decision.TheVariants.{Here, Drop, Forward}
+use Rattle.mctp_bridge.specs.declared.decision.ForwardFault.TheVariants.{Unassignable, NoBridge, NoRow}
+use Rattle.mctp_bridge.specs.declared.decision.Decision.TheVariants.{Deliver, Drop, Forward}
 use Rattle.net_runs.specs.Termini.{TerminusState, WaitingMessage, AreBytes, HoldsBytes}
 use Rattle.net_runs.specs.States.{NetworkState, Flight, destination, with_flight, without_flight, with_made, with_input, with_terminus, with_packet, with_packets, with_received, with_switched, unit_of, slots, limit, rows_now}
 use Rattle.net_tables.specs.TwoPlans.{Tables}
 use Rattle.net_runs.specs.Events.{EventValue, Put, Move, Lose, Expire, AnswerAt, Switch, Refusal, N01, N02, N03, N04, N05, N06, N07, OutcomeValue, PutIn, Moved, Entered, Stopped, Lost, Expired, Answered, Silent, Switched, Refused, IsRefused, named_node, named_flight, asked_node, switched_node, bytes_put, numbers_needed, refusal_number, most_flights}
-use Rattle.net_runs.specs.Networks.{IsDecided, Moves, answer_key, Happens, GoesOn}
+use Rattle.net_runs.specs.Networks.{IsDecided, Moves, answer_key, Happens, HasStep}
 use Rattle.pdr_repository.specs.Answers.{Answers}
 use Rattle.pdr_repository.proofs.SomeAnswers.{SomeAnswer, some_answering}
 use Rattle.net_tables.proofs.TableLaws.{routed, named}
 use Rattle.pdr_repository.proofs.Deciding.{OrNot, both_or_not, either_or_not, less_or_not, at_most_or_not, some_and_or_not, none_or_not, empty_or_not, same_or_not}
 use Rattle.net_tables.proofs.RowSearches.{is_or_not, one_or_none}
-
--- the refusals are known by their numbers
-abbrev numbered : ℕ → Refusal
-numbered zero = N01
-numbered (suc zero) = N01
-numbered (suc (suc zero)) = N02
-numbered (suc (suc (suc zero))) = N03
-numbered (suc (suc (suc (suc zero)))) = N04
-numbered (suc (suc (suc (suc (suc zero))))) = N05
-numbered (suc (suc (suc (suc (suc (suc zero)))))) = N06
-numbered (suc (suc (suc (suc (suc (suc (suc n))))))) = N07
-
-numbered_is : (why : Refusal) → numbered (refusal_number why) ≡ why
-numbered_is N01 = refl
-numbered_is N02 = refl
-numbered_is N03 = refl
-numbered_is N04 = refl
-numbered_is N05 = refl
-numbered_is N06 = refl
-numbered_is N07 = refl
+use Rattle.net_runs.proofs.OneOutcomes.{refusal_of, numbered}
 
 number_range : (why : Refusal) → (1 ≤ refusal_number why) × (refusal_number why ≤ 7)
 number_range N01 = (omega arith, omega arith)
@@ -69,7 +50,7 @@ one_more_below P why below not other lt = elim (cases_lt (refusal_number other) 
   | inr from ↦
       let N : Refusal → Type 0 = λ r. ¬ P r in
       let number : refusal_number why ≡ refusal_number other = omega arith in
-      subst N (sym (numbered_is why) ∙ ap numbered number ∙ numbered_is other) not
+      subst N (sym (numbered why) ∙ ap refusal_of number ∙ numbered other) not
 ]
 
 -- where each refusal applies or not, one is the least that applies, or none applies
@@ -93,7 +74,7 @@ pub true_or_not : (b : Bool) → OrNot (b ≡ true)
 true_or_not true = inl refl
 true_or_not false = inr (λ e. cc)
 
-no_packet_or_not : (unit : ℕ) (bytes : List ℕ) → OrNot ((p : Frame) → ¬ Spelled unit p bytes)
+no_packet_or_not : (unit : ℕ) (bytes : List ℕ) → OrNot ((p : PacketValue) → ¬ Spelled unit p bytes)
 no_packet_or_not unit bytes = elim (spelled_or_not unit bytes) [ inl (p, is) ↦ inr (λ none. none p is) | inr none ↦ inl none ]
 
 refused_or_not : (tables : Tables) (w : NetworkState) (event : EventValue) (why : Refusal) → OrNot (IsRefused tables w event why)
@@ -132,7 +113,7 @@ assignable_or_not e = both_or_not _ _ (at_most_or_not 8 e) (at_most_or_not e 254
 -- some decision is taken
 some_decision : (plan : Plan) (rows : List Row) (f : Flight) → (decision : Decision) × IsDecided plan rows f decision
 some_decision plan rows f = elim (holds_or_not plan f.node (destination f)) [
-  | inl here ↦ (Here, here)
+  | inl here ↦ (Deliver, here)
   | inr away ↦ elim (assignable_or_not (destination f)) [
     | inr not ↦ (Drop Unassignable, (away, not))
     | inl may ↦ elim (either_or_not _ _ (bridge_or_not plan f.node) (same_or_not f.hops 0)) [
@@ -157,12 +138,12 @@ some_move : (tables : Tables) (w : NetworkState) (number : ℕ) (f : Flight) →
 some_move tables w number f = by (some_decision tables.plan (rows_now tables w f.node) f)
   where
     by : (decision : Decision) × IsDecided tables.plan (rows_now tables w f.node) f decision → SomeMove tables w number f
-    by (Here, holds) =
+    by (Deliver, holds) =
         let heard = some_answer slots limit (w.history f.node) f.packet in
         record {
           outcome = Entered number f.node (key_of f.packet) heard.0;
           new = with_received (with_input w f.node (Arrived f.packet)) f.node (key_of f.packet) heard.0;
-          moves = (Here, holds, (refl, refl, refl, heard.1.hears, refl));
+          moves = (Deliver, holds, (refl, refl, refl, heard.1.hears, refl));
         }
     by (Drop why, decided) = record { outcome = Stopped number why; new = w; moves = (Drop why, decided, (refl, refl, refl)) }
     by (Forward hop, decided) = record {
@@ -173,7 +154,7 @@ some_move tables w number f = by (some_decision tables.plan (rows_now tables w f
 
 -- an event that isn't refused happens
 happens_so : (tables : Tables) (w : NetworkState) (event : EventValue) (outcome : OutcomeValue) (new : NetworkState)
-    → ((why : Refusal) → ¬ IsRefused tables w event why) → Happens tables w event outcome new → GoesOn tables w event
+    → ((why : Refusal) → ¬ IsRefused tables w event why) → Happens tables w event outcome new → HasStep tables w event
 happens_so tables w event (Refused why) new may happens = absurd (no_refusal event happens)
   where
     no_refusal : (event : EventValue) → Happens tables w event (Refused why) new → ⊥
@@ -196,15 +177,15 @@ holds_some plan n within = elim (slice_get_cases plan.nodes.items n).1 [
 ]
 
 -- the packets of an answer
-pub some_packets : (plan : Plan) (answer : List ℕ) (destination : ℕ) (key : KeyValue) → (ps : List Frame) × ArePacketsOf (unit_of plan) answer destination key 0 ps
+pub some_packets : (plan : Plan) (answer : List ℕ) (destination : ℕ) (key : KeyValue) → (ps : List PacketValue) × ArePacketsOf (unit_of plan) answer destination key 0 ps
 some_packets plan answer destination key =
-    let f : Frame = record {
+    let f : PacketValue = record {
       reserved = 0;
       destination = destination;
       source = key.source;
       som = true;
       eom = false;
-      number = 0;
+      sequence = 0;
       owner = key.owner;
       tag = key.tag;
       payload = answer;
@@ -213,15 +194,15 @@ some_packets plan answer destination key =
 
 -- the oldest message that waits at a terminus is answered, or gets no answer
 replies : (tables : Tables) (w : NetworkState) (node : ℕ) (t : TerminusState) (oldest : WaitingMessage) (rest : List WaitingMessage) → w.terminus node ≡ Some t
-    → t.waiting ≡ oldest ∷ rest → HoldsBytes t → ((why : Refusal) → ¬ IsRefused tables w (AnswerAt node) why) → GoesOn tables w (AnswerAt node)
+    → t.waiting ≡ oldest ∷ rest → HoldsBytes t → ((why : Refusal) → ¬ IsRefused tables w (AnswerAt node) why) → HasStep tables w (AnswerAt node)
 replies tables w node t oldest rest is waits bytes may =
     let W : List WaitingMessage → Type 0 = λ ms. All (λ m. AreBytes m.bytes) ms in
     by (some_answering t.tid t.records oldest.bytes bytes.0 (All-head (λ m. AreBytes m.bytes) oldest rest (subst W waits bytes.1)))
   where
-    by : SomeAnswer t.tid t.records oldest.bytes → GoesOn tables w (AnswerAt node)
+    by : SomeAnswer t.tid t.records oldest.bytes → HasStep tables w (AnswerAt node)
     by s = told s.answer s.answers
       where
-        told : (answer : Option (List ℕ)) → Answers t.tid t.records oldest.bytes answer s.tid_after → GoesOn tables w (AnswerAt node)
+        told : (answer : Option (List ℕ)) → Answers t.tid t.records oldest.bytes answer s.tid_after → HasStep tables w (AnswerAt node)
         told None answers = (
           Silent node,
           with_terminus w node (Some (record t { tid = s.tid_after; waiting = rest })),
@@ -237,13 +218,13 @@ replies tables w node t oldest rest is waits bytes may =
             )
 
 -- some step is there
-pub some_step : (tables : Tables) (w : NetworkState) (event : EventValue) → ((n : ℕ) (t : TerminusState) → w.terminus n ≡ Some t → HoldsBytes t) → GoesOn tables w event
+pub some_step : (tables : Tables) (w : NetworkState) (event : EventValue) → ((n : ℕ) (t : TerminusState) → w.terminus n ≡ Some t → HoldsBytes t) → HasStep tables w event
 some_step tables w event bytes = elim (least_or_none (IsRefused tables w event) (refused_or_not tables w event)) [
   | inl (why, is, least) ↦ (Refused why, w, ((is, least), refl))
   | inr may ↦ happens event may
 ]
   where
-    happens : (event : EventValue) → ((why : Refusal) → ¬ IsRefused tables w event why) → GoesOn tables w event
+    happens : (event : EventValue) → ((why : Refusal) → ¬ IsRefused tables w event why) → HasStep tables w event
     happens (Put node bytes) may = elim (spelled_or_not (unit_of tables.plan) bytes) [
       | inr none ↦ absurd (may N02 none)
       | inl (p, is) ↦ (
@@ -254,14 +235,14 @@ some_step tables w event bytes = elim (least_or_none (IsRefused tables w event) 
     ]
     happens (Move number false) may = there (w.flight number) refl
       where
-        there : (o : Option Flight) → w.flight number ≡ o → GoesOn tables w (Move number false)
+        there : (o : Option Flight) → w.flight number ≡ o → HasStep tables w (Move number false)
         there None is = absurd (may N03 is)
         there (Some f) is =
             let m = some_move tables (without_flight w number) number f in
             happens_so tables w (Move number false) m.outcome m.new may (f, is, m.moves)
     happens (Move number true) may = there (w.flight number) refl
       where
-        there : (o : Option Flight) → w.flight number ≡ o → GoesOn tables w (Move number true)
+        there : (o : Option Flight) → w.flight number ≡ o → HasStep tables w (Move number true)
         there None is = absurd (may N03 is)
         there (Some f) is =
             let m = some_move tables (with_made w (w.made + 1)) (w.made + 1) f in
@@ -273,10 +254,10 @@ some_step tables w event bytes = elim (least_or_none (IsRefused tables w event) 
     happens (Switch node) may = (Switched node, with_switched w node, (may, (refl, refl)))
     happens (AnswerAt node) may = there (w.terminus node) refl
       where
-        there : (o : Option TerminusState) → w.terminus node ≡ o → GoesOn tables w (AnswerAt node)
+        there : (o : Option TerminusState) → w.terminus node ≡ o → HasStep tables w (AnswerAt node)
         there None is = absurd (may N04 is)
         there (Some t) is = first t.waiting refl
           where
-            first : (messages : List WaitingMessage) → t.waiting ≡ messages → GoesOn tables w (AnswerAt node)
+            first : (messages : List WaitingMessage) → t.waiting ≡ messages → HasStep tables w (AnswerAt node)
             first [] none = absurd (may N05 (rw is none))
             first (oldest ∷ rest) waits = replies tables w node t oldest rest is waits (bytes node t is) may

@@ -3,7 +3,7 @@
 use Rattle.std.proofs.Common.{◌≡◌, ◌⊎◌, ℕ, List, [], ◌∷◌, Some, sym, ◌∙◌, subst, inl, inr}
 use Rattle.std.specs.List.{AllByRecursion}
 use Rattle.std.proofs.lemmas.Option.{same_Some}
-use Rattle.mctp_transport.specs.Frames.{Frame, KeyValue, key_of}
+use Rattle.mctp_transport.specs.PacketValues.{PacketValue, KeyValue, key_of}
 use Rattle.mctp_transport.specs.Messages.{Joined}
 use Rattle.mctp_transport.specs.Histories.{Input, Arrived, TimeUp, History, EachArrival, key_of_input, last_of, IsOpen}
 use Rattle.mctp_transport.proofs.Collecting.{collected_more, comes_from_such}
@@ -14,7 +14,7 @@ use Rattle.net_runs.specs.ExactMessages.{IsQuiet}
 use Rattle.net_runs.proofs.Nexts.{IsThere, HasMoved, IsNew, IsNext, MayBeGiven}
 use Rattle.net_runs.proofs.Promised.{TellsMessage}
 
-module _ (tables : Tables) (key : KeyValue) (d : ℕ) (P : Frame → Type 0) where
+module _ (tables : Tables) (key : KeyValue) (d : ℕ) (P : PacketValue → Type 0) where
   -- each flight of the key to d is such, and so is each packet that is collected for it where it is open
   pub record AreSuch (w : NetworkState) : Type 0 where
     pub flights : (number : ℕ) (f : Flight) → w.flight number ≡ Some f → key_of f.packet ≡ key → destination f ≡ d → P f.packet
@@ -29,10 +29,10 @@ module _ (tables : Tables) (key : KeyValue) (d : ℕ) (P : Frame → Type 0) whe
   one_eid : (n e : ℕ) → Holds tables.plan n e → Holds tables.plan n d → e ≡ d
   one_eid n e one other = same_Some e d (sym one ∙ other)
 
-  abbrev pub PutsSuch : (Frame → Type 0) → Type 0
-  PutsSuch puts = (p : Frame) → puts p → key_of p ≡ key → p.destination ≡ d → P p
+  abbrev pub PutsSuch : (PacketValue → Type 0) → Type 0
+  PutsSuch puts = (p : PacketValue) → puts p → key_of p ≡ key → p.destination ≡ d → P p
 
-  such_flight : (w : NetworkState) (puts : Frame → Type 0) (g : Flight) → AreSuch w → PutsSuch puts
+  such_flight : (w : NetworkState) (puts : PacketValue → Type 0) (g : Flight) → AreSuch w → PutsSuch puts
       → IsThere w g ⊎ (HasMoved tables w g ⊎ IsNew puts g) → key_of g.packet ≡ key → destination g ≡ d → P g.packet
   such_flight w puts g such only (inl (number, is)) mine there = such.flights number g is mine there
   such_flight w puts g such only (inr (inl moved)) mine there =
@@ -44,11 +44,11 @@ module _ (tables : Tables) (key : KeyValue) (d : ℕ) (P : Frame → Type 0) whe
 
   such_given : (w : NetworkState) (n : ℕ) (i : Input) → AreSuch w → Holds tables.plan n d → MayBeGiven tables w n i → key_of_input i ≡ key → EachArrival P (i ∷ [])
   such_given w n (Arrived p) such holds (there, (f, (number, is), same)) mine =
-      let Q : Frame → Type 0 = λ q. key_of q ≡ key → q.destination ≡ d → P q in
+      let Q : PacketValue → Type 0 = λ q. key_of q ≡ key → q.destination ≡ d → P q in
       (subst Q same (such.flights number f is) mine (one_eid n p.destination there holds), tt)
   such_given w n (TimeUp k) such holds may mine = tt
 
-  pub next_are_such : (w : NetworkState) (puts : Frame → Type 0) (new : NetworkState) → AreSuch w → PutsSuch puts → IsNext tables w puts new → AreSuch new
+  pub next_are_such : (w : NetworkState) (puts : PacketValue → Type 0) (new : NetworkState) → AreSuch w → PutsSuch puts → IsNext tables w puts new → AreSuch new
   next_are_such w puts new such only next = record {
     flights = λ number g is mine there. such_flight w puts g such only (next.flights number g is) mine there;
     collected = λ n holds opened.
@@ -64,7 +64,7 @@ module _ (tables : Tables) (key : KeyValue) (d : ℕ) (P : Frame → Type 0) whe
 
   -- a message that is told joins such packets, one of which is on its way
   pub told_joins_such : (w : NetworkState) (n : ℕ) (message : List ℕ) → AreSuch w → Holds tables.plan n d → TellsMessage tables w n key message
-      → (p : Frame) × (ps : List Frame) × P p × Joined ps message × AllByRecursion P ps
+      → (p : PacketValue) × (ps : List PacketValue) × P p × Joined ps message × AllByRecursion P ps
   told_joins_such w n message such holds told =
       let p = told.flight.packet in
       let C : KeyValue → Type 0 = λ k. IsOpen slots limit (w.history n) k → EachArrival P (last_of (w.history n) k) in

@@ -1,27 +1,23 @@
 -- A message that comes is told by the turn with which it comes.
 use Rattle.std.proofs.Common.{◌≡◌, ℕ, ◌+◌, true, false, List, [], ◌∷◌, length, Some, None, sym, refl, ap, ◌∙◌, subst, inl, inr, arith, length-append}
 use Rattle.std.proofs.lemmas.Bool.Decides.{eqb_tells}
-use Rattle.mctp_transport.specs.Frames.{Frame, KeyValue, key_of}
+use Rattle.mctp_transport.specs.PacketValues.{PacketValue, KeyValue, key_of}
 use Rattle.mctp_transport.specs.Histories.{Input, Arrived, TimeUp, History, after, Comes}
 use Rattle.mctp_transport.specs.Hearing.{Answer, Whole, Hears}
 use Rattle.mctp_transport.proofs.Openness.{last_input}
 use Rattle.mctp_transport.proofs.FirstIndexes.{snoc_same}
 use Rattle.mctp_transport.proofs.Verdicts.{hears_one}
-use Rattle.mctp_bridge.specs.declared.decision.Decision.TheVariants.{Here, Drop, Forward}
-use Rattle.net_runs.specs.States.{NetworkState, Flight, without_flight, with_made, with_input, with_terminus, with_packet, with_packets, slots, limit}
+use Rattle.mctp_bridge.specs.declared.decision.Decision.TheVariants.{Deliver, Drop, Forward}
+use Rattle.net_runs.specs.States.{NetworkState, Flight, without_flight, with_made, with_input, with_terminus, slots, limit}
 use Rattle.net_tables.specs.TwoPlans.{Tables}
 use Rattle.net_runs.specs.Events.{EventValue, Put, Move, Lose, Expire, AnswerAt, Switch, OutcomeValue, PutIn, Moved, Entered, Stopped, Lost, Expired, Answered, Silent, Switched, Refused}
 use Rattle.net_runs.specs.Networks.{Step, Happens, Moves}
 use Rattle.net_runs.specs.ExactMessages.{ComesAt, TellsWhatComes}
 use Rattle.net_runs.proofs.Nexts.{received_same}
+use Rattle.net_runs.proofs.AtRest.{packets_history}
 
 unchanged : (h new : History) (i : Input) → new ≡ h → new ≡ after h i → ⊥
 unchanged h new i same more = omega (arith, ap length (sym same ∙ more), length-append h (i ∷ []))
-
--- putting packets in changes no history
-packets_histories : (w : NetworkState) (node : ℕ) (ps : List Frame) → (with_packets w node ps).history ≡ w.history
-packets_histories w node [] = refl
-packets_histories w node (p ∷ ps) = packets_histories (with_packet w node p) node ps
 
 abbrev IsTold : ℕ → KeyValue → List ℕ → OutcomeValue → Type 0
 IsTold n key message outcome = (number : ℕ) × (outcome ≡ Entered number n key (Whole message))
@@ -31,7 +27,7 @@ module _ (tables : Tables) (n : ℕ) (key : KeyValue) (message : List ℕ) where
   not_here w new outcome comes same = absurd (unchanged (w.history n) (new.history n) (Arrived comes.packet) same comes.entered)
 
   -- what is heard of the packet with which the message comes is the message
-  whole_is_heard : (h new : History) (p q : Frame) (j : ℕ) (told : KeyValue) (answer : Answer) → told ≡ key_of p → key_of q ≡ key → new ≡ after h (Arrived p) → new ≡ after h (Arrived q)
+  whole_is_heard : (h new : History) (p q : PacketValue) (j : ℕ) (told : KeyValue) (answer : Answer) → told ≡ key_of p → key_of q ≡ key → new ≡ after h (Arrived p) → new ≡ after h (Arrived q)
       → Hears slots limit h p answer → Comes slots limit new message → IsTold n key message (Entered j n told answer)
   whole_is_heard h new p q j told answer whose mine here there hears came =
       let same : p ≡ q = (last_input h h p q (sym here ∙ there)).1 in
@@ -42,7 +38,7 @@ module _ (tables : Tables) (n : ℕ) (key : KeyValue) (message : List ℕ) where
 
   moves_told : (v : NetworkState) (k : ℕ) (f : Flight) (outcome : OutcomeValue) (new : NetworkState) → Moves tables v k f outcome new → ComesAt v new n key message
       → IsTold n key message outcome
-  moves_told v k f (Entered j node told answer) new (Here, holds, (number, at, whose, hears, is)) comes =
+  moves_told v k f (Entered j node told answer) new (Deliver, holds, (number, at, whose, hears, is)) comes =
       let entered : NetworkState = with_input v f.node (Arrived f.packet) in
       let kept : new.history n ≡ entered.history n =
       ap (λ (u : NetworkState). u.history n) is ∙ ap (λ history. history n) (received_same entered f.node told answer).history in
@@ -75,12 +71,12 @@ module _ (tables : Tables) (n : ℕ) (key : KeyValue) (message : List ℕ) where
     | inr other ↦ not_here w new (Expired at was_open) comes (ap (λ (u : NetworkState). u.history n) is ∙ rw other.0 refl)
   ]
     where
-      apart : {p : Frame} {k : KeyValue} → ◌≡◌ {A = Input} (Arrived p) (TimeUp k) → ⊥
+      apart : {p : PacketValue} {k : KeyValue} → ◌≡◌ {A = Input} (Arrived p) (TimeUp k) → ⊥
       apart e = cc
   happens_told w (AnswerAt node) (Silent at) new (t, oldest, rest, None, tid, stands, waits, answers, (place, is)) comes = not_here w new (Silent at) comes (ap (λ (u : NetworkState). u.history n) is)
   happens_told w (AnswerAt node) (Answered at first last) new (t, oldest, rest, Some answer, tid, stands, waits, answers, (eid, ps, holds, packets, place, begins, ends, is)) comes =
       let v : NetworkState = with_terminus w node (Some (record t { tid = tid; waiting = rest })) in
-      not_here w new (Answered at first last) comes (ap (λ (u : NetworkState). u.history n) is ∙ ap (λ history. history n) (packets_histories v node ps))
+      not_here w new (Answered at first last) comes (ap (λ (u : NetworkState). u.history n) is ∙ ap (λ history. history n) (packets_history v node ps))
   happens_told w (AnswerAt node) _ new (t, oldest, rest, None, tid, stands, waits, answers, done) comes = absurd done
   happens_told w (AnswerAt node) _ new (t, oldest, rest, Some answer, tid, stands, waits, answers, done) comes = absurd done
   happens_told w (Switch node) (Switched at) new (place, is) comes = not_here w new (Switched at) comes (ap (λ (u : NetworkState). u.history n) is)

@@ -3,12 +3,12 @@ use Rattle.std.proofs.Common.{◌≡◌, ◌≢◌, ◌⊎◌, ℕ, zero, suc, �
 use Rattle.std.specs.Prelude.{option_map, ◌==◌, if◌then◌else◌}
 use Rattle.std.proofs.lemmas.Bool.Decides.{eqb_tells}
 use Rattle.std.proofs.lemmas.Option.{none-some}
-use Rattle.mctp_transport.specs.Frames.{Frame, KeyValue, key_of}
+use Rattle.mctp_transport.specs.PacketValues.{PacketValue, KeyValue, key_of}
 use Rattle.mctp_transport.specs.Histories.{Arrived, History, after}
 use Rattle.mctp_transport.specs.Hearing.{Answer, Whole, Held, Dropped, Hears}
 use Rattle.mctp_bridge.specs.declared.row.Hop.{Hop}
 use Rattle.mctp_bridge.specs.Rows.{Routes}
-use Rattle.mctp_bridge.specs.declared.decision.Decision.TheVariants.{Here, Forward}
+use Rattle.mctp_bridge.specs.declared.decision.Decision.TheVariants.{Deliver, Forward}
 use Rattle.net_plan.specs.declared.certificate.Certificate.{Certificate}
 use Rattle.net_tables.specs.Routing.{Holds, IsBridge, NamesFor}
 use Rattle.net_tables.specs.Ranks.{rank}
@@ -153,15 +153,15 @@ module _ (tables : Tables) (cert : Certificate) (lawful : IsLawful tables cert) 
           let v : NetworkState = with_input (without_flight u k) g.node (Arrived g.packet) in
           let new : NetworkState = with_received v g.node (key_of g.packet) answer in
           let H : ℕ → Type 0 = λ e. Holds tables.plan g.node e in
-          let E : History → Frame → Type 0 = λ h q. Hears slots limit h q answer in
+          let E : History → PacketValue → Type 0 = λ h q. Hears slots limit h q answer in
           let heard_here : u.history g.node ≡ w.history m = ap (λ history. history g.node) come.same.history ∙ ap w.history at in
           let hears_here : E (u.history g.node) g.packet = subst (λ h. E h g.packet) (sym heard_here) (subst (E (w.history m)) (sym come.packet) hears) in
           let step : Step tables u (Move k false) (Entered k g.node (key_of g.packet) answer) new =
-          (may_move u k g come.there, (g, come.there, (Here, subst H (sym (ap (λ (q : Frame). q.destination) come.packet)) come.holds, (refl, refl, refl, hears_here, refl)))) in
-          let S : ℕ → Frame → Type 0 = λ n q. Step tables u (Move k false) (Entered k n (key_of q) answer) new in
+          (may_move u k g come.there, (g, come.there, (Deliver, subst H (sym (ap (λ (q : PacketValue). q.destination) come.packet)) come.holds, (refl, refl, refl, hears_here, refl)))) in
+          let S : ℕ → PacketValue → Type 0 = λ n q. Step tables u (Move k false) (Entered k n (key_of q) answer) new in
           let told = subst (λ n. S n f.packet) at (subst (S g.node) come.packet step) in
           let same = received_same v g.node (key_of g.packet) answer in
-          let T : ℕ → Frame → Type 0 = λ n q. new.terminus ≡ (with_received w n (key_of q) answer).terminus in
+          let T : ℕ → PacketValue → Type 0 = λ n q. new.terminus ≡ (with_received w n (key_of q) answer).terminus in
           let termini : T g.node g.packet = same_termini v w g.node (key_of g.packet) answer come.same.terminus in
           record {
             before = u;

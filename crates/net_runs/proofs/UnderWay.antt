@@ -3,11 +3,11 @@
 use Rattle.std.proofs.Common.{◌≡◌, ℕ, ◌<◌, true, false, List, Some, refl, sym, ap, ◌∙◌, subst, inl, inr, arith}
 use Rattle.std.specs.List.{AllByRecursion}
 use Rattle.std.proofs.lemmas.Option.{same_Some}
-use Rattle.mctp_transport.specs.Frames.{Frame, KeyValue, key_of, Spelled}
+use Rattle.mctp_transport.specs.PacketValues.{PacketValue, KeyValue, key_of, Spelled}
 use Rattle.mctp_transport.specs.Sending.{IsPacketOf}
 use Rattle.mctp_transport.proofs.Sending.{joins_to_itself}
-use Rattle.pldm_message.specs.Pdrs.{PartRequest, IsPartRequest, get_pdr_request_bytes, get_pdr_answer_bytes, Part}
-use Rattle.pldm_message.specs.Messages.{AnswerMessage}
+use Rattle.pldm_message.specs.Pdrs.{PartRequest, IsPartRequest, get_pdr_request_bytes, get_pdr_response_bytes, Part}
+use Rattle.pldm_message.specs.Messages.{ResponseMessage}
 use Rattle.pdr_repository.specs.Records.{Entry, IsLawful}
 use Rattle.pdr_repository.specs.Parts.{PartAnswer, AnswersPart}
 use Rattle.pdr_repository.specs.Answers.{Answers}
@@ -32,7 +32,7 @@ use Rattle.net_runs.proofs.Waitings.{EachWaiting, IsToldAt, step_waiting}
 use Rattle.net_runs.proofs.AnswerPuts.{IsOfAnswer, put_is_by}
 
 -- the message of an answer
-abbrev pub answer_under : ℕ → PartAnswer → AnswerMessage Part
+abbrev pub answer_under : ℕ → PartAnswer → ResponseMessage Part
 answer_under id a = record { head = record { reserved = false; instance = id }; outcome = a }
 
 -- what waits has the owner bit, and termini have their planned records
@@ -49,13 +49,13 @@ module _ (tables : Tables) (cert : Certificate) (own eid tag n : ℕ) (alone : (
   Answering = record { source = eid; tag = tag; owner = false }
 
   module _ (id : ℕ) (r : PartRequest) where
-    abbrev pub IsOfRequest : Frame → Type 0
+    abbrev pub IsOfRequest : PacketValue → Type 0
     IsOfRequest p = IsPacketOf (unit_of tables.plan) (get_pdr_request_bytes (asked_under id r)) eid Asking 0 p
 
-    abbrev pub IsOfReply : Frame → Type 0
+    abbrev pub IsOfReply : PacketValue → Type 0
     IsOfReply p = (a : PartAnswer) × AnswersPart (records_by_place tables.plan cert n) r a
-        × IsAnswerIn (get_pdr_answer_bytes (answer_under id a)) (answer_under id a)
-        × IsPacketOf (unit_of tables.plan) (get_pdr_answer_bytes (answer_under id a)) own Answering 0 p
+        × IsAnswerIn (get_pdr_response_bytes (answer_under id a)) (answer_under id a)
+        × IsPacketOf (unit_of tables.plan) (get_pdr_response_bytes (answer_under id a)) own Answering 0 p
 
     abbrev pub WaitsAsked : ℕ → WaitingMessage → Type 0
     WaitsAsked m message = Holds tables.plan m eid → message.key ≡ Asking → message.bytes ≡ get_pdr_request_bytes (asked_under id r)
@@ -69,7 +69,7 @@ module _ (tables : Tables) (cert : Certificate) (own eid tag n : ℕ) (alone : (
 
     -- what an event puts in itself is of the request, or under neither key
     abbrev pub PutsOnlyThis : EventValue → OutcomeValue → Type 0
-    PutsOnlyThis event outcome = (at flight node : ℕ) (bytes : List ℕ) (p : Frame) → event ≡ Put at bytes → outcome ≡ PutIn flight node → Spelled (unit_of tables.plan) p bytes
+    PutsOnlyThis event outcome = (at flight node : ℕ) (bytes : List ℕ) (p : PacketValue) → event ≡ Put at bytes → outcome ≡ PutIn flight node → Spelled (unit_of tables.plan) p bytes
         → (key_of p ≡ Asking → p.destination ≡ eid → IsOfRequest p) × (key_of p ≡ Answering → p.destination ≡ own → ⊥)
 
     module _ (w : NetworkState) (event : EventValue) (outcome : OutcomeValue) (new : NetworkState) (plain : IsPlain tables.plan cert w) (under : IsUnderWay w)
@@ -84,7 +84,7 @@ module _ (tables : Tables) (cert : Certificate) (own eid tag n : ℕ) (alone : (
       ]
 
       -- the answer is to the request
-      reply : (node : ℕ) (p : Frame) → IsOfAnswer tables.plan w node p → key_of p ≡ Answering → p.destination ≡ own → IsOfReply p
+      reply : (node : ℕ) (p : PacketValue) → IsOfAnswer tables.plan w node p → key_of p ≡ Answering → p.destination ≡ own → IsOfReply p
       reply node p by mine there =
           let (ps, i, are, here) = by.is in
           let key : answer_key by.eid by.oldest.key ≡ Answering = sym (are.of_key i p here) ∙ mine in
@@ -104,10 +104,10 @@ module _ (tables : Tables) (cert : Certificate) (own eid tag n : ℕ) (alone : (
           let B : List ℕ → Type 0 = λ bytes. Answers by.state.tid (records_by_place tables.plan cert n) bytes (Some by.answer) by.next_tid in
           let answered : AnswersWalker (records_by_place tables.plan cert n) id r (Some by.answer) =
           requests_are_answered by.state.tid by.next_tid id (records_by_place tables.plan cert n) r (Some by.answer) lawful under.request under.small (subst B same (subst A records by.answers)) in
-          let is : by.answer ≡ get_pdr_answer_bytes (answer_under id answered.outcome) = same_Some by.answer answered.bytes answered.is ∙ answered.spelled.1 in
+          let is : by.answer ≡ get_pdr_response_bytes (answer_under id answered.outcome) = same_Some by.answer answered.bytes answered.is ∙ answered.spelled.1 in
           let P : List ℕ → Type 0 = λ bytes. IsPacketOf (unit_of tables.plan) bytes by.oldest.key.source (answer_key by.eid by.oldest.key) 0 p in
-          let Q : ℕ → Type 0 = λ d. IsPacketOf (unit_of tables.plan) (get_pdr_answer_bytes (answer_under id answered.outcome)) d (answer_key by.eid by.oldest.key) 0 p in
-          let R : KeyValue → Type 0 = λ k. IsPacketOf (unit_of tables.plan) (get_pdr_answer_bytes (answer_under id answered.outcome)) own k 0 p in
+          let Q : ℕ → Type 0 = λ d. IsPacketOf (unit_of tables.plan) (get_pdr_response_bytes (answer_under id answered.outcome)) d (answer_key by.eid by.oldest.key) 0 p in
+          let R : KeyValue → Type 0 = λ k. IsPacketOf (unit_of tables.plan) (get_pdr_response_bytes (answer_under id answered.outcome)) own k 0 p in
           (answered.outcome, answered.answered, (answered.spelled.0, refl), subst R key (subst Q its_source (subst P is by.is)))
 
       reply_puts : PutsSuch tables Answering own IsOfReply (IsPutOf tables.plan event outcome new)

@@ -4,10 +4,10 @@ use Rattle.std.specs.Prelude.{option_map}
 use Rattle.std.specs.List.{AllByRecursion}
 use Rattle.std.proofs.lemmas.Bool.{cases_Bool}
 use Rattle.std.proofs.lemmas.Option.{same_Some}
-use Rattle.mctp_transport.specs.Frames.{KeyValue}
+use Rattle.mctp_transport.specs.PacketValues.{KeyValue}
 use Rattle.mctp_transport.specs.Histories.{Arrived}
 use Rattle.mctp_transport.specs.Hearing.{Answer, Whole, Held, Dropped}
-use Rattle.mctp_bridge.specs.declared.decision.Decision.TheVariants.{Here, Drop, Forward}
+use Rattle.mctp_bridge.specs.declared.decision.Decision.TheVariants.{Deliver, Drop, Forward}
 use Rattle.net_tables.specs.TwoPlans.{Tables}
 use Rattle.net_runs.specs.Termini.{TerminusState, WaitingMessage, with_waiting}
 use Rattle.net_runs.specs.States.{NetworkState, Flight, without_flight, with_made, with_input, with_terminus, with_received}
@@ -28,9 +28,6 @@ push P [] m all new = (new, tt)
 push P (x ∷ ms) m all new = (all.0, push P ms m all.1 new)
 
 module _ (tables : Tables) (P : ℕ → WaitingMessage → Type 0) where
-  Keeps : ℕ → TerminusState → Type 0
-  Keeps n t = AllByRecursion (P n) t.waiting
-
   received_waiting : (v : NetworkState) (node number : ℕ) (key : KeyValue) (answer : Answer) → EachWaiting P v
       → ((n : ℕ) (m : WaitingMessage) → IsToldAt (Entered number node key answer) n m → P n m) → EachWaiting P (with_received v node key answer)
   received_waiting v node number key (Whole message) each told =
@@ -52,7 +49,7 @@ module _ (tables : Tables) (P : ℕ → WaitingMessage → Type 0) where
 
   moves_waiting : (v : NetworkState) (k : ℕ) (f : Flight) (outcome : OutcomeValue) (new : NetworkState) → EachWaiting P v → Moves tables v k f outcome new
       → ((n : ℕ) (m : WaitingMessage) → IsToldAt outcome n m → P n m) → EachWaiting P new
-  moves_waiting v k f (Entered j node key answer) new each (Here, holds, (number, at, whose, hears, is)) told =
+  moves_waiting v k f (Entered j node key answer) new each (Deliver, holds, (number, at, whose, hears, is)) told =
       let E : NetworkState → Type 0 = EachWaiting P in
       let T : ℕ → Type 0 = λ m. (n : ℕ) (x : WaitingMessage) → IsToldAt (Entered j m key answer) n x → P n x in
       subst E (sym is) (received_waiting (with_input v f.node (Arrived f.packet)) f.node j key answer each (subst T at told))

@@ -2,7 +2,7 @@
 use Rattle.std.proofs.Common.{◌≡◌, ◌⊎◌, ℕ, List, [], ◌∷◌, refl, sym, subst, inl, inr}
 use Rattle.std.specs.List.{AllByRecursion}
 use Rattle.std.proofs.lemmas.List.Elements.{All-from_recursion}
-use Rattle.mctp_transport.specs.Frames.{KeyValue}
+use Rattle.mctp_transport.specs.PacketValues.{KeyValue}
 use Rattle.mctp_transport.specs.Hearing.{Whole}
 use Rattle.mctp_transport.proofs.Sending.{joins_to_itself}
 use Rattle.net_tables.specs.TwoPlans.{Tables}

@@ -1,7 +1,7 @@
 -- What is promised of all runs of the network holds of all runs with walkers.
 use Rattle.std.proofs.Common.{◌≡◌, ◌≢◌, ◌⊎◌, ℕ, ◌+◌, ◌≤◌, List, [], ◌∷◌, ◌++◌, length, Option, Some, refl, sym, ap, ◌∙◌, subst, inl, inr}
 use Rattle.std.proofs.lemmas.List.Elements.{All-from_recursion, recursion_from_All, All-weaker}
-use Rattle.mctp_transport.specs.Frames.{Frame, KeyValue, key_of}
+use Rattle.mctp_transport.specs.PacketValues.{PacketValue, KeyValue, key_of}
 use Rattle.mctp_transport.specs.Histories.{Comes}
 use Rattle.mctp_transport.specs.Hearing.{Whole}
 use Rattle.net_plan.specs.declared.certificate.Certificate.{Certificate}
@@ -23,9 +23,6 @@ same_event : (a b : EventValue) → ◌≡◌ {A = WalkedEvent} (Happening a) (H
 same_event a b e = cc
 
 module _ (tables : Tables) (cert : Certificate) where
-  start : WalkedState
-  start = walked_at_start tables.plan cert
-
   -- the run below from the start
   below : (turns : List WalkedTurn) → WalkedRunOf tables cert turns → HasRunBelow tables (walked_at_start tables.plan cert) turns
   below turns run = runs_below tables (walked_at_start tables.plan cert) turns run
@@ -38,8 +35,8 @@ module _ (tables : Tables) (cert : Certificate) where
   joins_above : (turns : List WalkedTurn) (h : HasRunBelow tables (walked_at_start tables.plan cert) turns) (n : ℕ) (key : KeyValue) (message : List ℕ) → JoinsPackets tables.plan h.below n key message
       → JoinsPacketsWalked tables.plan turns n key message
   joins_above turns h n key message (ps, joined, all) =
-      let P : Frame → Type 0 = λ p. WasPutIn tables.plan h.below p × Holds tables.plan n p.destination × (key_of p ≡ key) in
-      let Q : Frame → Type 0 = λ p. WasPutInWalked tables.plan turns p × Holds tables.plan n p.destination × (key_of p ≡ key) in
+      let P : PacketValue → Type 0 = λ p. WasPutIn tables.plan h.below p × Holds tables.plan n p.destination × (key_of p ≡ key) in
+      let Q : PacketValue → Type 0 = λ p. WasPutInWalked tables.plan turns p × Holds tables.plan n p.destination × (key_of p ≡ key) in
       (ps, joined, All-weaker P Q (λ p g. (puts_below tables (walked_at_start tables.plan cert) turns h.below h.alike p g.0, g.1, g.2)) ps all)
 
   -- a last turn with which something happens to the network, and the run below up to it
@@ -110,9 +107,6 @@ module _ (tables : Tables) (cert : Certificate) where
 
   module _ (delivers : DeliversBy tables cert) (earlier later : List WalkedTurn) (number : ℕ) (f : Flight) (run : WalkedRunOf tables cert (earlier ++ later))
       (stands : (network_reached tables.plan cert earlier).flight number ≡ Some f) (deliverable : IsDeliverable tables f) (kept : IsNotLostWalked number later) where
-    two : HasTwo earlier later
-    two = two_below earlier later run
-
     stood : (h : HasTwo earlier later) → (reached tables.plan cert h.first.below).flight number ≡ Some f
     stood h = let F : NetworkState → Type 0 = λ u. u.flight number ≡ Some f in subst F (sym h.first.reaches) stands
 

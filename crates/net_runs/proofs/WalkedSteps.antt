@@ -2,14 +2,14 @@
 use Rattle.std.proofs.Common.{◌≡◌, ◌⊎◌, ℕ, zero, suc, ◌+◌, ◌-◌, ◌<◌, ◌≤◌, Bool, true, false, not, ◌&&◌, ◌||◌, nat_eq, List, [], ◌∷◌, length, Option, Some, None, Result, Ok, Err, refl, sym, ap, ◌∙◌, subst, inl, inr, arith}
 use Rattle.std.specs.Prelude.{IsSomeAnd, MatchResult}
 use Rattle.std.proofs.lemmas.Option.{same_Some}
-use Rattle.mctp_transport.specs.Frames.{Frame, KeyValue, IsFrame, frame_bytes}
+use Rattle.mctp_transport.specs.PacketValues.{PacketValue, KeyValue, IsPacketValue, packet_value_bytes}
 use Rattle.mctp_transport.specs.Cutting.{ArePacketsOf}
 use Rattle.mctp_transport.specs.Hearing.{Whole, Held, Dropped}
 use Rattle.mctp_transport.proofs.PacketLists.{payload_at}
 use Rattle.mctp_transport.proofs.Sending.{few_packets, many_packets}
 use Rattle.pldm_message.specs.InstanceIds.{IdSet, IsFree, Gives, TakesBack, first_place, steps_to}
 use Rattle.pldm_message.specs.Pdrs.{PartRequest, get_pdr_request_bytes}
-use Rattle.pdr_repository.specs.declared.walk_fault.Step.{Step}
+use Rattle.pdr_repository.specs.declared.walk_fault.WalkProgress.{WalkProgress}
 use Rattle.pdr_repository.specs.declared.walk_fault.WalkFault.{WalkFault}
 use Rattle.pdr_repository.specs.Walkers.{asked_under}
 use Rattle.net_plan.specs.declared.plan.Plan.{Plan}
@@ -24,11 +24,12 @@ use Rattle.net_runs.specs.WalkedRuns.{IsAsking, IsFor}
 use Rattle.net_runs.specs.WalkedGoing.{IsLawfulWalker, CanGoOn, WalkedGoesOn}
 use Rattle.pdr_repository.proofs.Deciding.{OrNot, both_or_not, either_or_not, not_or_not, same_or_not, less_or_not, at_most_or_not, some_and_or_not, none_or_not, implied_or_not}
 use Rattle.pdr_repository.proofs.Searching.{search_below, all_or_not, least_below, three_or_not}
-use Rattle.net_runs.proofs.SettledOrNot.{both_settled_or_not, key_or_not, holder_is_there}
+use Rattle.net_runs.proofs.SettledOrNot.{both_settled_or_not, key_or_not}
 use Rattle.pdr_repository.proofs.SomeTakings.{takes_something}
 use Rattle.net_runs.proofs.Sent.{message_packets}
 use Rattle.net_runs.proofs.Steps.{some_step, holds_or_not, true_or_not}
 use Rattle.net_runs.proofs.FirstAsks.{never}
+use Rattle.net_tables.proofs.Elements.{holder_within}
 
 -- ---- the least refusal
 
@@ -142,7 +143,7 @@ module _ (tables : Tables) (w : WalkedState) (can : CanGoOn tables.plan w) where
   no_terminus_or_not eid =
       all_or_not (λ n. Holds tables.plan n eid → w.network.terminus n ≡ None)
       (λ n. implied_or_not _ _ (holds_or_not tables.plan n eid) (none_or_not (w.network.terminus n))) (length tables.plan.nodes.items)
-      (λ n large holds. let inside = holder_is_there tables.plan n eid holds in absurd (omega arith))
+      (λ n large holds. let inside = holder_within tables.plan n eid holds in absurd (omega arith))
 
   walk_refused_or_not : (event : WalkedEvent) (why : WalkRefusal) → OrNot (IsWalkRefused tables.plan w event why)
   walk_refused_or_not (BeginWalk node eid tag count) (Also N01) = at_most_or_not (length tables.plan.nodes.items) node
@@ -159,30 +160,30 @@ module _ (tables : Tables) (w : WalkedState) (can : CanGoOn tables.plan w) where
 -- ---- what is put in
 
 -- a packet of a message may be put in, where the destination and the key fit their bits
-pub packets_are_frames : (unit : ℕ) (message : List ℕ) (d : ℕ) (key : KeyValue) (p : Frame) → d < 256 → key.source < 256 → key.tag < 8
-    → ArePacketsOf unit message d key 0 (p ∷ []) → IsFrame unit p
+pub packets_are_frames : (unit : ℕ) (message : List ℕ) (d : ℕ) (key : KeyValue) (p : PacketValue) → d < 256 → key.source < 256 → key.tag < 8
+    → ArePacketsOf unit message d key 0 (p ∷ []) → IsPacketValue unit p
 packets_are_frames unit message d key p small narrow short are =
     let reserved = are.reserved 0 p refl in
     let to = are.addressed 0 p refl in
     let mine = are.of_key 0 p refl in
-    let number = are.numbers 0 p refl in
+    let sequence = are.numbers 0 p refl in
     let source = ap (λ (k : KeyValue). k.source) mine in
     let tag = ap (λ (k : KeyValue). k.tag) mine in
     record {
       reserved = omega arith;
       destination = omega arith;
       source = omega arith;
-      number = omega arith;
+      sequence = omega arith;
       tag = omega arith;
       some = (are.cut.last 0 p.payload (payload_at (p ∷ []) 0 p refl) refl).0;
       most = (are.cut.last 0 p.payload (payload_at (p ∷ []) 0 p refl) refl).1;
     }
 
 -- a short message is one packet
-pub one_packet : (plan : Plan) (message : List ℕ) (d : ℕ) (key : KeyValue) → 0 < length message → length message ≤ unit_of plan → (p : Frame) × ArePacketsOf (unit_of plan) message d key 0 (p ∷ [])
+pub one_packet : (plan : Plan) (message : List ℕ) (d : ℕ) (key : KeyValue) → 0 < length message → length message ≤ unit_of plan → (p : PacketValue) × ArePacketsOf (unit_of plan) message d key 0 (p ∷ [])
 one_packet plan message d key some short = by (message_packets plan message d key)
   where
-    by : (ps : List Frame) × ArePacketsOf (unit_of plan) message d key 0 ps → (p : Frame) × ArePacketsOf (unit_of plan) message d key 0 (p ∷ [])
+    by : (ps : List PacketValue) × ArePacketsOf (unit_of plan) message d key 0 ps → (p : PacketValue) × ArePacketsOf (unit_of plan) message d key 0 (p ∷ [])
     by ([], are) = absurd (omega (arith, many_packets (unit_of plan) message d key 0 [] are))
     by (p ∷ q ∷ ps, are) = absurd (omega (arith, few_packets (unit_of plan) 1 message d key 0 (p ∷ q ∷ ps) are (omega arith)))
     by (p ∷ [], are) = (p, are)
@@ -211,7 +212,7 @@ asked_walker walker id ids = record walker { walk = record walker.walk { waiting
 
 -- the request that is due is put in, as one packet
 pub record AsksUnder (tables : Tables) (w : NetworkState) (walker : WalkerValue) (own : ℕ) (r : PartRequest) (id : ℕ) (ids : IdSet) : Type 0 where
-  pub packet : Frame
+  pub packet : PacketValue
   pub are : ArePacketsOf (unit_of tables.plan) (get_pdr_request_bytes (asked_under id r)) walker.eid (asking_key own walker) 0 (packet ∷ [])
   pub asking : IsAsking tables w walker (w.made + 1) (with_packet w walker.node packet) (asked_walker walker id ids)
 
@@ -231,7 +232,7 @@ asks_under tables w walker lawful r due not_over left id ids under =
         id = id;
         request = request;
         packet = p;
-        bytes = frame_bytes p;
+        bytes = packet_value_bytes p;
         walk = record walker.walk { waiting = Some id };
         ids = ids;
         holds = lawful.home.2;
@@ -244,8 +245,8 @@ asks_under tables w walker lawful r due not_over left id ids under =
       };
     }
   where
-    may_put : (p : Frame) → IsFrame (unit_of tables.plan) p → (why : Refusal) → ¬ IsRefused tables w (Put walker.node (frame_bytes p)) why
-    may_put p frame N01 refused = let inside = holder_is_there tables.plan walker.node lawful.home.0 lawful.home.2 in omega (arith, inside, refused)
+    may_put : (p : PacketValue) → IsPacketValue (unit_of tables.plan) p → (why : Refusal) → ¬ IsRefused tables w (Put walker.node (packet_value_bytes p)) why
+    may_put p frame N01 refused = let inside = holder_within tables.plan walker.node lawful.home.0 lawful.home.2 in omega (arith, inside, refused)
     may_put p frame N02 refused = refused p (frame, refl)
     may_put p frame N03 refused = refused
     may_put p frame N04 refused = refused
@@ -369,7 +370,7 @@ module _ (tables : Tables) (w : WalkedState) (can : CanGoOn tables.plan w) where
         )
   ]
     where
-      given_back : (walker : WalkerValue) (result : Result Step WalkFault) → MatchResult result (λ step. (id : ℕ) × (walker.walk.waiting ≡ Some id)) (λ fault. Unit {0})
+      given_back : (walker : WalkerValue) (result : Result WalkProgress WalkFault) → MatchResult result (λ step. (id : ℕ) × (walker.walk.waiting ≡ Some id)) (λ fault. Unit {0})
           → (ids : IdSet) × MatchResult result (λ step. (id : ℕ) × (walker.walk.waiting ≡ Some id) × TakesBack walker.ids id ids) (λ fault. ids ≡ walker.ids)
       given_back walker (Ok step) (id, waiting) =
           (record { out = λ i. not (nat_eq i id) && walker.ids.out i; last = walker.ids.last }, (id, waiting, record { out = λ i. refl; last = refl }))

@@ -6,7 +6,7 @@ use Rattle.net_tables.specs.Repositories.{records_by_place}
 use Rattle.net_runs.specs.Termini.{AreBytes}
 use Rattle.net_tables.specs.TwoPlans.{Tables}
 use Rattle.net_runs.specs.Events.{EventValue, Put}
-use Rattle.net_runs.specs.Networks.{GoesOn}
+use Rattle.net_runs.specs.Networks.{HasStep}
 use Rattle.net_runs.specs.Runs.{Turn, RunOf, reached}
 
 -- the plan's records are bytes
@@ -21,4 +21,4 @@ PutBytes turns = All (λ turn. (node : ℕ) (bytes : List ℕ) → turn.event �
 abbrev pub RunsGoOn : Tables → Certificate → Type 0
 RunsGoOn tables cert =
     (turns : List Turn) (event : EventValue) → RecordsAreBytes tables.plan cert → PutBytes turns
-    → RunOf tables cert turns → GoesOn tables (reached tables.plan cert turns) event
+    → RunOf tables cert turns → HasStep tables (reached tables.plan cert turns) event

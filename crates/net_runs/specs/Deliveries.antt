@@ -1,13 +1,13 @@
 -- Flights whose destination is held: that they enter, and after how many moves.
 use Rattle.std.specs.Prelude.{◌≡◌, ◌≢◌, ◌⊎◌, ℕ, ◌+◌, ◌≤◌, Bool, true, false, not, ◌&&◌, ◌==◌}
 use Rattle.std.specs.Prelude.{List, [], ◌∷◌, ◌++◌, length, filter, slice_get, Some, All}
-use Rattle.mctp_transport.specs.Frames.{KeyValue}
+use Rattle.mctp_transport.specs.PacketValues.{KeyValue}
 use Rattle.mctp_transport.specs.Hearing.{Answer}
 use Rattle.net_plan.specs.declared.plan.Plan.{Plan}
 use Rattle.net_plan.specs.declared.certificate.Certificate.{Certificate}
 use Rattle.net_tables.specs.Routing.{Holds}
 use Rattle.net_tables.specs.Ranks.{rank}
-use Rattle.mctp_bridge.specs.declared.decision.Obstacle.{Obstacle}
+use Rattle.mctp_bridge.specs.declared.decision.ForwardFault.{ForwardFault}
 use Rattle.net_runs.specs.States.{NetworkState, Flight, destination}
 use Rattle.net_tables.specs.TwoPlans.{Tables, one_plan, HasRowAlways}
 use Rattle.net_runs.specs.Events.{EventValue, Put, Move, Lose, Expire, AnswerAt, Switch, OutcomeValue, PutIn, Brings}
@@ -72,7 +72,8 @@ pub record IsOnItsWay (number : ℕ) (f : Flight) (turns : List Turn) (w : Netwo
 -- flight that has just been put in has none.
 pub record DeliversBy (tables : Tables) (cert : Certificate) : Type 0 where
   -- no move ends the flight, or a copy of it, by B10, B11 or B12
-  pub stops_none : (earlier : List Turn) (turn : Turn) (number : ℕ) (keep : Bool) (f : Flight) (k : ℕ) (why : Obstacle)
+  pub stops_none : (earlier : List Turn) (turn : Turn) (number : ℕ) (keep : Bool) (f : Flight) (k : ℕ)
+      (why : ForwardFault)
       → RunOf tables cert (earlier ++ turn ∷ []) → (reached tables.plan cert earlier).flight number ≡ Some f
       → IsDeliverable tables f → turn.event ≡ Move number keep → turn.outcome ≢ Stopped k why
   -- where it isn't lost, it is on its way until it has entered

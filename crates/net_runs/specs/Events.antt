@@ -1,9 +1,9 @@
 -- What may happen to the network, what comes of that, and why an event is refused.
 use Rattle.std.specs.Prelude.{ℕ, ◌≡◌, ◌⊎◌, ◌-◌, ◌<◌, ◌≤◌, List, [], length}
 use Rattle.std.specs.Prelude.{Bool, true, false, Option, Some, None, IsSomeAnd}
-use Rattle.mctp_transport.specs.Frames.{Frame, KeyValue, Spelled}
+use Rattle.mctp_transport.specs.PacketValues.{PacketValue, KeyValue, Spelled}
 use Rattle.mctp_transport.specs.Hearing.{Answer}
-use Rattle.mctp_bridge.specs.declared.decision.Obstacle.{Obstacle}
+use Rattle.mctp_bridge.specs.declared.decision.ForwardFault.{ForwardFault}
 use Rattle.net_runs.specs.States.{NetworkState, unit_of}
 use Rattle.net_tables.specs.TwoPlans.{Tables}
 
@@ -37,7 +37,7 @@ pub data OutcomeValue : Type 0 where
   -- the flight ended at the node, whose assembler answered so to its packet of the key
   Entered : (number : ℕ) → (node : ℕ) → (key : KeyValue) → (answer : Answer) → OutcomeValue
   -- the flight ended on its way
-  Stopped : (number : ℕ) → (why : Obstacle) → OutcomeValue
+  Stopped : (number : ℕ) → (why : ForwardFault) → OutcomeValue
   Lost : (number : ℕ) → OutcomeValue
   Expired : (node : ℕ) → (was_open : Bool) → OutcomeValue
   -- the answer's packets were put in at the node, as the flights from the first to the last
@@ -116,7 +116,7 @@ most_flights = 4294967295
 abbrev pub IsRefused : Tables → NetworkState → EventValue → Refusal → Type 0
 IsRefused tables w event N01 = IsSomeAnd (named_node event) (λ node. length tables.plan.nodes.items ≤ node)
 IsRefused tables w event N02 =
-    IsSomeAnd (bytes_put event) (λ bytes. (p : Frame) → ¬ Spelled (unit_of tables.plan) p bytes)
+    IsSomeAnd (bytes_put event) (λ bytes. (p : PacketValue) → ¬ Spelled (unit_of tables.plan) p bytes)
 IsRefused tables w event N03 = IsSomeAnd (named_flight event) (λ number. w.flight number ≡ None)
 IsRefused tables w event N04 = IsSomeAnd (asked_node event) (λ node. w.terminus node ≡ None)
 IsRefused tables w event N05 = IsSomeAnd (asked_node event) (λ node. IsSomeAnd (w.terminus node) (λ t. t.waiting ≡ []))

@@ -1,7 +1,7 @@
 -- When the packets of one key to one destination keep apart, message by message, and that each message then comes as it
 -- was sent.
 use Rattle.std.specs.Prelude.{◌≡◌, ◌≢◌, ◌⊎◌, ℕ, ◌*◌, ◌<◌, ◌≤◌, List, [], ◌∷◌, ◌++◌, length, Some, All}
-use Rattle.mctp_transport.specs.Frames.{Frame, KeyValue, key_of}
+use Rattle.mctp_transport.specs.PacketValues.{PacketValue, KeyValue, key_of}
 use Rattle.mctp_transport.specs.Sending.{IsPacketOf}
 use Rattle.mctp_transport.specs.Histories.{Arrived, after, IsOpen, Comes}
 use Rattle.mctp_transport.specs.Hearing.{Whole}
@@ -32,7 +32,7 @@ pub record Epoch : Type 0 where
   pub first_number : ℕ
 
 -- the packet is one of those of the epoch's message, of so many bytes each
-abbrev pub IsOfEpoch : (unit : ℕ) → Epoch → KeyValue → ℕ → Frame → Type 0
+abbrev pub IsOfEpoch : (unit : ℕ) → Epoch → KeyValue → ℕ → PacketValue → Type 0
 IsOfEpoch unit epoch key d p = IsPacketOf unit epoch.message d key epoch.first_number p
 
 -- a turn, and the epoch in which it stands
@@ -45,7 +45,7 @@ abbrev pub IsTidyFrom : (unit : ℕ) → Plan → KeyValue → ℕ → NetworkSt
 IsTidyFrom unit plan key d w epoch [] = Unit {0}
 IsTidyFrom unit plan key d w epoch (turn ∷ turns) =
     ((turn.1 ≡ epoch) ⊎ IsQuiet plan w key d)
-    × ((p : Frame) → PutsIn plan turn.0 p → key_of p ≡ key → p.destination ≡ d → IsOfEpoch unit turn.1 key d p)
+    × ((p : PacketValue) → PutsIn plan turn.0 p → key_of p ≡ key → p.destination ≡ d → IsOfEpoch unit turn.1 key d p)
     × IsTidyFrom unit plan key d turn.0.after turn.1 turns
 
 abbrev pub turns_of : List TurnOfEpoch → List Turn
@@ -69,7 +69,7 @@ RunsAsSent unit plan key d w = RunsAsSentBy unit (one_plan plan) key d w
 
 -- With the step a packet of the key enters the node, and with it the message comes.
 pub record ComesAt (before now : NetworkState) (n : ℕ) (key : KeyValue) (message : List ℕ) : Type 0 where
-  pub packet : Frame
+  pub packet : PacketValue
   pub entered : now.history n ≡ after (before.history n) (Arrived packet)
   pub of_key : key_of packet ≡ key
   pub comes : Comes slots limit (now.history n) message

@@ -2,7 +2,7 @@
 -- certificate, and for an accepted move.
 use Rattle.std.specs.Prelude.{◌≡◌, ◌≢◌, ℕ, ◌+◌, ◌≤◌, List, [], ◌∷◌, ◌++◌}
 use Rattle.std.specs.Prelude.{length, slice_get, Some, None, Ok, All, AllPairs}
-use Rattle.mctp_transport.specs.Frames.{Frame, KeyValue, key_of}
+use Rattle.mctp_transport.specs.PacketValues.{PacketValue, KeyValue, key_of}
 use Rattle.mctp_transport.specs.Messages.{Joined}
 use Rattle.mctp_transport.specs.Histories.{EachArrival, Comes}
 use Rattle.mctp_transport.specs.Hearing.{Whole}
@@ -36,7 +36,7 @@ StaysWithinHops cert w = (number : ℕ) (f : Flight) → w.flight number ≡ Som
 
 -- packets that the turns put in, all for n and of the key, join to the message
 abbrev pub JoinsPackets : Plan → List Turn → ℕ → KeyValue → List ℕ → Type 0
-JoinsPackets plan turns n key message = (ps : List Frame) × Joined ps message
+JoinsPackets plan turns n key message = (ps : List PacketValue) × Joined ps message
     × All (λ p. WasPutIn plan turns p × Holds plan n p.destination × (key_of p ≡ key)) ps
 
 -- What holds of every run, of any length. Each beginning of a run is a run, so it holds at every moment of one.

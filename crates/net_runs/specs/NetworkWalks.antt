@@ -1,12 +1,12 @@
 -- What is promised of each walk over the network.
 use Rattle.std.specs.Prelude.{Option, ◌≡◌, ◌≢◌, ◌⊎◌, ℕ, ◌<◌, ◌≤◌, List, ◌∷◌, ◌++◌, true}
 use Rattle.std.specs.Prelude.{false, Some, None, Result, Ok, All, MatchResult, length, [], ◌+◌, if◌then◌else◌}
-use Rattle.mctp_transport.specs.Frames.{Frame, key_of, Spelled}
+use Rattle.mctp_transport.specs.PacketValues.{PacketValue, key_of, Spelled}
 use Rattle.pdr_repository.specs.Records.{Entry, bytes_by_place}
-use Rattle.pldm_message.specs.Messages.{AnswerHeadValue}
+use Rattle.pldm_message.specs.Messages.{ResponseHeadValue}
 use Rattle.pdr_repository.specs.Walkers.{IsAnswerIn}
 use Rattle.pdr_repository.specs.Walks.{Exchange, Walk, Collects, IsBeginning, due_after, exchanges}
-use Rattle.pdr_repository.specs.declared.walk_fault.Step.{Step}
+use Rattle.pdr_repository.specs.declared.walk_fault.WalkProgress.{WalkProgress}
 use Rattle.pdr_repository.specs.declared.walk_fault.WalkFault.{WalkFault}
 use Rattle.pdr_repository.specs.declared.walk_fault.WalkFault.TheVariants.{FailedBefore, NotAsked, TooMuch}
 use Rattle.net_plan.specs.declared.plan.Plan.{Plan}
@@ -21,7 +21,7 @@ use Rattle.net_runs.specs.Walkers.{Begun, Happened, fresh_walker, asking_key, an
 use Rattle.net_runs.specs.WalkedRuns.{IsFor, WalkedTurn, WalkedStep, WalkedRunOf, walked_reached}
 
 -- the packet is under one of the walker's keys, to where that key's messages go
-abbrev pub IsUnderKeys : Plan → WalkerValue → Frame → Type 0
+abbrev pub IsUnderKeys : Plan → WalkerValue → PacketValue → Type 0
 IsUnderKeys plan walker p = (own : ℕ) × Holds plan walker.node own
     × (((key_of p ≡ asking_key own walker) × (p.destination ≡ walker.eid))
     ⊎ ((key_of p ≡ answering_key walker) × (p.destination ≡ own)))
@@ -29,13 +29,13 @@ IsUnderKeys plan walker p = (own : ℕ) × Holds plan walker.node own
 -- the event puts no packet in under a key of the walker
 abbrev pub KeepsOff : Plan → WalkerValue → WalkedEvent → WalkedOutcome → Type 0
 KeepsOff plan walker event outcome =
-    (at flight node : ℕ) (bytes : List ℕ) (handed : Option Handed) (p : Frame) → event ≡ Happening (Put at bytes)
+    (at flight node : ℕ) (bytes : List ℕ) (handed : Option Handed) (p : PacketValue) → event ≡ Happening (Put at bytes)
     → outcome ≡ Happened (PutIn flight node) handed → Spelled (unit_of plan) p bytes → ¬ IsUnderKeys plan walker p
 
 -- The message is an answer under the instance ID of the outstanding request. The exchange is the request that is due,
 -- with this answer.
 pub record IsExchange (walker : WalkerValue) (message : List ℕ) (x : Exchange) : Type 0 where
-  pub head : AnswerHeadValue
+  pub head : ResponseHeadValue
   pub due : walker.walk.due ≡ Some x.request
   pub waiting : walker.walk.waiting ≡ Some head.instance
   pub spelled : IsAnswerIn message (record { head = head; outcome = x.answer })
@@ -43,7 +43,7 @@ pub record IsExchange (walker : WalkerValue) (message : List ℕ) (x : Exchange)
 -- The outcome tells that the walker takes an answer, and the message that comes with it is that of the exchange.
 pub record TakesWith (k : ℕ) (w : WalkedState) (outcome : WalkedOutcome) (x : Exchange) : Type 0 where
   pub lower : OutcomeValue
-  pub step : Step
+  pub step : WalkProgress
   pub told : outcome ≡ Happened lower (Some (record { number = k; result = Ok step }))
   pub walker : WalkerValue
   pub there : w.walker k ≡ Some walker
@@ -54,7 +54,8 @@ pub record TakesWith (k : ℕ) (w : WalkedState) (outcome : WalkedOutcome) (x : 
 -- the outcome doesn't tell that the walker takes an answer
 abbrev pub TakesNone : ℕ → WalkedOutcome → Type 0
 TakesNone k outcome =
-    (lower : OutcomeValue) (step : Step) → outcome ≢ Happened lower (Some (record { number = k; result = Ok step }))
+    (lower : OutcomeValue) (step : WalkProgress)
+    → outcome ≢ Happened lower (Some (record { number = k; result = Ok step }))
 
 -- the exchanges that the walker takes in the turns: one of each turn that tells so, in their order, and no others
 abbrev pub AreTakenIn : ℕ → WalkedState → List WalkedTurn → List Exchange → Type 0
@@ -82,7 +83,7 @@ pub record HasWalked (records : List Entry) (k : ℕ) (since : WalkedState) (tur
       ⊎ ((walker.walk.failed ≡ true) × (walker.ended ≡ Some TooMuch))
 
 -- a message that isn't asked for or too much, and then that it had failed before
-abbrev pub HasCode : WalkerValue → Result Step WalkFault → Type 0
+abbrev pub HasCode : WalkerValue → Result WalkProgress WalkFault → Type 0
 HasCode walker result = MatchResult result (λ step. walker.walk.failed ≡ false)
     (λ fault. ((walker.walk.failed ≡ false) × ((fault ≡ NotAsked) ⊎ (fault ≡ TooMuch)))
     ⊎ ((walker.walk.failed ≡ true) × (fault ≡ FailedBefore)))
@@ -102,7 +103,8 @@ pub record WalksThere (tables : Tables) (records : List Entry) (first : WalkerVa
   pub there : w.walker k ≡ Some walker
   pub same : IsSameWalker first walker
   pub walked : HasWalked records k since turns walker
-  pub codes : (event : WalkedEvent) (outcome : OutcomeValue) (result : Result Step WalkFault) (new : WalkedState)
+  pub codes : (event : WalkedEvent) (outcome : OutcomeValue) (result : Result WalkProgress WalkFault)
+      (new : WalkedState)
       → KeepsOff tables.plan first event (Happened outcome (Some (record { number = k; result = result })))
       → WalkedStep tables w event (Happened outcome (Some (record { number = k; result = result }))) new
       → HasCode walker result

@@ -1,6 +1,6 @@
 -- One step of a network: an event, what comes of it, and the network after it.
 use Rattle.std.specs.Prelude.{◌≡◌, ◌⊎◌, ◌↔◌, ℕ, ◌+◌, List, ◌∷◌, length, map, true, false, Option, Some, None}
-use Rattle.mctp_transport.specs.Frames.{Frame, KeyValue, key_of, Spelled}
+use Rattle.mctp_transport.specs.PacketValues.{PacketValue, KeyValue, key_of, Spelled}
 use Rattle.mctp_transport.specs.Cutting.{ArePacketsOf}
 use Rattle.mctp_transport.specs.Histories.{Arrived, TimeUp, IsOpen}
 use Rattle.mctp_transport.specs.Hearing.{Hears}
@@ -8,7 +8,7 @@ use Rattle.net_plan.specs.declared.plan.Plan.{Plan}
 use Rattle.net_plan.specs.declared.nodes.Row.{Row}
 use Rattle.pdr_repository.specs.Answers.{Answers}
 use Rattle.mctp_bridge.specs.declared.decision.Decision.{Decision}
-use Rattle.mctp_bridge.specs.declared.decision.Decision.TheVariants.{Here, Drop, Forward}
+use Rattle.mctp_bridge.specs.declared.decision.Decision.TheVariants.{Deliver, Drop, Forward}
 use Rattle.mctp_bridge.specs.Decisions.{Decides}
 use Rattle.mctp_bridge.specs.Rows.{Routes}
 use Rattle.net_tables.specs.Routing.{Holds, IsBridge}
@@ -30,7 +30,7 @@ IsDecided plan rows f decision = Decides (Holds plan f.node (destination f)) (Is
 -- What comes of the decision on a flight, which has this number and isn't in the network: its packet enters the node,
 -- it ends, or it is at the next node with one hop more.
 abbrev pub IsDone : NetworkState → ℕ → Flight → OutcomeValue → Decision → NetworkState → Type 0
-IsDone w number f (Entered k node key answer) Here new =
+IsDone w number f (Entered k node key answer) Deliver new =
     (k ≡ number) × (node ≡ f.node) × (key ≡ key_of f.packet) × Hears slots limit (w.history f.node) f.packet answer
     × (new ≡ with_received (with_input w f.node (Arrived f.packet)) f.node key answer)
 IsDone w number f (Stopped k told) (Drop why) new = (k ≡ number) × (told ≡ why) × (new ≡ w)
@@ -53,7 +53,7 @@ answer_key eid asked = record { source = eid; tag = asked.tag; owner = false }
 abbrev pub IsAnswered : Plan → NetworkState → ℕ → KeyValue → Option (List ℕ) → OutcomeValue → NetworkState → Type 0
 IsAnswered plan w node asked None (Silent at) new = (at ≡ node) × (new ≡ w)
 IsAnswered plan w node asked (Some answer) (Answered at first last) new =
-    (eid : ℕ) × (ps : List Frame) × Holds plan node eid
+    (eid : ℕ) × (ps : List PacketValue) × Holds plan node eid
     × ArePacketsOf (unit_of plan) answer asked.source (answer_key eid asked) 0 ps
     × (at ≡ node) × (first ≡ w.made + 1) × (last ≡ w.made + length ps) × (new ≡ with_packets w node ps)
 IsAnswered plan w node asked _ _ new = ⊥
@@ -62,7 +62,8 @@ IsAnswered plan w node asked _ _ new = ⊥
 -- oldest message that waits at a terminus is taken off, and the answer may change its terminus ID.
 abbrev pub Happens : Tables → NetworkState → EventValue → OutcomeValue → NetworkState → Type 0
 Happens tables w (Put node bytes) (PutIn k at) new =
-    (p : Frame) × Spelled (unit_of tables.plan) p bytes × (k ≡ w.made + 1) × (at ≡ node) × (new ≡ with_packet w node p)
+    (p : PacketValue) × Spelled (unit_of tables.plan) p bytes × (k ≡ w.made + 1) × (at ≡ node)
+    × (new ≡ with_packet w node p)
 Happens tables w (Move number false) outcome new =
     (f : Flight) × (w.flight number ≡ Some f) × Moves tables (without_flight w number) number f outcome new
 Happens tables w (Move number true) outcome new =
@@ -86,5 +87,5 @@ Step tables w event outcome new =
     ((why : Refusal) → ¬ IsRefused tables w event why) × Happens tables w event outcome new
 
 -- some outcome and some next state are there for the event
-abbrev pub GoesOn : Tables → NetworkState → EventValue → Type 0
-GoesOn tables w event = (outcome : OutcomeValue) × (new : NetworkState) × Step tables w event outcome new
+abbrev pub HasStep : Tables → NetworkState → EventValue → Type 0
+HasStep tables w event = (outcome : OutcomeValue) × (new : NetworkState) × Step tables w event outcome new

@@ -1,6 +1,6 @@
 -- That termini answer: a request that comes at one is answered.
 use Rattle.std.specs.Prelude.{◌≡◌, ◌≢◌, ℕ, ◌+◌, ◌<◌, ◌≤◌, List, [], ◌∷◌, ◌++◌, length, true, Some, None, All}
-use Rattle.mctp_transport.specs.Frames.{Frame, KeyValue}
+use Rattle.mctp_transport.specs.PacketValues.{PacketValue, KeyValue}
 use Rattle.mctp_transport.specs.Cutting.{ArePacketsOf}
 use Rattle.net_plan.specs.declared.plan.Plan.{Plan}
 use Rattle.net_plan.specs.declared.certificate.Certificate.{Certificate}
@@ -29,7 +29,7 @@ pub record IsAnsweredRun (plan : Plan) (cert : Certificate) (n d : ℕ) (key : K
   pub answer : List ℕ
   pub tid : ℕ
   pub answered : Answers terminus.tid terminus.records request (Some answer) tid
-  pub packets : List Frame
+  pub packets : List PacketValue
   pub some : 0 < length packets
   pub are : ArePacketsOf (unit_of plan) answer key.source (answer_key d key) 0 packets
   pub tells : turn.outcome

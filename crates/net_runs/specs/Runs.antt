@@ -1,6 +1,6 @@
 -- Runs of the network: one event after another, of any number.
 use Rattle.std.specs.Prelude.{◌≡◌, ◌≢◌, ◌⊎◌, ◌≤◌, ℕ, List, [], ◌∷◌, Some, All}
-use Rattle.mctp_transport.specs.Frames.{Frame, Spelled}
+use Rattle.mctp_transport.specs.PacketValues.{PacketValue, Spelled}
 use Rattle.net_plan.specs.declared.plan.Plan.{Plan}
 use Rattle.net_plan.specs.declared.certificate.Certificate.{Certificate}
 use Rattle.net_runs.specs.States.{NetworkState, Flight, at_start, unit_of}
@@ -41,20 +41,20 @@ abbrev pub reached : Plan → Certificate → List Turn → NetworkState
 reached plan cert turns = after_all (at_start plan cert) turns
 
 -- one of the flights from the first to the last has the packet
-abbrev pub IsAmongFlights : NetworkState → ℕ → ℕ → Frame → Type 0
+abbrev pub IsAmongFlights : NetworkState → ℕ → ℕ → PacketValue → Type 0
 IsAmongFlights w first last p =
     (k : ℕ) × (f : Flight) × (first ≤ k) × (k ≤ last) × (w.flight k ≡ Some f) × (f.packet ≡ p)
 
 -- A put that isn't refused puts in the packet of its bytes, an answer those of the flights that it made.
-abbrev pub IsPutOf : Plan → EventValue → OutcomeValue → NetworkState → Frame → Type 0
+abbrev pub IsPutOf : Plan → EventValue → OutcomeValue → NetworkState → PacketValue → Type 0
 IsPutOf plan (Put node bytes) (PutIn number at) new p = Spelled (unit_of plan) p bytes
 IsPutOf plan (AnswerAt node) (Answered at first last) new p = IsAmongFlights new first last p
 IsPutOf plan _ _ new p = ⊥
 
-abbrev pub PutsIn : Plan → Turn → Frame → Type 0
+abbrev pub PutsIn : Plan → Turn → PacketValue → Type 0
 PutsIn plan turn p = IsPutOf plan turn.event turn.outcome turn.after p
 
 -- one of the turns puts the packet in
-abbrev pub WasPutIn : Plan → List Turn → Frame → Type 0
+abbrev pub WasPutIn : Plan → List Turn → PacketValue → Type 0
 WasPutIn plan [] p = ⊥
 WasPutIn plan (turn ∷ turns) p = PutsIn plan turn p ⊎ WasPutIn plan turns p

@@ -1,7 +1,7 @@
 -- The network of a plan at one moment.
 use Rattle.std.specs.Prelude.{ℕ, ◌+◌, List, [], ◌∷◌, Bool, true, false, Option}
 use Rattle.std.specs.Prelude.{Some, None, option_map, if◌then◌else◌, ◌==◌}
-use Rattle.mctp_transport.specs.Frames.{Frame, KeyValue}
+use Rattle.mctp_transport.specs.PacketValues.{PacketValue, KeyValue}
 use Rattle.mctp_transport.specs.Histories.{Input, History, after}
 use Rattle.mctp_transport.specs.Hearing.{Answer, Whole, Held, Dropped}
 use Rattle.net_plan.specs.declared.plan.Plan.{Plan}
@@ -23,7 +23,7 @@ limit = 4096
 
 -- a packet on its way: where it was put in, the node where it is, and how often it has moved
 pub record Flight : Type 0 where
-  pub packet : Frame
+  pub packet : PacketValue
   pub origin : ℕ
   pub node : ℕ
   pub hops : ℕ
@@ -76,12 +76,12 @@ abbrev pub with_switched : NetworkState → ℕ → NetworkState
 with_switched w node = record w { switched = λ n. if n == node then true else w.switched n }
 
 -- the packet is put in at the node, under the next number
-abbrev pub with_packet : NetworkState → ℕ → Frame → NetworkState
+abbrev pub with_packet : NetworkState → ℕ → PacketValue → NetworkState
 with_packet w node p =
     with_made (with_flight w (w.made + 1) (record { packet = p; origin = node; node = node; hops = 0 })) (w.made + 1)
 
 -- the packets are put in there one after another
-abbrev pub with_packets : NetworkState → ℕ → List Frame → NetworkState
+abbrev pub with_packets : NetworkState → ℕ → List PacketValue → NetworkState
 with_packets w node [] = w
 with_packets w node (p ∷ ps) = with_packets (with_packet w node p) node ps
 

@@ -1,6 +1,6 @@
 -- In runs with walkers too, each message comes as it was sent where the packets of its key keep apart.
 use Rattle.std.specs.Prelude.{◌≡◌, ◌⊎◌, ℕ, ◌*◌, ◌≤◌, List, [], ◌∷◌, length, Option, Some, All}
-use Rattle.mctp_transport.specs.Frames.{Frame, KeyValue, key_of}
+use Rattle.mctp_transport.specs.PacketValues.{PacketValue, KeyValue, key_of}
 use Rattle.net_plan.specs.declared.plan.Plan.{Plan}
 use Rattle.net_tables.specs.TwoPlans.{Tables}
 use Rattle.net_tables.specs.Routing.{Holds}
@@ -12,7 +12,7 @@ use Rattle.net_runs.specs.Walkers.{BringsWhole}
 use Rattle.net_runs.specs.WalkedRuns.{WalkedTurn, WalkedRunFrom}
 
 -- A request of a walker counts as a put: the packet of its flight is put in.
-abbrev pub IsPutOfWalked : Plan → WalkedEvent → WalkedOutcome → NetworkState → Frame → Type 0
+abbrev pub IsPutOfWalked : Plan → WalkedEvent → WalkedOutcome → NetworkState → PacketValue → Type 0
 IsPutOfWalked plan (Happening event) (Happened outcome handed) new p = IsPutOf plan event outcome new p
 IsPutOfWalked plan (Ask k) (Asked j flight) new p = (f : Flight) × (new.flight flight ≡ Some f) × (f.packet ≡ p)
 IsPutOfWalked plan _ _ new p = ⊥
@@ -24,7 +24,7 @@ abbrev pub IsWalkedTidyFrom : (unit : ℕ) → Plan → KeyValue → ℕ → Wal
 IsWalkedTidyFrom unit plan key d w epoch [] = Unit {0}
 IsWalkedTidyFrom unit plan key d w epoch (turn ∷ turns) =
     ((turn.1 ≡ epoch) ⊎ IsQuiet plan w.network key d)
-    × ((p : Frame) → IsPutOfWalked plan turn.0.event turn.0.outcome turn.0.after.network p → key_of p ≡ key
+    × ((p : PacketValue) → IsPutOfWalked plan turn.0.event turn.0.outcome turn.0.after.network p → key_of p ≡ key
     → p.destination ≡ d → IsOfEpoch unit turn.1 key d p)
     × IsWalkedTidyFrom unit plan key d turn.0.after turn.1 turns
 

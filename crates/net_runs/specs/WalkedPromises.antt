@@ -2,11 +2,11 @@
 -- and for an accepted move.
 use Rattle.std.specs.Prelude.{◌≡◌, ◌≢◌, ◌⊎◌, ℕ, ◌+◌, ◌≤◌, Bool, false, not, ◌&&◌}
 use Rattle.std.specs.Prelude.{List, [], ◌∷◌, ◌++◌, length, filter, slice_get, Option, Some, All}
-use Rattle.mctp_transport.specs.Frames.{Frame, KeyValue, key_of}
+use Rattle.mctp_transport.specs.PacketValues.{PacketValue, KeyValue, key_of}
 use Rattle.mctp_transport.specs.Messages.{Joined}
 use Rattle.mctp_transport.specs.Histories.{Comes}
 use Rattle.mctp_transport.specs.Hearing.{Answer}
-use Rattle.mctp_bridge.specs.declared.decision.Obstacle.{Obstacle}
+use Rattle.mctp_bridge.specs.declared.decision.ForwardFault.{ForwardFault}
 use Rattle.net_plan.specs.declared.plan.Plan.{Plan}
 use Rattle.net_plan.specs.declared.certificate.Certificate.{Certificate}
 use Rattle.net_tables.specs.Routing.{Holds}
@@ -21,14 +21,14 @@ use Rattle.net_runs.specs.WalkedRuns.{WalkedTurn, WalkedRunOf, walked_reached}
 use Rattle.net_runs.specs.WalkedMessages.{IsPutOfWalked}
 
 -- one of the turns puts the packet in, by a put, an answer or a walker's request
-abbrev pub WasPutInWalked : Plan → List WalkedTurn → Frame → Type 0
+abbrev pub WasPutInWalked : Plan → List WalkedTurn → PacketValue → Type 0
 WasPutInWalked plan [] p = ⊥
 WasPutInWalked plan (turn ∷ turns) p =
     IsPutOfWalked plan turn.event turn.outcome turn.after.network p ⊎ WasPutInWalked plan turns p
 
 -- packets that the turns put in, all for n and of the key, join to the message
 abbrev pub JoinsPacketsWalked : Plan → List WalkedTurn → ℕ → KeyValue → List ℕ → Type 0
-JoinsPacketsWalked plan turns n key message = (ps : List Frame) × Joined ps message
+JoinsPacketsWalked plan turns n key message = (ps : List PacketValue) × Joined ps message
     × All (λ p. WasPutInWalked plan turns p × Holds plan n p.destination × (key_of p ≡ key)) ps
 
 -- the network that a run with walkers reaches
@@ -94,9 +94,9 @@ pub record IsOnItsWayWalked (number : ℕ) (f : Flight) (turns : List WalkedTurn
 
 -- What holds of a flight that can be delivered, in each run with walkers, be it put in by a walker or not.
 pub record WalkedDelivers (tables : Tables) (cert : Certificate) : Type 0 where
-  -- no move ends the flight, or a copy of it, by an obstacle
+  -- no move ends the flight, or a copy of it, by a fault of forwarding
   pub stops_none : (earlier : List WalkedTurn) (turn : WalkedTurn) (number : ℕ) (keep : Bool) (f : Flight) (k : ℕ)
-      (why : Obstacle) (handed : Option Handed)
+      (why : ForwardFault) (handed : Option Handed)
       → WalkedRunOf tables cert (earlier ++ turn ∷ [])
       → (network_reached tables.plan cert earlier).flight number ≡ Some f
       → IsDeliverable tables f → turn.event ≡ Happening (Move number keep)

@@ -1,6 +1,6 @@
 -- One step of a network with walkers, and runs: a network's step, and what it does to the walkers.
 use Rattle.std.specs.Prelude.{◌≡◌, ◌≢◌, ◌⊎◌, ℕ, ◌+◌, List, [], ◌∷◌, length, Option, Some, None, Err, MatchResult, All}
-use Rattle.mctp_transport.specs.Frames.{Frame, Spelled}
+use Rattle.mctp_transport.specs.PacketValues.{PacketValue, Spelled}
 use Rattle.mctp_transport.specs.Cutting.{ArePacketsOf}
 use Rattle.mctp_transport.specs.Hearing.{Whole}
 use Rattle.pldm_message.specs.InstanceIds.{IdSet, Gives, TakesBack}
@@ -25,7 +25,7 @@ pub record IsAsking (tables : Tables) (w : NetworkState) (walker : WalkerValue) 
   pub own : ℕ
   pub id : ℕ
   pub request : List ℕ
-  pub packet : Frame
+  pub packet : PacketValue
   pub bytes : List ℕ
   pub walk : WalkState
   pub ids : IdSet

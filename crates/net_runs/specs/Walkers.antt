@@ -1,11 +1,11 @@
 -- Walkers in the network: what each one is, what may happen to them, what comes of that, and why an event is refused.
 use Rattle.std.specs.Prelude.{◌≡◌, ◌⊎◌, ℕ, ◌-◌, ◌*◌, ◌<◌, ◌≤◌, ◌==◌, if◌then◌else◌, min, false}
 use Rattle.std.specs.Prelude.{true, length, List, slice_get, Option, Some, None, IsSomeAnd, Result, Ok, Err}
-use Rattle.mctp_transport.specs.Frames.{KeyValue}
+use Rattle.mctp_transport.specs.PacketValues.{KeyValue}
 use Rattle.mctp_transport.specs.Hearing.{Whole}
 use Rattle.pldm_message.specs.InstanceIds.{IdSet}
 use Rattle.pldm_message.specs.Pdrs.{PartRequest}
-use Rattle.pdr_repository.specs.declared.walk_fault.Step.{Step}
+use Rattle.pdr_repository.specs.declared.walk_fault.WalkProgress.{WalkProgress}
 use Rattle.pdr_repository.specs.declared.walk_fault.WalkFault.{WalkFault}
 use Rattle.pdr_repository.specs.declared.walk_fault.WalkFault.TheVariants.{FailedBefore, NotAsked}
 use Rattle.pdr_repository.specs.Walkers.{WalkState, fresh}
@@ -97,7 +97,7 @@ pub data WalkRefusal : Type 0 where
 -- what a walker made of a message that it was handed
 pub record Handed : Type 0 where
   pub number : ℕ
-  pub result : Result Step WalkFault
+  pub result : Result WalkProgress WalkFault
 
 -- whether a walk goes on, is done, or was ended by a fault
 pub data Standing : Type 0 where
@@ -162,7 +162,7 @@ IsFirstWalkRefusal plan w event why = IsWalkRefused plan w event why
     × ((other : WalkRefusal) → walk_refusal_number other < walk_refusal_number why → ¬ IsWalkRefused plan w event other)
 
 -- the fault that has ended a walk, after one answer more
-abbrev pub ended_after : Option WalkFault → Result Step WalkFault → Option WalkFault
+abbrev pub ended_after : Option WalkFault → Result WalkProgress WalkFault → Option WalkFault
 ended_after before (Ok step) = before
 ended_after before (Err FailedBefore) = before
 ended_after before (Err NotAsked) = before

@@ -1,6 +1,6 @@
 //! Laws of the runs of any tables. The functions do nothing: their contracts are the laws.
 ghost use Rattle.std.specs.Prelude.{◌≡◌, ◌↔◌, ℕ, List, Some};
-ghost use Rattle.mctp_transport.specs.Frames.{KeyValue};
+ghost use Rattle.mctp_transport.specs.PacketValues.{KeyValue};
 ghost use Rattle.pdr_repository.specs.Walks.{Exchange};
 ghost use Rattle.net_plan.specs.declared.plan.Plan.{Plan};
 ghost use Rattle.net_plan.specs.declared.certificate.Certificate.{Certificate};
@@ -9,7 +9,7 @@ ghost use Rattle.net_runs.specs.States.{NetworkState, at_start, unit_of};
 ghost use Rattle.net_tables.specs.TwoPlans.{Tables, moving};
 ghost use Rattle.net_runs.specs.Runs.{Turn, Run, RunOf, NoneSwitches};
 ghost use Rattle.net_runs.specs.Events.{EventValue};
-ghost use Rattle.net_runs.specs.Networks.{GoesOn};
+ghost use Rattle.net_runs.specs.Networks.{HasStep};
 ghost use Rattle.net_runs.specs.ByteRuns.{RunsGoOn};
 ghost use Rattle.net_runs.specs.Requests.{RequestsCanBeAnswered};
 ghost use Rattle.net_runs.specs.Walkers.{WalkedState, WalkedEvent};
@@ -24,7 +24,7 @@ ghost use Rattle.net_runs.specs.ExactMessages.{IsQuiet, TellsWhatComes, CanBeSen
 #[tactic(auto, using(crate::proofs::Steps::some_step))]
 pub fn never_stuck()
     ensures { (tables : Tables) (w : NetworkState) (event : EventValue)
-        → ((n : ℕ) (t : TerminusState) → w.terminus n ≡ Some t → HoldsBytes t) → GoesOn tables w event }
+        → ((n : ℕ) (t : TerminusState) → w.terminus n ≡ Some t → HoldsBytes t) → HasStep tables w event }
 {}
 
 /// Each run in which bytes are put in goes on, whatever the event.

@@ -7,3 +7,4 @@ pub mod Repositories
 pub mod Tables
 pub mod Lawful
 pub mod Ownership
+pub mod Names

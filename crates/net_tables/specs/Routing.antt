@@ -31,6 +31,10 @@ IsBridge plan n = option_map (λ node. node.kind) (node_at plan n) ≡ Some Brid
 abbrev pub Holds : Plan → ℕ → ℕ → Type 0
 Holds plan n e = eid_of plan n ≡ Some e
 
+-- some node holds e
+abbrev pub IsHeld : Plan → ℕ → Type 0
+IsHeld plan e = (n : ℕ) × Holds plan n e
+
 -- e is one of the row's EIDs; a row that reaches past 255 covers those up to 255
 abbrev pub Covers : Row → ℕ → Type 0
 Covers row e = (row.first.value ≤ e) × (e < row.first.value + row.size) × (e ≤ 255)

@@ -6,4 +6,4 @@ pub mod lookup;
 mod node_tables;
 
 pub use eid_run::EidRun;
-pub use node_tables::routing_tables;
+pub use node_tables::{routing_table, routing_tables};

@@ -1,17 +1,19 @@
 //! What a plan and its certificate say of a node, by the node's index in the plan's list.
-ghost use Rattle.std.specs.Prelude.{◌≡◌, ℕ, ◌+◌, ◌<◌, ◌↔◌, ◌==◌, IsTrue, map, option_map, slice_get};
+ghost use Rattle.std.specs.Prelude.{◌≡◌, ◌≢◌, ℕ, ◌+◌, ◌<◌, ◌↔◌, ◌==◌, IsTrue, MatchBool, MatchOption, map, option_map, slice_get, string_bytes};
 ghost use Rattle.std.specs.List.{list_any};
-ghost use Rattle.net_tables.specs.Routing.{Holds, Covers, HasRow, IsBridge, eid_of, rows_of, ports_of, eid_number};
+ghost use Rattle.net_tables.specs.Names.{address_on, bus_name, device_kind, first_address, kind_word, node_name, IsFirstBus, IsNoBus};
+ghost use Rattle.net_tables.specs.Routing.{Holds, IsHeld, Covers, HasRow, IsBridge, eid_of, rows_of, ports_of, eid_number};
 ghost use Rattle.net_tables.specs.Rows.{bus_of};
 ghost use Rattle.net_tables.specs.Ownership.{owner_of, given_level, level, pool_of, IsInPool, IsInPoolOf};
 ghost use Rattle.net_tables.specs.Ranks.{rank_in, ranges_of};
 ghost use Rattle.net_tables.specs.Repositories.{terminus_of, records_of, places_of};
 
 use crate::eid_run::EidRun;
+use mctp_bridge::DeviceKind;
 use mctp_transport::Eid;
 use net_plan::{
-    Certificate, Kind, Plan, PlannedRecord, PlannedTerminus, Pool, Port, RankRange, RecordPlace,
-    Row,
+    Bus, Certificate, Kind, Plan, PlannedRecord, PlannedTerminus, Pool, Port, RankRange,
+    RecordPlace, Row,
 };
 
 /// Whether there is such a node, and it is a bridge.
@@ -33,6 +35,81 @@ pub fn holds(plan: &Plan, node: usize, eid: Eid) -> bool
     ensures { IsTrue result ↔ Holds plan.now node eid.value }
 {
     node < plan.nodes.len() && plan.nodes[node].eid == eid
+}
+
+/// A node that holds the endpoint ID.
+pub fn holder(plan: &Plan, eid: Eid) -> Option<usize>
+    ensures { MatchOption result (¬ IsHeld plan.now eid.value) (λ n. Holds plan.now n eid.value) }
+{
+    for node in 0..plan.nodes.len() {
+        if holds(plan, node, eid) {
+            return Some(node);
+        }
+    }
+    None
+}
+
+/// Whether a node holds the endpoint ID.
+pub fn is_held(plan: &Plan, eid: Eid) -> bool
+    ensures { IsTrue result ↔ IsHeld plan.now eid.value }
+{
+    holder(plan, eid).is_some()
+}
+
+/// The name of a node; a dash where there is no such node.
+pub fn node_name(plan: &Plan, node: usize) -> &str
+    ensures { result.now ≡ node_name plan.now node }
+{
+    plan.nodes
+        .get(node)
+        .map_or("-", |node| node.name.text.as_str())
+}
+
+/// The name of a bus; a dash where there is no such bus.
+pub fn bus_name(plan: &Plan, bus: usize) -> &str
+    ensures { result.now ≡ bus_name plan.now bus }
+{
+    plan.buses
+        .get(bus)
+        .map_or("-", |bus| bus.name.text.as_str())
+}
+
+/// The index of the first bus of the name.
+pub fn bus_named(plan: &Plan, name: &str) -> Option<usize>
+    ensures { MatchOption result (IsNoBus plan.now name.now) (IsFirstBus plan.now name.now) }
+{
+    for (index, bus) in plan.buses.iter().enumerate() {
+        if is_named(bus, name) {
+            return Some(index);
+        }
+    }
+    None
+}
+
+fn is_named(bus: &Bus, name: &str) -> bool
+    ensures { MatchBool result (string_bytes bus.now.name.text ≡ name.now) (string_bytes bus.now.name.text ≢ name.now) }
+{
+    bus.name.text.as_str() == name
+}
+
+/// The word of what a node does with the packets of others.
+pub fn kind_word(kind: Kind) -> &'static str
+    ensures { result.now ≡ kind_word kind }
+{
+    match kind {
+        Kind::Bridge => "bridge",
+        Kind::Endpoint => "endpoint",
+    }
+}
+
+/// The kind of a node as its device has it.
+pub fn device_kind(kind: Kind) -> DeviceKind
+    ensures { result ≡ device_kind kind }
+{
+    match kind {
+        Kind::Bridge => DeviceKind::Bridge,
+        Kind::Endpoint => DeviceKind::Endpoint,
+    }
 }
 
 /// The owner of a node; none where nobody owns it, and where there is no such node.
@@ -105,6 +182,26 @@ pub fn is_on_bus(plan: &Plan, node: usize, bus: usize) -> bool
     ensures { result ≡ list_any (λ port. port.bus == bus) (ports_of plan.now node) }
 {
     ports_at(plan, node).iter().any(|port| port.bus == bus)
+}
+
+/// The address of a node's first port on a bus; empty where it has none there.
+pub fn address_on(plan: &Plan, node: usize, bus: Option<usize>) -> &[u8]
+    ensures { result.now ≡ address_on plan.now node bus }
+{
+    match bus {
+        Some(bus) => first_address(ports_at(plan, node), bus),
+        None => &[],
+    }
+}
+
+/// The address of the first of these ports that is on the bus; empty where none is.
+fn first_address(ports: &[Port], bus: usize) -> &[u8]
+    ensures { result.now ≡ first_address ports.now bus }
+{
+    ports
+        .iter()
+        .find(|port| port.bus == bus)
+        .map_or(&[], |port| port.address.as_slice())
 }
 
 /// The rows of a node, none where there is no such node.

@@ -1,6 +1,7 @@
 //! The rows of a plan's nodes as routing tables, ready for look-ups.
 ghost use Rattle.std.specs.Prelude.{◌≡◌, IfOk, length, map};
-ghost use Rattle.mctp_bridge.specs.Rows.{HasSameRoutes};
+ghost use Rattle.std.specs.List.Sorted.{IsPermutation};
+ghost use Rattle.mctp_bridge.specs.Rows.{HasSameRoutes, IsTable};
 ghost use Rattle.net_tables.specs.Rows.{RowsAreApart, RowsAreInRange};
 ghost use Rattle.net_tables.specs.Tables.{AreRows, AreTabled, table_row};
 
@@ -17,15 +18,17 @@ pub fn routing_tables(alloc: Global, plan: &Plan) -> Result<Vec<RangeTable>, All
 {
     let mut tables = Vec::new(alloc);
     for node in 0..plan.nodes.len() {
-        tables.push(table_of(alloc, rows_at(plan, node))?)?;
+        tables.push(routing_table(alloc, rows_at(plan, node))?)?;
     }
     Ok(tables)
 }
 
 /// The routing table of lawful rows.
-fn table_of(alloc: Global, rows: &[Row]) -> Result<RangeTable, AllocError>
+pub fn routing_table(alloc: Global, rows: &[Row]) -> Result<RangeTable, AllocError>
     requires { AreRows rows.now }
-    ensures { IfOk result (λ table. HasSameRoutes (map table_row rows.now) table) }
+    ensures same { IfOk result (λ table. IsPermutation (map table_row rows.now) table) }
+    ensures ordered { IfOk result (λ table. IsTable table) }
+    ensures routes { IfOk result (λ table. HasSameRoutes (map table_row rows.now) table) }
 {
     let rows = table_rows(alloc, rows)?;
     match RangeTable::build(alloc, &rows) {

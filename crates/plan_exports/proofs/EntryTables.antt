@@ -1,17 +1,17 @@
 -- The entries of a planned bridge: at most as many as there are endpoint IDs, each with a short address.
 use Rattle.std.proofs.Common.{rules, ◌≡◌, ℕ, suc, ◌+◌, ◌<◌, ◌≤◌, ◌==◌, Bool, true, false, List, [], ◌∷◌, ◌++◌, length, get_or, map, Option, None, Some, refl, sym, ap, subst, ◌∙◌, inl, inr, arith, length-append}
-use Rattle.std.specs.Prelude.{◌⊎◌, ◌&&◌, All, find, slice_get, option_map, unwrap_or, nat_lt}
+use Rattle.std.specs.Prelude.{◌⊎◌, All, find, slice_get, option_map, unwrap_or}
 use Rattle.std.specs.List.{zip}
 use Rattle.std.proofs.lemmas.Bool.{cases_lt, ltb-true}
 use Rattle.std.proofs.lemmas.List.{get_or-map, length-map}
 use Rattle.std.proofs.lemmas.List.Concat.{flat_map-cons}
 use Rattle.std.proofs.lemmas.List.Elements.{All-append, All-cons, All-map, All-nil, All-tail}
 use Rattle.std.proofs.lemmas.List.Sorted.{All-permutation}
-use Rattle.std.proofs.lemmas.Option.{slice_get_within, slice_get-get_or, get_or_from_slice_get}
+use Rattle.std.proofs.lemmas.Option.{slice_get_within, slice_get-get_or}
 use Rattle.mctp_bridge.specs.declared.device_kind.DeviceKind.{DeviceKind}
 use Rattle.mctp_bridge.specs.declared.device_kind.DeviceKind.TheVariants.{Bridge, Endpoint}
 use Rattle.mctp_bridge.specs.declared.row.TableRow.{TableRow}
-use Rattle.mctp_bridge.specs.Rows.{IsTable, IsLawful, LiesBelow}
+use Rattle.mctp_bridge.specs.Rows.{IsTable, IsLawful}
 use Rattle.mctp_control.specs.Entries.{row_entries, entries_to, bridge_entries, table_entries, lies_later, own_entry, entry_before, run_entry}
 use Rattle.mctp_control.specs.declared.route_entry.EntryKind.TheVariants as kind
 use Rattle.mctp_control.specs.RouteEntries.{EntryValue}
@@ -24,20 +24,17 @@ use Rattle.net_tables.specs.Routing.{rows_of, ports_of, node_at}
 use Rattle.net_tables.specs.Rows.{NamesNeighbor, IsJoined, bus_of}
 use Rattle.net_tables.specs.Tables.{table_row}
 use Rattle.net_tables.proofs.Elements.{element}
-use Rattle.plan_exports.specs.Neighbors.{neighbor_value, neighbor_of, address_on, first_address}
+use Rattle.plan_exports.specs.Neighbors.{neighbor_value, neighbor_of}
+use Rattle.net_tables.specs.Names.{address_on}
 use Rattle.plan_exports.specs.PlannedTables.{IsPlannedTable, HasLawfulRows}
-use Rattle.plan_exports.specs.TableAnswers.{AreShort}
+use Rattle.mctp_control.specs.Reads.{AreShort}
+use Rattle.net_plan.proofs.Placed.{both}
 
 -- ---- how many entries
 
-both_true : (a b : Bool) → (a && b) ≡ true → (a ≡ true) × (b ≡ true)
-both_true true true e = (refl, refl)
-both_true true false e = absurd (cc)
-both_true false b e = absurd (cc)
-
 later_within : (e : ℕ) (row : TableRow) → lies_later e row ≡ true → (row.first.value < e) × (e < row.first.value + row.size)
 later_within e row is =
-    let both = both_true _ _ is in
+    let both = both _ _ is in
     (ltb-true _ _ both.0, ltb-true _ _ both.1)
 
 -- a row has no more entries than endpoint IDs

@@ -9,7 +9,7 @@ use Rattle.net_plan.specs.declared.nodes.Node.{Node}
 use Rattle.net_plan.specs.declared.plan.Plan.{Plan}
 use Rattle.net_tables.specs.Routing.{node_at}
 use Rattle.plan_exports.specs.Devices.{AreDevices, IsDeviceOf, device_at}
-use Rattle.plan_exports.specs.Words.{bus_name, node_name}
+use Rattle.net_tables.specs.Names.{bus_name, node_name}
 use Rattle.plan_exports.specs.declared.links.Link.{Link}
 
 abbrev IsPlain : List ℕ → Type 0

@@ -11,7 +11,8 @@ use Rattle.net_tables.specs.Routing.{eid_of}
 use Rattle.pdr_repository.specs.Records.{Entry, entries}
 use Rattle.plan_exports.specs.PlannedRows.{RowFacts, ArePlannedRows}
 use Rattle.plan_exports.specs.declared.c_sources.CTerminus.{CTerminus}
-use Rattle.plan_exports.specs.Words.{hex_list, node_name}
+use Rattle.net_tables.specs.Names.{node_name}
+use Rattle.plan_exports.specs.Words.{hex_list}
 
 -- ---- names
 

@@ -1,7 +1,7 @@
 -- The Linux network devices of a plan's buses.
 use Rattle.std.specs.Prelude.{◌≡◌, ◌≢◌, ◌⊎◌, ℕ, List, length, take, All, Some, slice_get, unwrap_or, codes}
 use Rattle.net_plan.specs.declared.plan.Plan.{Plan}
-use Rattle.plan_exports.specs.Words.{bus_name}
+use Rattle.net_tables.specs.Names.{bus_name}
 use Rattle.plan_exports.specs.declared.links.Link.{Link}
 
 -- the first link of a bus of this name has the device

@@ -8,7 +8,8 @@ use Rattle.net_tables.specs.Routing.{eid_of, ports_of}
 use Rattle.plan_exports.specs.Devices.{AreDevices, device_at}
 use Rattle.plan_exports.specs.Neighbors.{bus_numbers}
 use Rattle.plan_exports.specs.PlannedRows.{RowFacts, ArePlannedRows}
-use Rattle.plan_exports.specs.Words.{bus_name, node_name, hex_list}
+use Rattle.net_tables.specs.Names.{bus_name, node_name}
+use Rattle.plan_exports.specs.Words.{hex_list}
 use Rattle.plan_exports.specs.declared.links.Link.{Link}
 
 -- the buses on which n has a port, in the plan's order

@@ -1,15 +1,14 @@
 -- The node to which a hop of a planned node leads, as the node itself is told of it.
-use Rattle.std.specs.Prelude.{ℕ, ◌==◌, List, [], Option, Some, None, option_map, unwrap_or, slice_get, find}
+use Rattle.std.specs.Prelude.{ℕ, List, Option, Some, None, option_map, unwrap_or, slice_get}
 use Rattle.mctp_bridge.specs.declared.device_kind.DeviceKind.{DeviceKind}
 use Rattle.mctp_bridge.specs.declared.device_kind.DeviceKind.TheVariants as kind
 use Rattle.mctp_bridge.specs.declared.row.Hop.{Hop}
 use Rattle.mctp_control.specs.declared.routing_entries.Neighbor.{Neighbor}
 use Rattle.net_plan.specs.declared.plan.Plan.{Plan}
 use Rattle.net_plan.specs.declared.nodes.Bus.{Bus}
-use Rattle.net_plan.specs.declared.nodes.Kind.{Kind}
 use Rattle.net_plan.specs.declared.nodes.Kind.TheVariants as planned
-use Rattle.net_plan.specs.declared.nodes.Port.{Port}
-use Rattle.net_tables.specs.Routing.{node_at, eid_of, ports_of}
+use Rattle.net_tables.specs.Names.{address_on, device_kind}
+use Rattle.net_tables.specs.Routing.{node_at, eid_of}
 use Rattle.net_tables.specs.Rows.{bus_of}
 
 -- a neighbor: whether it is a bridge, its EID, the identifiers of the bus, its physical address there
@@ -29,10 +28,6 @@ neighbor_value n = record {
   address = n.address.now;
 }
 
-abbrev pub device_kind : Kind → DeviceKind
-device_kind planned.Bridge = kind.Bridge
-device_kind planned.Endpoint = kind.Endpoint
-
 -- what a node of the plan is; beyond the plan an endpoint
 abbrev pub kind_at : Plan → ℕ → DeviceKind
 kind_at plan n = unwrap_or (option_map (λ node. device_kind node.kind) (node_at plan n)) kind.Endpoint
@@ -44,16 +39,6 @@ numbers_at plan bus = unwrap_or (option_map (λ (b : Bus). (b.binding, b.media))
 abbrev pub bus_numbers : Plan → Option ℕ → ℕ × ℕ
 bus_numbers plan (Some bus) = numbers_at plan bus
 bus_numbers plan None = (0, 0)
-
--- the address of the first of these ports that is on the bus; empty where none is
-abbrev pub first_address : List Port → ℕ → List ℕ
-first_address ports bus =
-    unwrap_or (option_map (λ (port : Port). port.address.items) (find (λ (port : Port). port.bus == bus) ports)) []
-
--- the address of a node's first port on a bus; empty where it has none there
-abbrev pub address_on : Plan → ℕ → Option ℕ → List ℕ
-address_on plan node (Some bus) = first_address (ports_of plan node) bus
-address_on plan node None = []
 
 -- The node to which a hop of n leads, and the bus of the hop's port.
 abbrev pub neighbor_of : Plan → ℕ → Hop → NeighborValue

@@ -1,6 +1,6 @@
 -- How a planned bridge tells its routing table: the answers to Get Routing Table Entries, from the first entry to the
 -- last (DSP0236).
-use Rattle.std.specs.Prelude.{◌≡◌, ℕ, ◌≤◌, ◌∷◌, ◌++◌, List, map, length, All, Some, None, codes}
+use Rattle.std.specs.Prelude.{◌≡◌, ℕ, ◌∷◌, ◌++◌, List, map, length, All, Some, None, codes}
 use Rattle.std.specs.List.{flat_map}
 use Rattle.hex.specs.Hex.{encode_lower}
 use Rattle.mctp_bridge.specs.declared.device_kind.DeviceKind.TheVariants.{Bridge}
@@ -44,11 +44,6 @@ pub record AreAnswers (device : DeviceValue) (table : List EntryValue) (messages
   pub whole : due_after exchanges ≡ None
   pub given : All (GivesAnswer device table) exchanges
   pub bytes : messages ≡ map message_of exchanges
-
--- at most 247 entries, each with an address of at most 8 bytes
-pub record AreShort (table : List EntryValue) : Type 0 where
-  pub few : length table ≤ 247
-  pub short : All (λ entry. length entry.address ≤ 8) table
 
 -- the entries that the rows of n give, in the order of their endpoint IDs
 pub record AreEntriesOf (plan : Plan) (n : ℕ) (entries : List EntryValue) : Type 0 where

@@ -9,9 +9,9 @@ ghost use Rattle.plan_exports.specs.PlannedRows.{row_facts};
 
 use crate::identifiers::identifier;
 use crate::rows::{PlannedRow, planned_rows};
-use crate::words::{hex_list, node_name};
+use crate::words::hex_list;
 use net_plan::{Plan, Pool};
-use net_tables::lookup::{eid_at, pool_at};
+use net_tables::lookup::{eid_at, node_name, pool_at};
 use std::alloc::{AllocError, Global};
 
 /// The terminus of a node.

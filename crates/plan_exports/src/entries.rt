@@ -4,23 +4,21 @@ ghost use Rattle.std.specs.List.{flat_map};
 ghost use Rattle.mctp_control.specs.Devices.{device_value};
 ghost use Rattle.mctp_control.specs.EntryLists.{values_of};
 ghost use Rattle.mctp_control.specs.Readers.{handle_after};
-ghost use Rattle.mctp_transport.specs.Frames.{IsAssignable};
+ghost use Rattle.mctp_control.specs.Reads.{AreShort};
+ghost use Rattle.mctp_transport.specs.PacketValues.{IsAssignable};
 ghost use Rattle.plan_exports.specs.PlannedTables.{HasLawfulRows};
-ghost use Rattle.plan_exports.specs.TableAnswers.{AreAnswers, AreEntriesOf, AreEntryLines, AreEntryMessages, AreShort, IsAnswer, hex_line};
+ghost use Rattle.plan_exports.specs.TableAnswers.{AreAnswers, AreEntriesOf, AreEntryLines, AreEntryMessages, IsAnswer, hex_line};
 
 use crate::planned_tables::planned_table;
 use arrayvec::ArrayVec;
 use mctp_bridge::DeviceKind;
-use mctp_control::{CommandNumber, Device, MAX_BODY, RouteEntry, route_entries};
+use mctp_control::{CommandNumber, Device, MAX_BODY, NO_MORE, RouteEntry, route_entries};
 use mctp_transport::Eid;
 use net_plan::Plan;
 use std::alloc::{AllocError, Global};
 
 /// A control message.
 type Message = ArrayVec<u8, MAX_BODY>;
-
-/// The next entry handle of an answer after which there are no more entries.
-const NO_MORE: u8 = 0xff;
 
 /// The answers by which a planned bridge with lawful rows tells its whole routing table, from its first entry to its
 /// last: each a control message, with instance ID 0.

@@ -3,8 +3,8 @@ ghost use Rattle.std.specs.Prelude.{ℕ, List, IsTrue};
 ghost use Rattle.std.specs.List.{list_all};
 ghost use Rattle.net_plan.specs.NameText.{is_name_byte};
 ghost use Rattle.net_plan.specs.declared.plan.Plan.{Plan};
+ghost use Rattle.net_tables.specs.Names.{bus_name, node_name};
 ghost use Rattle.plan_exports.specs.Devices.{AreDevices, device_at};
-ghost use Rattle.plan_exports.specs.Words.{bus_name, node_name};
 ghost use Rattle.plan_exports.specs.declared.links.Link.{Link};
 
 /// What comes of names into a script or a source are ASCII letters, digits, `-`, `.` and `_` alone: no line ends there, and

@@ -19,4 +19,5 @@ pub use entries::{entry_lines, entry_messages, planned_entries};
 pub use laws::words_are_plain;
 pub use links::Link;
 pub use linux::linux_script;
+pub use planned_tables::range_table;
 pub use repositories::joined_records;

@@ -12,10 +12,10 @@ use crate::devices::devices_of;
 use crate::links::Link;
 use crate::planned_tables::bus_numbers;
 use crate::rows::{PlannedRow, planned_rows};
-use crate::words::{bus_name, hex_list, node_name};
+use crate::words::hex_list;
 use mctp_transport::Eid;
 use net_plan::Plan;
-use net_tables::lookup::{eid_at, is_on_bus};
+use net_tables::lookup::{bus_name, eid_at, is_on_bus, node_name};
 use std::alloc::{AllocError, Global};
 
 /// The binding of SMBus and I2C (DSP0239).

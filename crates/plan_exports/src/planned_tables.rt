@@ -1,18 +1,17 @@
 //! The routing table of a planned node, and whom its rows lead to.
 ghost use Rattle.std.specs.Prelude.{◌≡◌, IfOk, map};
-ghost use Rattle.std.specs.List.Sorted.{IsPermutation};
-ghost use Rattle.mctp_bridge.specs.Rows.{IsTable};
 ghost use Rattle.plan_exports.specs.PlannedRows.{IsOrdered};
 ghost use Rattle.net_tables.specs.Routing.{rows_of};
-ghost use Rattle.net_tables.specs.Tables.{AreRows, table_row};
-ghost use Rattle.plan_exports.specs.Neighbors.{kind_at, bus_numbers, address_on, first_address, neighbor_of, neighbor_value};
+ghost use Rattle.net_tables.specs.Tables.{AreRows};
+ghost use Rattle.plan_exports.specs.Neighbors.{kind_at, bus_numbers, neighbor_of, neighbor_value};
 ghost use Rattle.plan_exports.specs.PlannedTables.{IsPlannedTable};
 
-use mctp_bridge::{DeviceKind, Hop, RangeTable, TableFault, TableRow};
+use mctp_bridge::{DeviceKind, Hop, RangeTable, TableRow};
 use mctp_control::Neighbor;
 use mctp_transport::Eid;
-use net_plan::{Plan, Port, Row};
-use net_tables::lookup::{bus_at, eid_at, is_bridge, ports_at, rows_at};
+use net_plan::Plan;
+use net_tables::lookup::{address_on, bus_at, eid_at, is_bridge, rows_at};
+use net_tables::routing_table;
 use std::alloc::{AllocError, Global};
 
 /// The routing table of a planned node, and for each of its rows the node to which it leads.
@@ -43,44 +42,7 @@ pub fn range_table(alloc: Global, plan: &Plan, node: usize) -> Result<RangeTable
     requires { AreRows (rows_of plan.now node) }
     ensures { IfOk result (λ table. IsOrdered plan.now node table) }
 {
-    table_of(alloc, rows_at(plan, node))
-}
-
-/// The routing table of lawful rows.
-fn table_of(alloc: Global, rows: &[Row]) -> Result<RangeTable, AllocError>
-    requires { AreRows rows.now }
-    ensures same { IfOk result (λ table. IsPermutation (map table_row rows.now) table) }
-    ensures ordered { IfOk result (λ table. IsTable table) }
-{
-    let rows = table_rows(alloc, rows)?;
-    match RangeTable::build(alloc, &rows) {
-        Ok(table) => Ok(table),
-        Err(fault) => match fault {
-            TableFault::Memory => Err(AllocError),
-            _ => unreachable!(),
-        },
-    }
-}
-
-/// The rows as those of a routing table.
-fn table_rows(alloc: Global, rows: &[Row]) -> Result<Vec<TableRow>, AllocError>
-    ensures { IfOk result (λ copied. copied.items ≡ map table_row rows.now) }
-{
-    rows.iter().map(table_row).collect(alloc)
-}
-
-/// The row as one of a routing table.
-fn table_row(row: &Row) -> TableRow
-    ensures { result ≡ table_row row.now }
-{
-    TableRow {
-        first: row.first,
-        size: row.size,
-        hop: Hop {
-            port: row.port,
-            next: row.next,
-        },
-    }
+    routing_table(alloc, rows_at(plan, node))
 }
 
 /// The nodes to which the rows of a node lead.
@@ -136,24 +98,4 @@ pub fn bus_numbers(plan: &Plan, bus: Option<usize>) -> (u8, u8)
             .map_or((0, 0), |bus| (bus.binding, bus.media)),
         None => (0, 0),
     }
-}
-
-/// The address of a node's first port on a bus; empty where it has none there.
-fn address_on(plan: &Plan, node: usize, bus: Option<usize>) -> &[u8]
-    ensures { result.now ≡ address_on plan.now node bus }
-{
-    match bus {
-        Some(bus) => first_address(ports_at(plan, node), bus),
-        None => &[],
-    }
-}
-
-/// The address of the first of these ports that is on the bus; empty where none is.
-fn first_address(ports: &[Port], bus: usize) -> &[u8]
-    ensures { result.now ≡ first_address ports.now bus }
-{
-    ports
-        .iter()
-        .find(|port| port.bus == bus)
-        .map_or(&[], |port| port.address.as_slice())
 }

@@ -1,29 +1,10 @@
-//! Words that texts are made of: names, bytes in hex.
+//! Bytes in hex.
 ghost use Rattle.std.specs.Prelude.{◌≡◌, ◌∷◌, ◌++◌, [], IfOk, OnOk, string_bytes};
 ghost use Rattle.std.specs.List.{flat_map};
 ghost use Rattle.hex.specs.Hex.{encode_lower};
-ghost use Rattle.plan_exports.specs.Words.{bus_name, hex_list, node_name};
+ghost use Rattle.plan_exports.specs.Words.{hex_list};
 
-use net_plan::Plan;
 use std::alloc::{AllocError, Global};
-
-/// The name of a node; a dash where there is no such node.
-pub fn node_name(plan: &Plan, node: usize) -> &str
-    ensures { result.now ≡ node_name plan.now node }
-{
-    plan.nodes
-        .get(node)
-        .map_or("-", |node| node.name.text.as_str())
-}
-
-/// The name of a bus; a dash where there is no such bus.
-pub fn bus_name(plan: &Plan, bus: usize) -> &str
-    ensures { result.now ≡ bus_name plan.now bus }
-{
-    plan.buses
-        .get(bus)
-        .map_or("-", |bus| bus.name.text.as_str())
-}
 
 /// Bytes in hex, two digits each, with a text before each but the first.
 pub fn hex_list(alloc: Global, between: &str, bytes: &[u8]) -> Result<String, AllocError>

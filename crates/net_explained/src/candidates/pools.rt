@@ -4,6 +4,7 @@ use crate::candidates::add;
 use crate::edit::{Change, Edit};
 use mctp_transport::Eid;
 use net_plan::{Plan, Pool};
+use net_rules::share_bus;
 use net_tables::lookup::{
     eid_at, is_bridge, is_in_pool_of, is_on_bus, owner_at, pool_at, pool_end, ports_at,
 };
@@ -24,16 +25,6 @@ pub fn add_owners(plan: &Plan, node: usize, edits: &mut Vec<Edit>) -> Result<(),
         }
     }
     add(edits, node, Change::Owner(None))
-}
-
-/// Whether both nodes are on some bus.
-fn share_bus(plan: &Plan, node: usize, other: usize) -> bool {
-    for port in ports_at(plan, node) {
-        if is_on_bus(plan, other, port.bus) {
-            return true;
-        }
-    }
-    false
 }
 
 /// Adds the pool from the first number to that before the end, unless it is empty or not within 8 to 254.

@@ -6,8 +6,8 @@ use crate::rest::Stretch;
 use mctp_transport::Eid;
 use net_plan::{Kind, Plan, Row};
 use net_tables::lookup::{
-    covers, eid_at, has_row, holds, is_bridge, is_in_pool_of, is_on_bus, pool_at, pool_end,
-    port_at, row_at, row_end, rows_at,
+    covers, eid_at, has_row, holds, is_bridge, is_held, is_in_pool_of, is_on_bus, pool_at,
+    pool_end, port_at, row_at, row_end, rows_at,
 };
 use std::alloc::AllocError;
 
@@ -204,16 +204,6 @@ pub fn add_ways_out(
         }
     }
     Ok(())
-}
-
-/// Whether some node holds the endpoint ID.
-fn is_held(plan: &Plan, eid: Eid) -> bool {
-    for node in 0..plan.nodes.len() {
-        if holds(plan, node, eid) {
-            return true;
-        }
-    }
-    false
 }
 
 /// Whether the node's row covers the endpoint ID.

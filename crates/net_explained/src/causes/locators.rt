@@ -57,21 +57,10 @@ pub fn misleading(plan: &Plan, node: usize, index: usize, eid: Eid) -> Option<Ca
 fn tid_located(listed: &PlannedRecord, eid: Eid) -> Option<u8>
     ensures { (tid : ℕ) → IsEidLocator listed.now.bytes.items tid (eid.value ∷ []) ↔ (result ≡ Some tid) }
 {
-    match eid_locator(&listed.bytes) {
-        Some(locator) => {
-            if is_byte(locator.locator_value, eid.value) {
-                Some(locator.tid)
-            } else {
-                None
-            }
-        }
-        None => None,
+    let locator = eid_locator(&listed.bytes)?;
+    if locator.locator_value == [eid.value].as_slice() {
+        Some(locator.tid)
+    } else {
+        None
     }
-}
-
-/// Whether a value is this one byte.
-fn is_byte(value: &[u8], byte: u8) -> bool
-    ensures { IsTrue result ↔ (value.now ≡ byte ∷ []) }
-{
-    value == [byte].as_slice()
 }

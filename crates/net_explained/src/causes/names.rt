@@ -1,5 +1,5 @@
 //! C01: the earlier node that has a node's name.
-ghost use Rattle.std.specs.Prelude.{◌<◌, ◌↔◌, IsTrue, length, None};
+ghost use Rattle.std.specs.Prelude.{◌<◌, length, None};
 ghost use Rattle.net_rules.specs.Names.{HaveOneName};
 ghost use Rattle.net_rules.specs.declared.rule.Rule.TheVariants.{C01};
 ghost use Rattle.net_explained.specs.Searches.{IsFirstBelow};
@@ -7,6 +7,7 @@ ghost use Rattle.net_explained.specs.Causes.{IsCauseAt};
 
 use crate::cause::Cause;
 use net_plan::Plan;
+use net_rules::have_one_name;
 
 /// The first earlier node that has the node's name.
 #[tactic(auto, unfolding(net_rules::specs::Names::HasNewName))]
@@ -41,13 +42,4 @@ fn first_namesake(plan: &Plan, node: usize) -> Option<usize>
         }
     }
     None
-}
-
-/// Whether two nodes have one name.
-fn have_one_name(plan: &Plan, node: usize, other: usize) -> bool
-    requires first { node < length plan.now.nodes.items }
-    requires second { other < length plan.now.nodes.items }
-    ensures { IsTrue result ↔ HaveOneName plan.now node other }
-{
-    plan.nodes[node].name == plan.nodes[other].name
 }

@@ -1,16 +1,15 @@
 //! C07: what is wrong with a node's owner.
-ghost use Rattle.std.specs.Prelude.{◌≡◌, ◌↔◌, ◌==◌, IsTrue, Some, None};
-ghost use Rattle.std.specs.List.{list_any};
-ghost use Rattle.net_tables.specs.Routing.{IsBridge, ports_of};
+ghost use Rattle.std.specs.Prelude.{◌≡◌, Some, None};
+ghost use Rattle.net_tables.specs.Routing.{IsBridge};
 ghost use Rattle.net_tables.specs.Ownership.{IsOwnedBy};
-ghost use Rattle.net_rules.specs.Owners.{ShareBus};
 ghost use Rattle.net_rules.specs.declared.rule.Rule.TheVariants.{C07};
 ghost use Rattle.net_explained.specs.declared.cause.Cause.TheVariants.{OwnerSharesNoBus};
 ghost use Rattle.net_explained.specs.Causes.{IsCauseAt};
 
 use crate::cause::Cause;
-use net_plan::{Plan, Port};
-use net_tables::lookup::{is_bridge, is_on_bus, owner_at, ports_at};
+use net_plan::Plan;
+use net_rules::share_bus;
+use net_tables::lookup::{is_bridge, owner_at};
 
 /// Why the node's owner can't own it: it is no bridge, or it is one that shares no bus with the node.
 #[tactic(auto, unfolding(net_rules::specs::Owners::HasBridgeAsOwner))]
@@ -37,18 +36,4 @@ fn unfit_owner(plan: &Plan, node: usize, owner: usize) -> Option<Cause>
     } else {
         None
     }
-}
-
-/// Whether two nodes have a port each on one bus.
-fn share_bus(plan: &Plan, node: usize, other: usize) -> bool
-    ensures { IsTrue result ↔ ShareBus plan.now node other }
-{
-    are_some_on_bus_of(plan, ports_at(plan, node), other)
-}
-
-/// Whether one of the ports is on a bus of the node.
-fn are_some_on_bus_of(plan: &Plan, ports: &[Port], node: usize) -> bool
-    ensures { result ≡ list_any (λ port. list_any (λ other. other.bus == port.bus) (ports_of plan.now node)) ports.now }
-{
-    ports.iter().any(|port| is_on_bus(plan, node, port.bus))
 }

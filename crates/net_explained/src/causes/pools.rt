@@ -12,6 +12,7 @@ ghost use Rattle.net_explained.specs.Causes.{IsCauseAt};
 use crate::cause::Cause;
 use mctp_transport::Eid;
 use net_plan::{Plan, Pool};
+use net_rules::is_pool_in_range;
 use net_tables::lookup::{
     holds, is_bridge, is_in_pool, is_in_pool_of, owner_at, pool_at, pool_end,
 };
@@ -93,14 +94,6 @@ fn unlawful_pool(plan: &Plan, node: usize, pool: Pool) -> Option<Cause>
             None => None,
         },
     }
-}
-
-/// Whether the pool has an endpoint ID, and only such as can be held.
-#[tactic(auto, unfolding(net_rules::specs::Pools::IsPoolInRange))]
-fn is_pool_in_range(pool: Pool) -> bool
-    ensures { IsTrue result ↔ IsPoolInRange pool }
-{
-    1 <= pool.size && 8 <= pool.first.value && pool_end(pool) <= 255
 }
 
 /// The node's owner and the pool's least endpoint ID that the owner hasn't in its own.

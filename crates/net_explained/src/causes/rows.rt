@@ -1,7 +1,7 @@
 //! C04 to C06: what is wrong with a row.
 ghost use Rattle.std.specs.Prelude.{◌≡◌, ◌≢◌, ◌≤◌, ℕ, ◌↔◌, IsTrue, Option, Some, None, slice_get};
 ghost use Rattle.net_tables.specs.Routing.{rows_of, Covers, IsBridge};
-ghost use Rattle.net_tables.specs.Rows.{IsInRange, IsJoined, bus_of};
+ghost use Rattle.net_tables.specs.Rows.{IsJoined, bus_of};
 ghost use Rattle.net_rules.specs.declared.rule.Rule.TheVariants.{C04, C05, C06};
 ghost use Rattle.net_explained.specs.declared.cause.Cause.TheVariants.{NextIsItself, NoSuchPort, EndpointForSeveral};
 ghost use Rattle.net_explained.specs.Searches.{IsFirst, IsLeastEid, IsFirstWithEid};
@@ -12,9 +12,9 @@ use crate::cause::Cause;
 use crate::rest::rest_of;
 use mctp_transport::Eid;
 use net_plan::{Plan, Row};
+use net_rules::is_in_range;
 use net_tables::lookup::{
-    bus_at, covers, holds, is_bridge, is_in_pool_of, is_on_bus, owner_at, port_at, ports_at,
-    row_at, row_end,
+    bus_at, covers, holds, is_bridge, is_in_pool_of, is_on_bus, owner_at, port_at, ports_at, row_at,
 };
 
 /// That the node's row covers nothing, or more than can be assigned.
@@ -26,14 +26,6 @@ pub fn out_of_range(plan: &Plan, node: usize, row: usize) -> Option<Cause>
         Some(found) if !is_in_range(found) => Some(Cause::RowOutOfRange),
         _ => None,
     }
-}
-
-/// Whether a row covers an endpoint ID, and only such as can be held.
-#[tactic(auto, unfolding(net_tables::specs::Rows::IsInRange))]
-fn is_in_range(row: &Row) -> bool
-    ensures { IsTrue result ↔ IsInRange row.now }
-{
-    1 <= row.size && 8 <= row.first.value && row_end(row) <= 255
 }
 
 /// The first earlier row of the node that covers an endpoint ID of the row, and the least such endpoint ID.

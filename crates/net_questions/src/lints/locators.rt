@@ -57,12 +57,5 @@ fn locates(listed: &PlannedRecord, tid: u8, eid: Eid) -> bool
 fn is_of(found: u8, value: &[u8], tid: u8, eid: Eid) -> bool
     ensures { IsTrue result ↔ (found ≡ tid) × (value.now ≡ eid.value ∷ []) }
 {
-    found == tid && is_byte(value, eid.value)
-}
-
-/// Whether a value is this one byte.
-fn is_byte(value: &[u8], byte: u8) -> bool
-    ensures { IsTrue result ↔ (value.now ≡ byte ∷ []) }
-{
-    value == [byte].as_slice()
+    found == tid && value == [eid.value].as_slice()
 }

@@ -2,13 +2,13 @@
 ghost use Rattle.std.specs.Prelude.{◌<◌, ◌⊎◌, ◌↔◌, ℕ, IsTrue, length};
 ghost use Rattle.net_tables.specs.Routing.{Holds, Covers};
 ghost use Rattle.net_tables.specs.Ownership.{IsInPool, IsInPoolOf};
-ghost use Rattle.net_questions.specs.Lint.{LeadsToNobody, HasIdleRow, IsHeld, LeavesHeld, NobodyHasRow, IsUnknown, IsIsolated};
+ghost use Rattle.net_questions.specs.Lint.{LeadsToNobody, HasIdleRow, LeavesHeld, NobodyHasRow, IsUnknown, IsIsolated};
 
 use crate::lookup::eid_at;
 use mctp_transport::Eid;
 use net_plan::{Plan, Pool, Row};
 use net_tables::lookup::{
-    covers, has_row, holds, is_bridge, is_in_pool, is_in_pool_of, pool_at, row_at, rows_at,
+    covers, has_row, holds, is_bridge, is_held, is_in_pool, is_in_pool_of, pool_at, row_at, rows_at,
 };
 
 /// Whether a node's row leads to nobody: no node holds any of its endpoint IDs, and none lies in a pool.
@@ -71,18 +71,6 @@ pub fn leaves_held(plan: &Plan, node: usize, eid: Eid) -> bool
         && is_held(plan, eid)
         && !holds(plan, node, eid)
         && !has_row(plan, node, eid)
-}
-
-/// Whether a node holds the endpoint ID.
-fn is_held(plan: &Plan, eid: Eid) -> bool
-    ensures { IsTrue result ↔ IsHeld plan.now eid.value }
-{
-    for node in 0..plan.nodes.len() {
-        if holds(plan, node, eid) {
-            return true;
-        }
-    }
-    false
 }
 
 /// Whether a node has no rows, and no node has a row for its endpoint ID.

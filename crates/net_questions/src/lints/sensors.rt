@@ -1,6 +1,6 @@
 //! H05 and H11: the sensor IDs of sensors, and the readable ranges of numeric ones.
 ghost use Rattle.std.specs.Prelude.{◌≡◌, ◌<◌, ◌≤◌, ◌↔◌, ◌^◌, ◌/◌, ◌%◌, ℕ, length, IsTrue};
-ghost use Rattle.std.specs.Prelude.{IfSome, IsSomeAnd, Some, slice_get, get_or};
+ghost use Rattle.std.specs.Prelude.{IfSome, IsSomeAnd, Some, get_or};
 ghost use Rattle.pdr_record.specs.Layouts.{NumericValue, IsNumeric, width_of};
 ghost use Rattle.pdr_record.specs.Numbers.{size_code};
 ghost use Rattle.pdr_record.specs.NumericValues.{numeric_value};
@@ -12,12 +12,7 @@ use super::record_index::{RecordIndex, has_earlier_sensor};
 use mctp_transport::Wire;
 use net_plan::{Plan, PlannedRecord};
 use net_tables::lookup::record_at;
-use pdr_record::{Body, NumericSensor, SensorDataSize};
-
-/// Where the type stands in the common header of a record (DSP0248).
-const TYPE_AT: usize = 5;
-/// The type of a numeric sensor (DSP0248).
-const NUMERIC_SENSOR: u8 = 2;
+use pdr_record::{Body, NUMERIC_SENSOR, NumericSensor, SensorDataSize, has_type};
 
 /// Whether a node's record is a sensor's, and an earlier one is one of the same sensor ID.
 pub fn shares_sensor_id(plan: &Plan, indexes: &[RecordIndex], node: usize, index: usize) -> bool
@@ -93,7 +88,7 @@ pub fn numeric_sensor(bytes: &[u8]) -> Option<NumericSensor<'_>>
     ensures layout { IfSome result (λ sensor. IsNumeric (numeric_value sensor)) }
     ensures all { (s : NumericValue) → IsNumericSensor bytes.now s → IsSomeAnd result (λ sensor. numeric_value sensor ≡ s) }
 {
-    if !has_numeric_type(bytes) {
+    if !has_type(bytes, NUMERIC_SENSOR) {
         return None;
     }
     match pdr_record::Record::read(bytes) {
@@ -103,13 +98,6 @@ pub fn numeric_sensor(bytes: &[u8]) -> Option<NumericSensor<'_>>
         },
         Err(_) => None,
     }
-}
-
-/// Whether the common header, if the bytes have one, tells a numeric sensor.
-fn has_numeric_type(bytes: &[u8]) -> bool
-    ensures { IsTrue result ↔ (slice_get bytes.now 5 ≡ Some 2) }
-{
-    bytes.get(TYPE_AT) == Some(&NUMERIC_SENSOR)
 }
 
 /// Whether one value of the data size is over another.

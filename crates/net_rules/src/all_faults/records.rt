@@ -8,10 +8,10 @@ ghost use Rattle.net_rules.specs.Locators.{HasOneByteAsEid, LocatesTerminus};
 
 use crate::all_faults::locators::{has_one_byte_as_eid, locates_terminus};
 use crate::holders::Holders;
-use crate::rules::records::is_record;
 use mctp_transport::Eid;
 use net_plan::{Certificate, Plan, PlannedRecord, RecordPlace};
 use net_tables::lookup::{places_at, record_at, records_at};
+use pdr_repository::is_record;
 
 /// Whether the record's handle is not 0, and no earlier record's.
 pub fn is_handle_new(plan: &Plan, node: usize, index: usize) -> bool

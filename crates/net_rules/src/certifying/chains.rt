@@ -4,10 +4,9 @@ ghost use Rattle.net_tables.specs.Routing.{OfItem};
 ghost use Rattle.net_rules.specs.Search.{IsFirstItem};
 ghost use Rattle.net_rules.specs.RecordChains.{HasNext, HasNewNext, HaveNewHandles, IsChainOf, IsIndexOf, AreLinked, AreFromTheEnd};
 
-use crate::certifying::handle_index::{first_at, index_of};
+use crate::certifying::handle_index::{HandleIndex, first_at, index_of};
 use net_plan::{PlannedRecord, RecordPlace};
 use std::alloc::{AllocError, Global};
-use std::collections::BTreeMap;
 
 /// What is wrong with a chain of records, and at which record of the list.
 #[derive(Clone, Copy, Debug, PartialEq, Eq)]
@@ -75,7 +74,7 @@ pub fn chain_of(alloc: Global, records: &[PlannedRecord]) -> Result<Chained, All
 }
 
 /// The record of each handle.
-fn handles_of(alloc: Global, records: &[PlannedRecord]) -> Result<BTreeMap<u32, usize>, AllocError>
+fn handles_of(alloc: Global, records: &[PlannedRecord]) -> Result<HandleIndex, AllocError>
     ensures { IfOk result (IsIndexOf (map (λ r. r.handle) records.now)) }
 {
     let handles: Vec<u32> = records.iter().map(|record| record.handle).collect(alloc)?;
@@ -83,7 +82,7 @@ fn handles_of(alloc: Global, records: &[PlannedRecord]) -> Result<BTreeMap<u32, 
 }
 
 /// The first record of each next handle.
-fn nexts_of(alloc: Global, records: &[PlannedRecord]) -> Result<BTreeMap<u32, usize>, AllocError>
+fn nexts_of(alloc: Global, records: &[PlannedRecord]) -> Result<HandleIndex, AllocError>
     ensures { IfOk result (IsIndexOf (map (λ r. r.next) records.now)) }
 {
     let nexts: Vec<u32> = records.iter().map(|record| record.next).collect(alloc)?;
@@ -91,7 +90,7 @@ fn nexts_of(alloc: Global, records: &[PlannedRecord]) -> Result<BTreeMap<u32, us
 }
 
 /// The first record whose next handle is neither 0 nor a record's handle.
-fn first_missing(records: &[PlannedRecord], handles: &BTreeMap<u32, usize>) -> Option<usize>
+fn first_missing(records: &[PlannedRecord], handles: &HandleIndex) -> Option<usize>
     requires { IsIndexOf (map (λ r. r.handle) records.now) handles.now }
     ensures { IsFirstItem records.now (λ _ r. HasNext records.now r) result }
 {
@@ -104,7 +103,7 @@ fn first_missing(records: &[PlannedRecord], handles: &BTreeMap<u32, usize>) -> O
 }
 
 /// Whether the record's next handle is 0 or a record's handle.
-fn has_next(records: &[PlannedRecord], handles: &BTreeMap<u32, usize>, j: usize) -> bool
+fn has_next(records: &[PlannedRecord], handles: &HandleIndex, j: usize) -> bool
     requires within { j < length records.now }
     requires handles { IsIndexOf (map (λ r. r.handle) records.now) handles.now }
     ensures { IsTrue result ↔ OfItem records.now j (HasNext records.now) }
@@ -117,7 +116,7 @@ fn has_next(records: &[PlannedRecord], handles: &BTreeMap<u32, usize>, j: usize)
 }
 
 /// The first record whose next handle is an earlier record's.
-fn first_doubled(records: &[PlannedRecord], nexts: &BTreeMap<u32, usize>) -> Option<usize>
+fn first_doubled(records: &[PlannedRecord], nexts: &HandleIndex) -> Option<usize>
     requires { IsIndexOf (map (λ r. r.next) records.now) nexts.now }
     ensures { IsFirstItem records.now (HasNewNext records.now) result }
 {
@@ -130,7 +129,7 @@ fn first_doubled(records: &[PlannedRecord], nexts: &BTreeMap<u32, usize>) -> Opt
 }
 
 /// Whether the record's next handle is no earlier record's.
-fn has_new_next(records: &[PlannedRecord], nexts: &BTreeMap<u32, usize>, j: usize) -> bool
+fn has_new_next(records: &[PlannedRecord], nexts: &HandleIndex, j: usize) -> bool
     requires within { j < length records.now }
     requires nexts { IsIndexOf (map (λ r. r.next) records.now) nexts.now }
     ensures { IsTrue result ↔ OfItem records.now j (HasNewNext records.now j) }
@@ -146,7 +145,7 @@ fn has_new_next(records: &[PlannedRecord], nexts: &BTreeMap<u32, usize>, j: usiz
 fn places_from_the_end(
     alloc: Global,
     records: &[PlannedRecord],
-    nexts: &BTreeMap<u32, usize>,
+    nexts: &HandleIndex,
 ) -> Result<Vec<Option<usize>>, AllocError>
     requires linked { AreLinked records.now }
     requires nexts { IsIndexOf (map (λ r. r.next) records.now) nexts.now }

@@ -14,7 +14,7 @@ use crate::certifying::longest_ways::{Longest, longest_or_loop};
 use crate::certifying::next_nodes::next_nodes;
 use crate::certifying::rank_ranges::{add_ranks, no_ranges};
 use crate::certifying::stretches::{Stretch, lesser, stretch_from};
-use crate::certifying::tables::tables_of;
+use crate::certifying::tables::certifying_tables;
 use crate::mixed_loop::MixedLoop;
 use crate::move_obstacle::MoveObstacle;
 use mctp_bridge::RangeTable;
@@ -38,8 +38,8 @@ pub fn exact_move_ranks(
     ensures exact { IfOk result (λ given. AreRanksOf (IsMoveRank before.now after.now) (length before.now.nodes.items) given.items) }
     ensures obstacle { IfErr result (λ obstacle. NamesMixedLoop before.now after.now obstacle) }
 {
-    let old = tables_of(alloc, before)?;
-    let new = tables_of(alloc, after)?;
+    let old = certifying_tables(alloc, before)?;
+    let new = certifying_tables(alloc, after)?;
     let mut given = no_ranges(alloc, before.nodes.len())?;
     let mut first = 8;
     while first < 255 {

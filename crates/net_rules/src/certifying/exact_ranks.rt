@@ -7,7 +7,7 @@ use crate::certify_error::CertifyError;
 use crate::certifying::next_nodes::walk_for;
 use crate::certifying::rank_ranges::{add_ranks, no_ranges};
 use crate::certifying::stretches::stretch_from;
-use crate::certifying::tables::tables_of;
+use crate::certifying::tables::certifying_tables;
 use crate::certifying::walks::Walked;
 use mctp_transport::Eid;
 use net_plan::{NodeRanks, Plan};
@@ -20,7 +20,7 @@ pub fn exact_ranks(alloc: Global, plan: &Plan) -> Result<Vec<NodeRanks>, Certify
     ensures exact { IfOk result (λ given. AreExactRanks plan.now given.items) }
     ensures obstacle { IfErr result (λ error. NamesRoutingLoop plan.now error) }
 {
-    let tables = tables_of(alloc, plan)?;
+    let tables = certifying_tables(alloc, plan)?;
     let mut given = no_ranges(alloc, plan.nodes.len())?;
     let mut first = 8;
     while first < 255 {

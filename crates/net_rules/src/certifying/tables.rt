@@ -9,7 +9,7 @@ use net_tables::routing_tables;
 use std::alloc::{AllocError, Global};
 
 /// The routing tables of the plan's nodes.
-pub fn tables_of(alloc: Global, plan: &Plan) -> Result<Vec<RangeTable>, AllocError>
+pub fn certifying_tables(alloc: Global, plan: &Plan) -> Result<Vec<RangeTable>, AllocError>
     requires apart { RowsAreApart plan.now }
     requires in_range { RowsAreInRange plan.now }
     ensures { IfOk result (λ tables. AreTables plan.now (length plan.now.nodes.items) tables.items) }

@@ -1,7 +1,7 @@
 //! C11 and M02: rows lead on what other nodes hold, whether or not a node has switched to new rows.
 ghost use Rattle.std.specs.Prelude.{ℕ, ◌≡◌, ◌≢◌, ◌⊎◌, ◌↔◌, IsTrue};
 ghost use Rattle.net_tables.specs.Routing.{Holds, IsBridge, eid_number};
-ghost use Rattle.net_rules.specs.PlanTables.{tables_of};
+ghost use Rattle.net_rules.specs.PlanTables.{plans_value};
 ghost use Rattle.net_tables.specs.TwoPlans.{HasRowAlways};
 ghost use Rattle.net_rules.specs.HeldEids.{IsLedOn};
 ghost use Rattle.net_rules.specs.Rules.{AtRowEid};
@@ -24,7 +24,7 @@ pub fn row_without_way_on(
     node: usize,
 ) -> Option<Spot>
     requires { holders.now ≡ plans.now.plan.now }
-    ensures { IsFirstSpot (AtRowEid whose.now node (λ row e. IsLedOn (tables_of plans.now) node e row.next)) result }
+    ensures { IsFirstSpot (AtRowEid whose.now node (λ row e. IsLedOn (plans_value plans.now) node e row.next)) result }
 {
     let rows = rows_at(whose, node);
     for (r, row) in rows.iter().enumerate() {
@@ -44,7 +44,7 @@ fn first_without_way_on(
     row: &Row,
 ) -> Option<Eid>
     requires { holders.now ≡ plans.now.plan.now }
-    ensures { IsFirstEid row.now (λ e. IsLedOn (tables_of plans.now) node e row.now.next) (eid_number result) }
+    ensures { IsFirstEid row.now (λ e. IsLedOn (plans_value plans.now) node e row.now.next) (eid_number result) }
 {
     let way_on = WayOn {
         plans,
@@ -67,10 +67,10 @@ struct WayOn<'a> {
 
 impl<'a> Stretched for WayOn<'a> {
     ghost use Rattle.std.specs.Prelude.{ℕ, ◌↔◌, IsTrue};
-    ghost use Rattle.net_rules.specs.PlanTables.{tables_of};
+    ghost use Rattle.net_rules.specs.PlanTables.{plans_value};
     ghost use Rattle.net_rules.specs.HeldEids.{IsLedOn};
 
-    ghost Demand = { λ way e. IsLedOn (tables_of way.plans.now) way.node e way.next };
+    ghost Demand = { λ way e. IsLedOn (plans_value way.plans.now) way.node e way.next };
 
     fn is_met_at(&self, eid: Eid) -> bool {
         is_led_on(self.plans, self.holders, self.node, eid, self.next)
@@ -98,7 +98,7 @@ pub(crate) fn is_led_on(
     next: usize,
 ) -> bool
     requires { holders.now ≡ plans.now.plan.now }
-    ensures { IsTrue result ↔ IsLedOn (tables_of plans.now) node eid.value next }
+    ensures { IsTrue result ↔ IsLedOn (plans_value plans.now) node eid.value next }
 {
     // Rows are looked through last.
     holds(plans.plan, next, eid)
@@ -108,14 +108,14 @@ pub(crate) fn is_led_on(
 
 /// Whether the node holds the endpoint ID, or is a bridge with a row for it in each of the plans.
 fn has_way_on(plans: &Plans<'_>, node: usize, eid: Eid) -> bool
-    ensures { IsTrue result ↔ (Holds plans.now.plan.now node eid.value ⊎ (IsBridge plans.now.plan.now node × HasRowAlways (tables_of plans.now) node eid.value)) }
+    ensures { IsTrue result ↔ (Holds plans.now.plan.now node eid.value ⊎ (IsBridge plans.now.plan.now node × HasRowAlways (plans_value plans.now) node eid.value)) }
 {
     holds(plans.plan, node, eid) || is_routing_bridge(plans, node, eid)
 }
 
 /// Whether the node is a bridge with a row for the endpoint ID in each of the plans.
 fn is_routing_bridge(plans: &Plans<'_>, node: usize, eid: Eid) -> bool
-    ensures { IsTrue result ↔ (IsBridge plans.now.plan.now node × HasRowAlways (tables_of plans.now) node eid.value) }
+    ensures { IsTrue result ↔ (IsBridge plans.now.plan.now node × HasRowAlways (plans_value plans.now) node eid.value) }
 {
     is_bridge(plans.plan, node) && plans.has_row_in_each(node, eid)
 }

@@ -1,5 +1,5 @@
 //! C15: terminus locators name a node that holds the endpoint ID, and whose terminus has the terminus ID.
-ghost use Rattle.std.specs.Prelude.{◌≡◌, ℕ, List, [], ◌∷◌, length, ◌↔◌, IsTrue, IfSome, IsSomeAnd, Some, option_map, slice_get};
+ghost use Rattle.std.specs.Prelude.{◌≡◌, ℕ, List, [], ◌∷◌, length, ◌↔◌, IsTrue, IfSome, IsSomeAnd, Some, option_map};
 ghost use Rattle.net_tables.specs.Routing.{Holds};
 ghost use Rattle.net_tables.specs.Repositories.{terminus_of};
 ghost use Rattle.net_rules.specs.Locators.{IsEidLocator, HasOneByteAsEid, IsHeldByTerminus, LocatesTerminus};
@@ -12,12 +12,7 @@ use crate::spot::Spot;
 use mctp_transport::{Eid, Wire};
 use net_plan::{Plan, PlannedRecord};
 use net_tables::lookup::{holds, records_at, terminus_at};
-use pdr_record::{Body, TerminusLocator};
-
-/// Where the type stands in the common header of a record (DSP0248).
-const TYPE_AT: usize = 5;
-/// The type of a terminus locator (DSP0248).
-const TERMINUS_LOCATOR: u8 = 1;
+use pdr_record::{Body, TERMINUS_LOCATOR, TerminusLocator, has_type};
 
 /// Where a terminus locator does not locate a terminus of the plan.
 pub fn misleading_locator(plan: &Plan, holders: &Holders<'_>, node: usize) -> Option<Spot>
@@ -65,9 +60,18 @@ pub fn eid_locator(bytes: &[u8]) -> Option<TerminusLocator<'_>>
     ensures found { IfSome result (λ locator. IsEidLocator bytes.now locator.tid locator.locator_value.now) }
     ensures all { (tid : ℕ) (value : List ℕ) → IsEidLocator bytes.now tid value → IsSomeAnd result (λ locator. (locator.tid ≡ tid) × (locator.locator_value.now ≡ value)) }
 {
-    if !has_locator_type(bytes) {
+    if !has_type(bytes, TERMINUS_LOCATOR) {
         return None;
     }
+    valid_eid_locator(bytes)
+}
+
+/// The same without a look at the type first. It stands apart, since what is read of a record takes room.
+#[inline(never)]
+fn valid_eid_locator(bytes: &[u8]) -> Option<TerminusLocator<'_>>
+    ensures found { IfSome result (λ locator. IsEidLocator bytes.now locator.tid locator.locator_value.now) }
+    ensures all { (tid : ℕ) (value : List ℕ) → IsEidLocator bytes.now tid value → IsSomeAnd result (λ locator. (locator.tid ≡ tid) × (locator.locator_value.now ≡ value)) }
+{
     match pdr_record::Record::read(bytes) {
         Ok(record) => match record.body {
             Body::Terminus(locator) if locator.validity == 1 && locator.locator_type == 1 => {
@@ -77,13 +81,6 @@ pub fn eid_locator(bytes: &[u8]) -> Option<TerminusLocator<'_>>
         },
         Err(_) => None,
     }
-}
-
-/// Whether the common header, if the bytes have one, tells a terminus locator.
-fn has_locator_type(bytes: &[u8]) -> bool
-    ensures { IsTrue result ↔ (slice_get bytes.now 5 ≡ Some 1) }
-{
-    bytes.get(TYPE_AT) == Some(&TERMINUS_LOCATOR)
 }
 
 /// Whether a node holds the endpoint ID whose terminus has the terminus ID. Mostly one node holds it.

@@ -34,7 +34,7 @@ pub(crate) fn has_new_name(plan: &Plan, node: usize) -> bool
 }
 
 /// Whether two nodes have one name.
-fn have_one_name(plan: &Plan, node: usize, other: usize) -> bool
+pub fn have_one_name(plan: &Plan, node: usize, other: usize) -> bool
     requires first { node < length plan.now.nodes.items }
     requires second { other < length plan.now.nodes.items }
     ensures { IsTrue result ↔ HaveOneName plan.now node other }

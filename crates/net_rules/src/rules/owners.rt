@@ -45,7 +45,7 @@ pub(crate) fn has_bridge_as_owner(plan: &Plan, node: usize) -> bool
 }
 
 /// Whether two nodes have a port each on one bus.
-fn share_bus(plan: &Plan, node: usize, other: usize) -> bool
+pub fn share_bus(plan: &Plan, node: usize, other: usize) -> bool
     ensures { IsTrue result ↔ ShareBus plan.now node other }
 {
     are_some_on_bus_of(plan, ports_at(plan, node), other)

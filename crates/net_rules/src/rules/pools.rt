@@ -96,7 +96,7 @@ fn is_lawful_pool(plan: &Plan, node: usize, pool: Pool) -> bool
 
 /// Whether the pool has an endpoint ID, and only such as can be held.
 #[tactic(auto, unfolding(crate::specs::Pools::IsPoolInRange))]
-fn is_pool_in_range(pool: Pool) -> bool
+pub fn is_pool_in_range(pool: Pool) -> bool
     ensures { IsTrue result ↔ IsPoolInRange pool }
 {
     1 <= pool.size && 8 <= pool.first.value && pool_end(pool) <= 255

@@ -1,7 +1,6 @@
 //! C12 and C13: the records of a terminus have handles of their own, and bytes that are those of a record.
-ghost use Rattle.std.specs.Prelude.{◌≡◌, ◌≢◌, ℕ, ◌<◌, ◌↔◌, ◌∷◌, true, false, IsTrue, IfOk, OnOk, Some, map, replicate, slice_get};
+ghost use Rattle.std.specs.Prelude.{◌≡◌, ◌≢◌, ℕ, ◌<◌, ◌↔◌, true, false, IsTrue, IfOk, OnOk, Some, map, replicate, slice_get};
 ghost use Rattle.std.specs.BTreeSet.{contains, Updates};
-ghost use Rattle.std.specs.List.Sorted.{IsStrictlyIncreasing};
 ghost use Rattle.std.specs.Ordering.{nat_cmp};
 ghost use Rattle.pdr_repository.specs.Records.{IsRecordOf};
 ghost use Rattle.net_rules.specs.RecordChains.{HaveNewHandles};
@@ -11,9 +10,9 @@ ghost use Rattle.net_rules.specs.Search.{IsFirstItem, IsFirstSpot};
 
 use crate::rule::Rule;
 use crate::spot::Spot;
-use mctp_transport::Wire;
 use net_plan::{Plan, PlannedRecord};
 use net_tables::lookup::{records_at, terminus_at};
+use pdr_repository::{ascend, is_record};
 use std::alloc::{AllocError, Global};
 use std::collections::BTreeSet;
 
@@ -111,20 +110,6 @@ fn handles_of(alloc: Global, records: &[PlannedRecord]) -> Result<Vec<u32>, Allo
     records.iter().map(|record| record.handle).collect(alloc)
 }
 
-/// Whether the first number is above 0, and each other one above the one before it.
-fn ascend(numbers: &[u32]) -> bool
-    ensures { IsTrue result ↔ IsStrictlyIncreasing (0 ∷ numbers.now) }
-{
-    let mut last = 0;
-    for number in numbers {
-        if *number <= last {
-            return false;
-        }
-        last = *number;
-    }
-    true
-}
-
 /// The first record whose handle is 0 or in the set of those of earlier records.
 fn first_with_old_handle(
     alloc: Global,
@@ -160,14 +145,4 @@ fn first_unreadable(records: &[PlannedRecord]) -> Option<usize>
         }
     }
     None
-}
-
-/// Whether the bytes are those of a record of this handle, all of them.
-pub(crate) fn is_record(handle: u32, bytes: &[u8]) -> bool
-    ensures { IsTrue result ↔ IsRecordOf handle bytes.now }
-{
-    match pdr_record::Record::read(bytes) {
-        Ok(read) => read.handle == handle,
-        Err(_) => false,
-    }
 }

@@ -46,7 +46,7 @@ fn first_out_of_range(rows: &[Row]) -> Option<usize>
 
 /// Whether a row covers an endpoint ID, and only such as can be held.
 #[tactic(auto, unfolding(net_tables::specs::Rows::IsInRange))]
-pub(crate) fn is_in_range(row: &Row) -> bool
+pub fn is_in_range(row: &Row) -> bool
     ensures { IsTrue result ↔ IsInRange row.now }
 {
     1 <= row.size && 8 <= row.first.value && row_end(row) <= 255

@@ -1,19 +1,18 @@
 //! C16 and M03: the certificate gives nothing that the plan has no use for, or of a move neither plan.
-ghost use Rattle.std.specs.Prelude.{◌≡◌, ℕ, ◌<◌, ◌↔◌, IsTrue, MatchOption, length};
+ghost use Rattle.std.specs.Prelude.{◌≡◌, ◌≢◌, ℕ, ◌<◌, ◌↔◌, IsTrue, MatchOption, length};
 ghost use Rattle.net_tables.specs.Routing.{Holds};
 ghost use Rattle.net_tables.specs.Repositories.{places_of};
 ghost use Rattle.net_rules.specs.Superfluous.{NeedsItsLevel, NeedsItsPlaces, NeedsWhatItIsGiven, NeedsItsRank};
-ghost use Rattle.net_rules.specs.PlanTables.{tables_of};
+ghost use Rattle.net_rules.specs.PlanTables.{plans_value};
 ghost use Rattle.net_tables.specs.TwoPlans.{HasRowEver};
+ghost use Rattle.net_tables.specs.Ranks.{rank_in};
 ghost use Rattle.net_rules.specs.Rules.{AtNodeOrEid};
 ghost use Rattle.net_rules.specs.Search.{IsFirstSpot};
 
-use crate::borders::held_border;
 use crate::node_ranges::NodeRanges;
 use crate::plans::Plans;
 use crate::rows_in_force::RowsInForce;
 use crate::spot::Spot;
-use crate::stretches::{Stretched, first_broken};
 use mctp_transport::Eid;
 use net_plan::{Certificate, Plan};
 use net_tables::lookup::{given_level_of, holds, owner_at, places_at, ranges_at, records_at};
@@ -22,7 +21,7 @@ use net_tables::lookup::{given_level_of, holds, owner_at, places_at, ranges_at, 
 /// plans has a use for.
 pub fn superfluous_entry(plans: &Plans<'_>, certificate: &Certificate, node: usize) -> Option<Spot>
     requires { node < length plans.now.plan.now.nodes.items }
-    ensures { IsFirstSpot (AtNodeOrEid (NeedsWhatItIsGiven plans.now.plan.now certificate.now node) (NeedsItsRank (tables_of plans.now) certificate.now node)) result }
+    ensures { IsFirstSpot (AtNodeOrEid (NeedsWhatItIsGiven plans.now.plan.now certificate.now node) (NeedsItsRank (plans_value plans.now) certificate.now node)) result }
 {
     if !needs_what_it_is_given(plans.plan, certificate, node) {
         return Some(Spot::at_node());
@@ -36,56 +35,32 @@ pub fn superfluous_entry(plans: &Plans<'_>, certificate: &Certificate, node: usi
 /// The first endpoint ID for which the node is given a rank and needs none by any of the plans.
 fn superfluous_rank(plans: &Plans<'_>, certificate: &Certificate, node: usize) -> Option<Eid>
     requires { node < length plans.now.plan.now.nodes.items }
-    ensures { MatchOption result ((e : ℕ) → NeedsItsRank (tables_of plans.now) certificate.now node e)
-        (λ eid. ¬ NeedsItsRank (tables_of plans.now) certificate.now node eid.value
-        × ((d : ℕ) → d < eid.value → NeedsItsRank (tables_of plans.now) certificate.now node d)) }
+    ensures { MatchOption result ((e : ℕ) → NeedsItsRank (plans_value plans.now) certificate.now node e)
+        (λ eid. ¬ NeedsItsRank (plans_value plans.now) certificate.now node eid.value
+        × ((d : ℕ) → d < eid.value → NeedsItsRank (plans_value plans.now) certificate.now node d)) }
 {
-    let need = RankNeed {
-        rows: RowsInForce::of(plans, node),
-        ranges: NodeRanges::of(ranges_at(certificate, node)),
-    };
-    first_broken(&need, 0, 256)
-}
-
-/// That a node needs the ranks that it is given, by one of the plans.
-#[derive(Drop)]
-struct RankNeed<'a> {
-    rows: RowsInForce<'a>,
-    ranges: NodeRanges<'a>,
-}
-
-impl<'a> Stretched for RankNeed<'a> {
-    ghost use Rattle.std.specs.Prelude.{◌≢◌, ℕ, ◌↔◌, IsTrue};
-    ghost use Rattle.net_tables.specs.Routing.{Holds};
-    ghost use Rattle.net_rules.specs.PlanTables.{tables_of};
-    ghost use Rattle.net_tables.specs.TwoPlans.{HasRowEver};
-    ghost use Rattle.net_tables.specs.Ranks.{rank_in};
-
-    ghost Demand = { λ need e. rank_in need.ranges e ≢ 0 → ¬ Holds need.rows.0.plan.now need.rows.1 e × HasRowEver (tables_of need.rows.0) need.rows.1 e };
-
-    /// Whether the node is given no rank for the endpoint ID, or does not hold it and has a row for it in one of the
-    /// plans.
-    fn is_met_at(&self, eid: Eid) -> bool {
-        self.ranges.rank_of(eid) == 0 || may_be_ranked(&self.rows, eid)
-    }
-
-    fn stretch_end(&self, eid: Eid) -> u16 {
-        let end = self
-            .rows
-            .border(eid)
-            .min(held_border(self.rows.plan(), self.rows.node(), eid));
-        // What may be ranked may have any rank.
-        if may_be_ranked(&self.rows, eid) {
-            end
-        } else {
-            self.ranges.border(eid).min(end)
+    let rows = RowsInForce::of(plans, node);
+    let ranges = NodeRanges::of(ranges_at(certificate, node));
+    for number in 0..256u16 {
+        let eid = Eid::new(number as u8);
+        if !needs_its_rank(&rows, &ranges, eid) {
+            return Some(eid);
         }
     }
+    None
+}
+
+/// Whether the node is given no rank for the endpoint ID, or does not hold it and has a row for it in one of the plans.
+fn needs_its_rank(rows: &RowsInForce<'_>, ranges: &NodeRanges<'_>, eid: Eid) -> bool
+    ensures { IsTrue result ↔ (rank_in ranges.now eid.value ≢ 0
+        → ¬ Holds rows.now.0.plan.now rows.now.1 eid.value × HasRowEver (plans_value rows.now.0) rows.now.1 eid.value) }
+{
+    ranges.rank_of(eid) == 0 || may_be_ranked(rows, eid)
 }
 
 /// Whether the node does not hold the endpoint ID and has a row for it in one of the plans.
 fn may_be_ranked(rows: &RowsInForce<'_>, eid: Eid) -> bool
-    ensures { IsTrue result ↔ (¬ Holds rows.now.0.plan.now rows.now.1 eid.value × HasRowEver (tables_of rows.now.0) rows.now.1 eid.value) }
+    ensures { IsTrue result ↔ (¬ Holds rows.now.0.plan.now rows.now.1 eid.value × HasRowEver (plans_value rows.now.0) rows.now.1 eid.value) }
 {
     !holds(rows.plan(), rows.node(), eid) && rows.has_in_one(eid)
 }

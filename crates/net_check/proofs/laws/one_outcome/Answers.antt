@@ -1,6 +1,11 @@
+use Rattle.net_tables.specs.TwoPlans.{one_plan, moving}
 use Rattle.net_runs.proofs.OneOutcomes.{one_outcome}
-use Rattle.net_check.proofs.Whole.{runs_have_one_outcome, moves_have_one_outcome}
+use Rattle.net_check.proofs.Whole.{accepted_has_one_outcome}
 use Rattle.net_check.proofs.laws.one_outcome.Goals as goal
 
 pub returns : goal.returns
-returns c = record { tables = one_outcome; runs = runs_have_one_outcome; moves = moves_have_one_outcome }
+returns c = record {
+  tables = one_outcome;
+  runs = λ plan. accepted_has_one_outcome (one_plan plan);
+  moves = λ before after. accepted_has_one_outcome (moving before after);
+}

@@ -1,5 +1,6 @@
-use Rattle.net_check.proofs.Whole.{plans_have_one_walked_outcome, moves_have_one_walked_outcome}
+use Rattle.net_tables.specs.TwoPlans.{one_plan, moving}
+use Rattle.net_check.proofs.Whole.{accepted_has_one_walked_outcome}
 use Rattle.net_check.proofs.laws.one_walked_outcome.Goals as goal
 
 pub returns : goal.returns
-returns c = record { runs = plans_have_one_walked_outcome; moves = moves_have_one_walked_outcome }
+returns c = record { runs = λ plan. accepted_has_one_walked_outcome (one_plan plan); moves = λ before after. accepted_has_one_walked_outcome (moving before after) }

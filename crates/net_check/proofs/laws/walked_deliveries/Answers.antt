@@ -1,5 +1,6 @@
-use Rattle.net_check.proofs.Whole.{plans_walked_delivers, moves_walked_delivers}
+use Rattle.net_tables.specs.TwoPlans.{one_plan, moving}
+use Rattle.net_check.proofs.Whole.{accepted_walked_delivers}
 use Rattle.net_check.proofs.laws.walked_deliveries.Goals as goal
 
 pub returns : goal.returns
-returns c = record { plans = plans_walked_delivers; moves = moves_walked_delivers }
+returns c = record { plans = λ plan. accepted_walked_delivers (one_plan plan); moves = λ before after. accepted_walked_delivers (moving before after) }

@@ -3,8 +3,8 @@ use Rattle.std.specs.Prelude.{slice_get}
 use Rattle.std.proofs.lemmas.Bool.{cases_lt}
 use Rattle.std.proofs.lemmas.Option.{slice_get_read, slice_get_within}
 use Rattle.net_rollout.specs.Steps.{IsPartTold}
-use Rattle.net_rollout.proofs.Items.{item_same}
 use Rattle.net_rollout.proofs.changed_plan.are_told.Goals as goal
+use Rattle.mctp_transport.proofs.FirstIndexes.{same_element}
 
 pub loop-part-preserved : goal.loop-part-preserved
 loop-part-preserved c i part lt there =
@@ -17,7 +17,7 @@ loop-part-preserved c i part lt there =
       | inr ge ↦ (
           let here : slice_get parts k ≡ Some one = slice_get_read parts (length parts) k one (omega arith) (omega arith) c.part-item.is in
           let at : i ≡ k = omega (arith, lt, ge) in
-          let same : one ≡ part = item_same parts k one part here (subst (λ x. slice_get parts x ≡ Some part) at there) in
+          let same : one ≡ part = same_element parts k one part here (subst (λ x. slice_get parts x ≡ Some part) at there) in
           let told : IsPartTold new one = c.is_part_told.ensures c.if-not-is_part_told.false in
           subst (IsPartTold new) same told)
     ]

@@ -11,8 +11,8 @@ loop-node-init c =
     let P : List (List bridge.TableRow) → Type 0 = AreTabled c.args.plan.now 0 in
     subst P (sym c.new-tables.ensures.items) (none_tabled c.args.plan.now)
 
-pub table_of-requires : goal.table_of-requires
-table_of-requires c =
+pub routing_table-requires : goal.routing_table-requires
+routing_table-requires c =
     let P : List Row → Type 0 = AreRows in
     subst P (sym c.rows_at.ensures) (λ r row is. (c.requires.apart c.loop-node.node r row is, c.requires.in_range c.loop-node.node r row is))
 
@@ -20,8 +20,8 @@ pub loop-node-preserved : goal.loop-node-preserved
 loop-node-preserved c =
     let plan = c.args.plan.now in
     let tables = c.loop-node.tables.items in
-    let table = c.in_ok-table_of.field-0 in
+    let table = c.in_ok-routing_table.field-0 in
     let P : List Row → Type 0 = λ rows. HasSameRoutes (map table_row rows) table in
     let more : AreTabled plan (c.loop-node.node + 1) (tables ++ table ∷ []) =
-    more_tabled plan c.loop-node.node tables table c.loop-node.invariant (subst P c.rows_at.ensures c.in_ok-table_of.ensures) in
+    more_tabled plan c.loop-node.node tables table c.loop-node.invariant (subst P c.rows_at.ensures c.in_ok-routing_table.ensures.routes) in
     rw c.in_ok-push.ensures.items more

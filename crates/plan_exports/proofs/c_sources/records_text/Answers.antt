@@ -1,4 +1,4 @@
-use Rattle.std.proofs.Common.{ℕ, List, length, string_bytes, ap, sym, ◌∙◌}
+use Rattle.std.proofs.Common.{ℕ, length, string_bytes, ap, sym, ◌∙◌}
 use Rattle.std.proofs.lemmas.List.{length-map}
 use Rattle.pdr_repository.specs.Records.{entries, entry_of}
 use Rattle.plan_exports.specs.CSources.{record_lines, records_of_lines}

@@ -1,4 +1,4 @@
-use Rattle.std.proofs.Common.{ℕ, List, length, map, string_bytes, ap, sym, ◌∙◌}
+use Rattle.std.proofs.Common.{ℕ, length, map, string_bytes, ap, sym, ◌∙◌}
 use Rattle.std.proofs.lemmas.List.{length-map}
 use Rattle.plan_exports.specs.CSources.{row_lines, rows_of_lines}
 use Rattle.plan_exports.specs.PlannedRows.{row_facts}

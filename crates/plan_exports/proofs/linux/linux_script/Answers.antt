@@ -1,6 +1,6 @@
-use Rattle.std.proofs.Common.{List, map, ap, ◌∙◌}
+use Rattle.std.proofs.Common.{map, ap, ◌∙◌}
 use Rattle.plan_exports.specs.LinuxScripts.{linux_text}
-use Rattle.plan_exports.specs.PlannedRows.{RowFacts, row_facts}
+use Rattle.plan_exports.specs.PlannedRows.{row_facts}
 use Rattle.plan_exports.proofs.Scripts.{is_script}
 use Rattle.plan_exports.proofs.linux.linux_script.Goals as goal
 

@@ -4,8 +4,9 @@ use Rattle.net_plan.specs.declared.nodes.Row.{Row}
 use Rattle.net_tables.specs.Routing.{Holds, Covers}
 use Rattle.net_tables.specs.Ownership.{IsInPoolOf}
 use Rattle.net_questions.specs.Lint.{LeadsToNobody}
-use Rattle.net_questions.proofs.Within.{holder_within, pool_within}
+use Rattle.net_questions.proofs.Within.{pool_within}
 use Rattle.net_questions.proofs.lints.rows.leads_to_nobody.Goals as goal
+use Rattle.net_tables.proofs.Elements.{holder_within}
 
 nobody : (plan : Plan) (row : Row) (count : ℕ) → length plan.nodes.items ≤ count
     → ((m : ℕ) → m < count → ¬ ((e : ℕ) × Covers row e × (Holds plan m e ⊎ IsInPoolOf plan m e))) → LeadsToNobody plan row

@@ -1,5 +1,5 @@
 use Rattle.std.proofs.Common.{◌≡◌, length}
-use Rattle.net_rules.specs.Following.{AreRangesByNode}
+use Rattle.net_rules.specs.RanksByEid.{AreRangesByNode}
 use Rattle.net_rules.proofs.certified_ranks.CertifiedRanks.of.Given as goal
 
 abbrev pub invariant-loop-node : goal.invariant-loop-node

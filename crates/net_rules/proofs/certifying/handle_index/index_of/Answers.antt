@@ -1,8 +1,13 @@
-use Rattle.std.proofs.Common.{arith, sym, ◌∙◌, get_or}
+use Rattle.std.proofs.Common.{ℕ, Option, arith, sym, subst, ◌∙◌, get_or}
 use Rattle.std.proofs.lemmas.Option.{slice_get-get_or}
-use Rattle.net_rules.proofs.IndexLaws.{index_new, index_kept, index_done, is_none_tells}
+use Rattle.net_rules.proofs.IndexLaws.{SaysBelow, index_new, index_kept, index_done, is_none_tells}
 use Rattle.net_rules.proofs.certifying.handle_index.index_of.Goals as goal
 use Rattle.net_rules.proofs.certifying.handle_index.index_of.Goals.{then-is_none+in_ok-insert, else-is_none}
+
+pub loop-at-init : goal.loop-at-init
+loop-at-init c = λ key. (
+    let P : Option ℕ → Type 0 = λ o. SaysBelow c.args.keys.now 0 key o in
+    subst P (sym (c.in_ok-index.ensures key)) (λ i less. absurd (omega arith)))
 
 pub loop-at-preserved : goal.loop-at-preserved
 loop-at-preserved c =
@@ -12,7 +17,7 @@ loop-at-preserved c =
       | then-is_none+in_ok-insert w ↦ rw w.index-is (
           index_new keys c.loop-at.at (get_or keys c.loop-at.at 0) c.loop-at.index c.loop-at.invariant here w.insert.new.self
           (sym c.first_at.ensures ∙ is_none_tells c.first_at.result c.is_none.result c.is_none.ensures w.if-is_none.true)
-          w.in_ok-insert.ensures.updates)
+          w.in_ok-insert.ensures.this w.in_ok-insert.ensures.others)
       | else-is_none w ↦ rw w.index-is (
           index_kept keys c.loop-at.at (get_or keys c.loop-at.at 0) c.loop-at.index c.loop-at.invariant here (λ none. grind (arith, none, c.first_at.ensures, c.is_none.ensures, w.if-is_none.false)))
     ]

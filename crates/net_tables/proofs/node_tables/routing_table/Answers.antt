@@ -2,10 +2,10 @@ use Rattle.std.proofs.Common.{List, subst, sym, ◌∙◌}
 use Rattle.mctp_bridge.specs.declared.row.TableRow as bridge
 use Rattle.mctp_bridge.specs.Rows as rule
 use Rattle.net_tables.proofs.TableLaws.{lawful_rows, no_fault}
-use Rattle.net_tables.proofs.node_tables.table_of.Goals as goal
+use Rattle.net_tables.proofs.node_tables.routing_table.Goals as goal
 
-pub returns-in-Ok : goal.returns-in-Ok
-returns-in-Ok c =
+pub returns-in-Ok-clause-routes : goal.returns-in-Ok-clause-routes
+returns-in-Ok-clause-routes c =
     let P : List bridge.TableRow → Type 0 = λ copied. rule.HasSameRoutes copied c.in-Ok.table in
     subst P (c.deref.ensures.value ∙ c.in_ok-rows.ensures) c.in-Ok.ensures.routes
 
