@@ -8,7 +8,7 @@ use Rattle.net_runs.specs.States.{NetworkState}
 use Rattle.net_runs.specs.Events.{N01, N02, N03, N04, N05, N06, N07, most_flights}
 use Rattle.net_runs.specs.Walkers.{WalkerValue, WalkedState, Ask, Asked, WalkRefused, WalkRefusal, Also, N08, N09, N10, N11, N12, N13, MustWait, IsOver, IsWalkRefused, IsFirstWalkRefusal, walk_refusal_number, with_walker}
 use Rattle.net_runs.specs.WalkedRuns.{IsAsking}
-use Rattle.net_sim.specs.Standing.{TrafficValue, StandsFor}
+use Rattle.net_sim.specs.Standing.{TrafficValue, HasNetworkState}
 use Rattle.net_sim.specs.WalkedStanding.{NetworkValue, StandsForWalked, WalkedPlays, WalkedWants}
 use Rattle.net_sim.specs.Requests.{MayAsk, MayNotAsk, PutsRequest}
 use Rattle.net_sim.proofs.Walking.{walk_refused, walkers_stay, walker_changes}
@@ -85,10 +85,10 @@ module _ (tables : Tables) (v : NetworkValue) (number : ℕ) where
       first_why w s N10 never = absurd never
       first_why w s N11 never = absurd never
 
-      pub asks_in_vain : (why : WalkRefusal) → ((w : NetworkState) → StandsFor v.traffic w → MayNotAsk tables.plan w x why) → WalkedPlays tables v (Ask number) (WalkRefused why) v
+      pub asks_in_vain : (why : WalkRefusal) → ((w : NetworkState) → HasNetworkState v.traffic w → MayNotAsk tables.plan w x why) → WalkedPlays tables v (Ask number) (WalkRefused why) v
       asks_in_vain why may_not = walk_refused tables v (Ask number) why (λ w s. first_why w s why (may_not w.network s.network))
 
-      module _ (own : ℕ) (holds : Holds tables.plan x.node own) (may : (w : NetworkState) → StandsFor v.traffic w → MayAsk tables.plan w x) where
+      module _ (own : ℕ) (holds : Holds tables.plan x.node own) (may : (w : NetworkState) → HasNetworkState v.traffic w → MayAsk tables.plan w x) where
         can_ask : (w : WalkedState) → StandsForWalked v w → (why : WalkRefusal) → ¬ IsWalkRefused tables.plan w (Ask number) why
         can_ask w s (Also N01) refused = refused
         can_ask w s (Also N02) refused = refused
@@ -107,12 +107,12 @@ module _ (tables : Tables) (v : NetworkValue) (number : ℕ) where
         can_ask w s N13 refused = (may w.network s.network).0 (subst (λ (o : Option WalkerValue). IsSomeAnd o IsOver) (at w s) refused)
 
         -- memory ran out
-        pub ask_wants : (u : TrafficValue) (ws : List WalkerValue) → ((w : NetworkState) → StandsFor v.traffic w → StandsFor u w) → ws ≡ v.walkers
+        pub ask_wants : (u : TrafficValue) (ws : List WalkerValue) → ((w : NetworkState) → HasNetworkState v.traffic w → HasNetworkState u w) → ws ≡ v.walkers
             → WalkedWants tables v (Ask number) (record { traffic = u; walkers = ws })
         ask_wants u ws same walkers w s = (walkers_stay v u w w.network s (same w.network s.network) ws walkers, can_ask w s)
 
         -- the request is put in
-        pub asks : (m u : TrafficValue) (flight : ℕ) (next : WalkerValue) (ws : List WalkerValue) → ((w : NetworkState) → StandsFor v.traffic w → StandsFor m w)
+        pub asks : (m u : TrafficValue) (flight : ℕ) (next : WalkerValue) (ws : List WalkerValue) → ((w : NetworkState) → HasNetworkState v.traffic w → HasNetworkState m w)
             → PutsRequest tables m x flight u next → ws ≡ slice_set v.walkers i next → WalkedPlays tables v (Ask number) (Asked (i + 1) flight) (record { traffic = u; walkers = ws })
         asks m u flight next ws same puts walkers w s =
             let (new, step, stands) = puts.puts.plays w.network (same w.network s.network) in

@@ -19,7 +19,8 @@ use Rattle.net_rules.specs.Pools.{IsPoolInRange, IsLawfulPool, HasLawfulPool}
 use Rattle.net_rules.specs.Rules.{Accepts}
 use Rattle.net_rules.specs.declared.rule.Rule.TheVariants.{C02, C07, C09}
 use Rattle.net_sim.specs.Assignments.{is_on_bus, shared_bus, requests_by, requests_of, requests_to, requests_over}
-use Rattle.net_sim.specs.AssignmentRuns.{device_kind, planned_size}
+use Rattle.net_tables.specs.Names.{device_kind}
+use Rattle.net_sim.specs.AssignmentRuns.{planned_size}
 use Rattle.net_sim.proofs.AssignOne.{IsGiven}
 
 -- where one of the ports passes, a first one does

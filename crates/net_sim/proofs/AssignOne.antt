@@ -3,7 +3,7 @@ use Rattle.std.proofs.Common.{◌≡◌, ◌≢◌, ℕ, zero, suc, ◌<◌, Lis
 use Rattle.std.specs.Prelude.{slice_get, slice_set}
 use Rattle.std.proofs.lemmas.List.{length-set}
 use Rattle.net_plan.specs.declared.nodes.Pool.{Pool}
-use Rattle.mctp_transport.specs.Frames.{IsAssignable}
+use Rattle.mctp_transport.specs.PacketValues.{IsAssignable}
 use Rattle.mctp_bridge.specs.declared.device_kind.DeviceKind.{DeviceKind}
 use Rattle.mctp_bridge.specs.declared.device_kind.DeviceKind.TheVariants as device
 use Rattle.mctp_control.specs.Ranges.{IsAssignableRange}

@@ -19,7 +19,8 @@ use Rattle.net_tables.specs.Ownership.{pool_of, IsInPoolOf, owner_of, level}
 use Rattle.net_rules.specs.Rules.{Accepts}
 use Rattle.net_rules.specs.declared.rule.Rule.TheVariants.{C03}
 use Rattle.net_sim.specs.Assignments.{AssignmentValue, requests_to, requests_over, IsOwned, IsAskedBefore, IsAssignmentOf}
-use Rattle.net_sim.specs.AssignmentRuns.{device_kind, planned_size, planned_pool, holding, empty, starting, devices_at_start, AssignRun, AreAccepted, HoldsEid, HasInPool, AreAssigned, CanBeCarriedOut, IsAcceptedThroughout, AssignsAll}
+use Rattle.net_tables.specs.Names.{device_kind}
+use Rattle.net_sim.specs.AssignmentRuns.{planned_size, planned_pool, holding, empty, starting, devices_at_start, AssignRun, AreAccepted, HoldsEid, HasInPool, AreAssigned, CanBeCarriedOut, IsAcceptedThroughout, AssignsAll}
 use Rattle.net_sim.proofs.AssignPools.{pool_behind}
 use Rattle.net_sim.proofs.AssignOne.{Changed, after_asked, start_asked}
 use Rattle.net_sim.proofs.AssignGiven.{owner_is, asked_over, given, holds, pool_is}

@@ -1,13 +1,13 @@
 -- What a counter of a key tells after a write.
 use Rattle.std.proofs.Common.{◌≡◌, ◌≢◌, ℕ, All, ◌+◌, ◌*◌, ◌<◌, ◌≤◌, List, length, map, get_or, Result, Ok, Err, Bool, true, false, Option, Some, None, is_some, inl, inr, refl, sym, ap, ◌∙◌, subst, arith, true≢false, ◌==◌, ◌&&◌, nat_lt}
-use Rattle.std.specs.Prelude.{option_map, option_and_then, slice_get, slice_set, if◌then◌else◌, replicate, IfOk}
+use Rattle.std.specs.Prelude.{option_map, option_and_then, slice_get, slice_set, if◌then◌else◌, IfOk}
 use Rattle.std.specs.Bool.{beq}
 use Rattle.std.specs.Cmp.{booleans_Decides}
 use Rattle.std.proofs.lemmas.Bool.{cases_lt, lt-ltb}
 use Rattle.std.proofs.lemmas.Bool.Decides.{eqb_tells, Decides-eqb}
-use Rattle.std.proofs.lemmas.List.{get_or-map, length-map, get_or_default, get_or-set_same, get_or-set_other, length-set, get_or-replicate, length-replicate}
+use Rattle.std.proofs.lemmas.List.{get_or-map, length-map, get_or_default, get_or-set_same, get_or-set_other, length-set}
 use Rattle.std.proofs.lemmas.Option.{slice_get-get_or, slice_get_past, slice_get_within, same_Some}
-use Rattle.mctp_transport.specs.Frames.{KeyValue, bit}
+use Rattle.mctp_transport.specs.PacketValues.{KeyValue, bit}
 use Rattle.mctp_transport.specs.Histories.{same_key}
 use Rattle.mctp_transport.specs.declared.address.Eid.{Eid}
 use Rattle.net_plan.specs.declared.nodes.Node.{Node}
@@ -148,15 +148,6 @@ module _ (sources destinations : KnownEids) (counts : List ℕ) (k : KeyValue) (
           ap (option_and_then (slice_get (slice_set counts p v))) at
           ∙ slice_get-get_or (slice_set counts p v) p 0 (omega (arith, within, length-set counts p v)) ∙ ap Some (get_or-set_same counts p v 0 within ∙ sym is)
           ∙ sym (ap (λ (o : Option ℕ). option_map f (option_and_then (slice_get counts) o)) at ∙ ap (option_map f) (slice_get-get_or counts p 0 within))
-
--- ---- counters at the start
-
-pub starts_none : (sources destinations : KnownEids) (k : KeyValue) (d n m : ℕ) → option_and_then (slice_get (replicate m 0)) (place_of sources destinations k d) ≡ Some n → n ≡ 0
-starts_none sources destinations k d n m is =
-    let a = then_some (slice_get (replicate m 0)) (place_of sources destinations k d) n is in
-    let within : a.0 < m = subst (λ (x : ℕ). a.0 < x) (length-replicate {A = ℕ} m 0) (slice_get_within (replicate m 0) a.0 n a.2) in
-    let read : slice_get (replicate m 0) a.0 ≡ Some 0 = slice_get-get_or (replicate m 0) a.0 0 (omega (arith, within, length-replicate {A = ℕ} m 0)) ∙ ap Some (get_or-replicate m a.0 0 0 within) in
-    same_Some n 0 (sym a.2 ∙ read)
 
 -- ---- hints
 

@@ -15,7 +15,7 @@ use Rattle.net_runs.specs.Termini.{TerminusState, terminus_at_start}
 use Rattle.net_runs.specs.States.{Flight, at_start}
 use Rattle.net_sim.specs.Flights.{flight_at}
 use Rattle.net_sim.specs.Routers.{has_switched}
-use Rattle.net_sim.specs.Standing.{TrafficValue, StandsFor, at_place}
+use Rattle.net_sim.specs.Standing.{TrafficValue, HasNetworkState, at_place}
 use Rattle.net_sim.specs.Dealing.{dealt_to, left_by, dealt, at_rest, planned_termini}
 
 module _ {D : Type 0} (see : D → Option TerminusState) (nodes : List Node) where
@@ -111,8 +111,8 @@ dealt_planned plan cert n =
 -- ---- a network in which nothing has happened
 
 pub stands_at_rest : (plan : Plan) (given : List TerminusState) (v : TrafficValue) → v.flights ≡ None ∷ []
-    → ((n : ℕ) (a : Assembler) → slice_get v.assemblers n ≡ Some a → assembly.StandsFor a []) → v.termini ≡ dealt plan.nodes.items given
-    → ((n : ℕ) → has_switched v.switched n ≡ false) → StandsFor v (at_rest plan given)
+    → ((n : ℕ) (a : Assembler) → slice_get v.assemblers n ≡ Some a → assembly.HoldsHistory a []) → v.termini ≡ dealt plan.nodes.items given
+    → ((n : ℕ) → has_switched v.switched n ≡ false) → HasNetworkState v (at_rest plan given)
 stands_at_rest plan given v flights idle termini unswitched = record {
   flights = λ number. no_flight number ∙ ap (λ fs. flight_at fs number) (sym flights);
   made = ap length (sym flights);
@@ -126,8 +126,8 @@ stands_at_rest plan given v flights idle termini unswitched = record {
     no_flight (suc k) = refl
 
 -- with the planned termini that is the state at the start of each run
-pub rest_is_start : (plan : Plan) (cert : Certificate) (given : List TerminusState) (v : TrafficValue) → StandsFor v (at_rest plan given)
-    → given ≡ planned_termini plan cert → StandsFor v (at_start plan cert)
+pub rest_is_start : (plan : Plan) (cert : Certificate) (given : List TerminusState) (v : TrafficValue) → HasNetworkState v (at_rest plan given)
+    → given ≡ planned_termini plan cert → HasNetworkState v (at_start plan cert)
 rest_is_start plan cert given v s planned = record {
   flights = s.flights;
   made = s.made;

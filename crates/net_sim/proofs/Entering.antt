@@ -9,7 +9,7 @@ use Rattle.net_tables.specs.Ranks.{rank, rank_in, is_in_range}
 use Rattle.std.proofs.lemmas.Bool.{cases_Bool}
 use Rattle.std.proofs.lemmas.Bool.Decides.{eqb_tells}
 use Rattle.std.proofs.lemmas.Option.{same_Some, slice_get-map}
-use Rattle.mctp_transport.specs.Frames.{Frame, KeyValue, key_of}
+use Rattle.mctp_transport.specs.PacketValues.{PacketValue, KeyValue, key_of}
 use Rattle.mctp_transport.specs.Histories.{History, Arrived, after, Comes}
 use Rattle.mctp_transport.proofs.Openness.{comes_start, comes_more}
 use Rattle.mctp_transport.specs.Hearing.{Answer, Whole, Held, Dropped, Hears}
@@ -20,11 +20,11 @@ use Rattle.net_runs.specs.Termini.{TerminusState, WaitingMessage, with_waiting}
 use Rattle.net_runs.specs.States.{NetworkState, Flight, with_input, with_terminus, with_received, slots, limit}
 use Rattle.net_runs.specs.Events.{Entered}
 use Rattle.net_sim.specs.TerminusQueues.{with_message}
-use Rattle.net_sim.specs.Standing.{TrafficValue, StandsFor, Receives, at_place}
+use Rattle.net_sim.specs.Standing.{TrafficValue, HasNetworkState, Receives, at_place}
 use Rattle.net_sim.proofs.Changes.{input_stands, terminus_stands}
 
 -- a message comes with a packet that ends it
-pub comes_ends : (slots limit : ℕ) (h : History) (p : Frame) (message : List ℕ) → Comes slots limit (after h (Arrived p)) message → p.eom ≡ true
+pub comes_ends : (slots limit : ℕ) (h : History) (p : PacketValue) (message : List ℕ) → Comes slots limit (after h (Arrived p)) message → p.eom ≡ true
 comes_ends slots limit h p message came = elim (cases_Bool p.som) [
   | inl y ↦ (comes_start slots limit h p message y came).0
   | inr n ↦ (comes_more slots limit h p message n came).2
@@ -37,7 +37,7 @@ map_set_same f (d ∷ ds) zero old new is same = ap (λ x. x ∷ map f ds) (same
 map_set_same f (d ∷ ds) (suc i) old new is same = ap (λ xs. f d ∷ xs) (map_set_same f ds i old new is same)
 
 -- a terminus that is as it was
-same_terminus : (u : TrafficValue) (w : NetworkState) (node : ℕ) (o : Option TerminusState) → w.terminus node ≡ o → StandsFor u (with_terminus w node o) → StandsFor u w
+same_terminus : (u : TrafficValue) (w : NetworkState) (node : ℕ) (o : Option TerminusState) → w.terminus node ≡ o → HasNetworkState u (with_terminus w node o) → HasNetworkState u w
 same_terminus u w node o is s = record {
   flights = s.flights;
   made = s.made;
@@ -57,20 +57,20 @@ same_terminus u w node o is s = record {
 
 module _ (v u : TrafficValue) (number : ℕ) (f : Flight) (a b : Assembler) (key : KeyValue) (of_key : key ≡ key_of f.packet) (within : f.node < length v.assemblers)
     (here : slice_get v.assemblers f.node ≡ Some a)
-    (stands : (h : History) → assembly.StandsFor a h → assembly.StandsFor b (after h (Arrived f.packet)))
+    (stands : (h : History) → assembly.HoldsHistory a h → assembly.HoldsHistory b (after h (Arrived f.packet)))
     (flights : u.flights ≡ v.flights) (assemblers : u.assemblers ≡ slice_set v.assemblers f.node b)
     (switched : u.switched ≡ v.switched) where
-  heard_stands : (w : NetworkState) → StandsFor v w → u.termini ≡ v.termini → StandsFor u (with_input w f.node (Arrived f.packet))
+  heard_stands : (w : NetworkState) → HasNetworkState v w → u.termini ≡ v.termini → HasNetworkState u (with_input w f.node (Arrived f.packet))
   heard_stands w s termini = input_stands v u w s f.node b (Arrived f.packet) within (stands (w.history f.node) (s.histories f.node a here)) flights assemblers termini switched
 
-  pub receives_held : ((h : History) → assembly.StandsFor a h → Hears slots limit h f.packet Held) → u.termini ≡ v.termini → Receives v number f (Entered number f.node key Held) u
+  pub receives_held : ((h : History) → assembly.HoldsHistory a h → Hears slots limit h f.packet Held) → u.termini ≡ v.termini → Receives v number f (Entered number f.node key Held) u
   receives_held hears termini w s = (
     with_input w f.node (Arrived f.packet),
     (refl, refl, of_key, hears (w.history f.node) (s.histories f.node a here), refl),
     heard_stands w s termini,
   )
 
-  pub receives_dropped : (why : DropCause) → ((h : History) → assembly.StandsFor a h → Hears slots limit h f.packet (Dropped why)) → u.termini ≡ v.termini
+  pub receives_dropped : (why : DropCause) → ((h : History) → assembly.HoldsHistory a h → Hears slots limit h f.packet (Dropped why)) → u.termini ≡ v.termini
       → Receives v number f (Entered number f.node key (Dropped why)) u
   receives_dropped why hears termini w s = (
     with_input w f.node (Arrived f.packet),
@@ -78,7 +78,7 @@ module _ (v u : TrafficValue) (number : ℕ) (f : Flight) (a b : Assembler) (key
     heard_stands w s termini,
   )
 
-  pub receives_whole : (m : List ℕ) (o : Option TerminusState) → ((h : History) → assembly.StandsFor a h → Hears slots limit h f.packet (Whole m)) → f.node < length v.termini
+  pub receives_whole : (m : List ℕ) (o : Option TerminusState) → ((h : History) → assembly.HoldsHistory a h → Hears slots limit h f.packet (Whole m)) → f.node < length v.termini
       → slice_get v.termini f.node ≡ Some o → (length m ≤ 4096 → f.packet.eom ≡ true → u.termini ≡ slice_set v.termini f.node (with_message (record { key = key; bytes = m }) o))
       → Receives v number f (Entered number f.node key (Whole m)) u
   receives_whole m o hears short there termini w s =
@@ -91,7 +91,7 @@ module _ (v u : TrafficValue) (number : ℕ) (f : Flight) (a b : Assembler) (key
       middle : TrafficValue
       middle = record v { assemblers = slice_set v.assemblers f.node b }
 
-      given : StandsFor middle (with_input w f.node (Arrived f.packet))
+      given : HasNetworkState middle (with_input w f.node (Arrived f.packet))
       given = input_stands v middle w s f.node b (Arrived f.packet) within (stands (w.history f.node) (s.histories f.node a here)) refl refl refl refl
 
       was : w.terminus f.node ≡ o
@@ -107,17 +107,17 @@ module _ (v u : TrafficValue) (number : ℕ) (f : Flight) (a b : Assembler) (key
       entered = with_input w f.node (Arrived f.packet)
 
       by : (owner : Bool) → key.owner ≡ owner → u.termini ≡ slice_set v.termini f.node (cond key.owner (waits o) o)
-          → StandsFor u (cond key.owner (with_terminus entered f.node (waits (w.terminus f.node))) entered)
+          → HasNetworkState u (cond key.owner (with_terminus entered f.node (waits (w.terminus f.node))) entered)
       by true owned now =
           let now' : u.termini ≡ slice_set v.termini f.node (waits o) = now ∙ ap (λ b. slice_set v.termini f.node (cond b (waits o) o)) owned in
-          let s' : StandsFor u (with_terminus entered f.node (waits o)) = terminus_stands middle u entered given f.node (waits o) short flights assemblers now' switched in
-          let s'' : StandsFor u (with_terminus entered f.node (waits (w.terminus f.node))) =
-          subst (λ (t : Option TerminusState). StandsFor u (with_terminus entered f.node (waits t))) (sym was) s' in
-          subst (λ b. StandsFor u (cond b (with_terminus entered f.node (waits (w.terminus f.node))) entered)) (sym owned) s''
+          let s' : HasNetworkState u (with_terminus entered f.node (waits o)) = terminus_stands middle u entered given f.node (waits o) short flights assemblers now' switched in
+          let s'' : HasNetworkState u (with_terminus entered f.node (waits (w.terminus f.node))) =
+          subst (λ (t : Option TerminusState). HasNetworkState u (with_terminus entered f.node (waits t))) (sym was) s' in
+          subst (λ b. HasNetworkState u (cond b (with_terminus entered f.node (waits (w.terminus f.node))) entered)) (sym owned) s''
       by false owned now =
           let now' : u.termini ≡ slice_set v.termini f.node o = now ∙ ap (λ b. slice_set v.termini f.node (cond b (waits o) o)) owned in
-          let s' : StandsFor u (with_terminus entered f.node o) = terminus_stands middle u entered given f.node o short flights assemblers now' switched in
-          subst (λ b. StandsFor u (cond b (with_terminus entered f.node (waits (w.terminus f.node))) entered)) (sym owned) (same_terminus u entered f.node o was s')
+          let s' : HasNetworkState u (with_terminus entered f.node o) = terminus_stands middle u entered given f.node o short flights assemblers now' switched in
+          subst (λ b. HasNetworkState u (cond b (with_terminus entered f.node (waits (w.terminus f.node))) entered)) (sym owned) (same_terminus u entered f.node o was s')
 
 -- the terminus of a node after a message has come there
 pub queue_waits : {D : Type 0} (g : D → Option TerminusState) (ds : List D) (i : ℕ) (new : D) (m : WaitingMessage) (o : Option TerminusState) → g new ≡ with_message m o
@@ -128,9 +128,9 @@ pub queue_there : {D : Type 0} (g : D → Option TerminusState) (ds : List D) (i
 queue_there g ds i d is = slice_get-map g ds i ∙ ap (option_map g) is
 
 -- what an assembler of the network's size answers
-pub as_sized : (a : Assembler) (p : Frame) (answer : Answer) → (assembly.assembler_slots a ≡ 16) × (assembly.assembler_limit a ≡ 4096)
-    → ((h : History) → assembly.StandsFor a h → Hears (assembly.assembler_slots a) (assembly.assembler_limit a) h p answer)
-    → (h : History) → assembly.StandsFor a h → Hears slots limit h p answer
+pub as_sized : (a : Assembler) (p : PacketValue) (answer : Answer) → (assembly.assembler_slots a ≡ 16) × (assembly.assembler_limit a ≡ 4096)
+    → ((h : History) → assembly.HoldsHistory a h → Hears (assembly.assembler_slots a) (assembly.assembler_limit a) h p answer)
+    → (h : History) → assembly.HoldsHistory a h → Hears slots limit h p answer
 as_sized a p answer sizes hears h is =
     subst (λ n. Hears n limit h p answer) sizes.0 (subst (λ n. Hears (assembly.assembler_slots a) n h p answer) sizes.1 (hears h is))
 

@@ -33,7 +33,6 @@ mod Dealt
 mod Counted
 mod Settled
 mod Handing
-mod Arriving
 mod Walking
 mod Requesting
 mod Finding

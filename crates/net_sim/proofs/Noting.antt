@@ -7,14 +7,14 @@ use Rattle.std.specs.declared.cmp.Ordering.TheVariants.{Less, Equal, Greater}
 use Rattle.std.specs.BTreeMap.{is_at}
 use Rattle.std.proofs.lemmas.Map.Lookups.{exact_unsigned}
 use Rattle.std.proofs.lemmas.Option.{same_Some, none-some, slice_get_within, slice_get-get_or, get_or_from_slice_get}
-use Rattle.mctp_transport.specs.Frames.{KeyValue}
+use Rattle.mctp_transport.specs.PacketValues.{KeyValue}
 use Rattle.net_runs.specs.Events.{OutcomeValue}
 use Rattle.net_runs.specs.Walkers.{WalkerValue, Handed}
 use Rattle.net_tables.specs.TwoPlans.{Tables}
 use Rattle.net_tables.proofs.Elements.{in_push, in_set}
 use Rattle.net_sim.specs.declared.network_walker.NetworkWalker.{NetworkWalker}
 use Rattle.net_sim.specs.declared.walker_index.WalkerIndex.{WalkerIndex}
-use Rattle.net_sim.specs.NetworkWalkers.{walker_value, IsAt, StandsAt, Listens, ListensAt, TellsRequest, HandsOver}
+use Rattle.net_sim.specs.NetworkWalkers.{walker_value, IsAt, StandsAt, Listens, ListensAt, HandsOver, TellsRequest}
 use Rattle.net_sim.specs.Standing.{TrafficValue}
 use Rattle.net_sim.specs.Requests.{PutsRequest}
 use Rattle.net_sim.proofs.Dealt.{all_at}
@@ -67,19 +67,15 @@ pub keeps_asking : (old new : WalkerValue) (request : List ℕ) → TellsRequest
 keeps_asking old new request tells =
     (ap (λ (w : WalkerValue). w.node) tells.is, ap (λ (w : WalkerValue). w.eid) tells.is, ap (λ (w : WalkerValue). w.tag) tells.is)
 
-pub keeps_taking : (old new : WalkerValue) (number : ℕ) (outcome : OutcomeValue) (handed : Option Handed) → HandsOver old number outcome handed new → KeepsPlace old new
-keeps_taking old new number outcome None (same, nothing) = keeps_same old new same
-keeps_taking old new number outcome (Some handed) (of_number, flight, node, key, message, is, taken) =
-    (ap (λ (w : WalkerValue). w.node) taken.is, ap (λ (w : WalkerValue). w.eid) taken.is, ap (λ (w : WalkerValue). w.tag) taken.is)
-
 pub keeps_put : (A B : Type 0) (tables : Tables) (t u : TrafficValue) (old new : WalkerValue) (r : Option ℕ) → MatchOption r (A × (new ≡ old) × B) (λ number. PutsRequest tables t old number u new)
     → KeepsPlace old new
 keeps_put A B tables t u old new None (a, same, b) = keeps_same old new same
 keeps_put A B tables t u old new (Some number) puts = keeps_asking old new puts.request puts.tells
 
--- an index of which the same is told
-pub noted_as : (old new : WalkerIndex) (items : List NetworkWalker) → AreNoted old items → ((n e t : ℕ) → index_at new n e t ≡ index_at old n e t) → AreNoted new items
-noted_as old new items noted same i walker is = same walker.node walker.eid.value walker.tag.value ∙ noted i walker is
+pub keeps_handed : (old : WalkerValue) (number : ℕ) (outcome : OutcomeValue) (handed : Option Handed) (new : WalkerValue) → HandsOver old number outcome handed new → KeepsPlace old new
+keeps_handed old number outcome None new (same, nothing) = keeps_same old new same
+keeps_handed old number outcome (Some handed) new (of_number, flight, node, key, message, brings, taken) =
+    (ap (λ (w : WalkerValue). w.node) taken.is, ap (λ (w : WalkerValue). w.eid) taken.is, ap (λ (w : WalkerValue). w.tag) taken.is)
 
 module _ (index : WalkerIndex) (items : List NetworkWalker) (noted : AreNoted index items) where
   -- one of the walkers changes, and keeps its place

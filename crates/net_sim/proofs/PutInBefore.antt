@@ -4,7 +4,7 @@ use Rattle.std.specs.Prelude.{slice_get, option_map}
 use Rattle.std.proofs.lemmas.List.{append_assoc}
 use Rattle.std.proofs.lemmas.List.Elements.{All-weaker}
 use Rattle.std.proofs.lemmas.Option.{slice_get-map, none-some, same_Some}
-use Rattle.mctp_transport.specs.Frames.{Frame, key_of}
+use Rattle.mctp_transport.specs.PacketValues.{PacketValue, key_of}
 use Rattle.mctp_transport.specs.Hearing.{Whole}
 use Rattle.net_plan.specs.declared.plan.Plan.{Plan}
 use Rattle.net_plan.specs.declared.certificate.Certificate.{Certificate}
@@ -16,7 +16,7 @@ use Rattle.net_runs.specs.WalkedRuns.{WalkedTurn, WalkedRunFrom, WalkedRunOf, wa
 use Rattle.net_runs.specs.WalkedMessages.{IsPutOfWalked}
 use Rattle.net_runs.specs.WalkedPromises.{WasPutInWalked, WalkedHeadline}
 use Rattle.net_runs.proofs.Below.{walked_splits}
-use Rattle.net_sim.specs.Accepted.{IsAccepted}
+use Rattle.net_check.specs.Accepted.{IsAccepted}
 use Rattle.net_sim.specs.WalkedStanding.{NetworkValue}
 use Rattle.net_sim.specs.Played.{IsRunOf, PlaysAll}
 use Rattle.net_sim.specs.PutInBefore.{WasPutInBefore, TellWhatWasPutIn, PlaysWhatWasPutIn}
@@ -33,7 +33,7 @@ split_at (t ∷ turns) (suc i) turn there =
     (t ∷ first, rest, ap (λ (ts : List WalkedTurn). t ∷ ts) split, ap suc long)
 
 -- what turns put in is put in by the first of them or by the others
-put_in_parts : (plan : Plan) (before first : List WalkedTurn) (p : Frame) → WasPutInWalked plan (before ++ first) p
+put_in_parts : (plan : Plan) (before first : List WalkedTurn) (p : PacketValue) → WasPutInWalked plan (before ++ first) p
     → WasPutInWalked plan before p ⊎ WasPutInWalked plan first p
 put_in_parts plan [] first p put = inr put
 put_in_parts plan (turn ∷ before) first p (inl now) = inl (inl now)
@@ -43,7 +43,7 @@ put_in_parts plan (turn ∷ before) first p (inr later) = elim (put_in_parts pla
 ]
 
 -- and by one of them, at an index
-put_in_at : (plan : Plan) (first rest : List WalkedTurn) (p : Frame) → WasPutInWalked plan first p
+put_in_at : (plan : Plan) (first rest : List WalkedTurn) (p : PacketValue) → WasPutInWalked plan first p
     → (index : ℕ) × (turn : WalkedTurn) × (index < length first) × (slice_get (first ++ rest) index ≡ Some turn)
     × IsPutOfWalked plan turn.event turn.outcome turn.after.network p
 put_in_at plan [] rest p put = absurd put
@@ -70,9 +70,9 @@ module _ (tables : Tables) (cert : Certificate) (before : List WalkedTurn) (run 
       let (first, rest, split, long) = split_at played.turns i turn there in
       let W : List WalkedTurn → Type 0 = WalkedRunFrom tables (walked_reached tables.plan cert before) in
       let (ps, joined, all) = headline.packets.tells (before ++ first) turn (until first rest turn (subst W split played.runs)) number n key message handed is in
-      let P : Frame → Type 0 = λ p. WasPutInWalked tables.plan (before ++ first) p × Holds tables.plan n p.destination × (key_of p ≡ key) in
-      let Q : Frame → Type 0 = λ p. WasPutInBefore tables.plan before events played.turns i p × Holds tables.plan n p.destination × (key_of p ≡ key) in
-      let early : (p : Frame) → WasPutInWalked tables.plan (before ++ first) p → WasPutInBefore tables.plan before events played.turns i p = λ p put.
+      let P : PacketValue → Type 0 = λ p. WasPutInWalked tables.plan (before ++ first) p × Holds tables.plan n p.destination × (key_of p ≡ key) in
+      let Q : PacketValue → Type 0 = λ p. WasPutInBefore tables.plan before events played.turns i p × Holds tables.plan n p.destination × (key_of p ≡ key) in
+      let early : (p : PacketValue) → WasPutInWalked tables.plan (before ++ first) p → WasPutInBefore tables.plan before events played.turns i p = λ p put.
       elim (put_in_parts tables.plan before first p put) [
         | inl sooner ↦ inl sooner
         | inr late ↦

@@ -6,7 +6,7 @@ use Rattle.std.proofs.lemmas.Bool.{cases_eq}
 use Rattle.std.proofs.lemmas.List.{length_push, get_or_push, get_or_append_left}
 use Rattle.std.proofs.lemmas.List.Elements.{All-head, All-tail}
 use Rattle.std.proofs.lemmas.Option.{same_Some, none-some, slice_get-map, slice_get-get_or, slice_get_within}
-use Rattle.mctp_transport.specs.Frames.{Frame, KeyValue}
+use Rattle.mctp_transport.specs.PacketValues.{PacketValue, KeyValue}
 use Rattle.mctp_transport.specs.Cutting.{IsCut, ArePacketsOf}
 use Rattle.mctp_transport.proofs.Sending.{few_packets}
 use Rattle.net_sim.specs.Payloads.{IsRoomFor, HaveRooms}
@@ -24,20 +24,20 @@ payload_within unit message ps cut i p at = elim (cases_eq (i + 1) (length ps)) 
   | inr other ↦ (let inside = slice_get_within ps i p at in omega (arith, cut.full i p at (omega (arith, other, inside))))
 ]
 
-payload_at : (frames : List Frame) (k : ℕ) (d : Frame) → k < length frames → slice_get (map (λ (f : Frame). f.payload) frames) k ≡ Some ((get_or frames k d).payload)
-payload_at frames k d within = slice_get-map (λ (f : Frame). f.payload) frames k ∙ ap (option_map (λ (f : Frame). f.payload)) (slice_get-get_or frames k d within)
+payload_at : (frames : List PacketValue) (k : ℕ) (d : PacketValue) → k < length frames → slice_get (map (λ (f : PacketValue). f.payload) frames) k ≡ Some ((get_or frames k d).payload)
+payload_at frames k d within = slice_get-map (λ (f : PacketValue). f.payload) frames k ∙ ap (option_map (λ (f : PacketValue). f.payload)) (slice_get-get_or frames k d within)
 
-module _ {Z : Type 0} (unit : ℕ) (message : List ℕ) (d : ℕ) (key : KeyValue) (start : ℕ) (frames : List Frame) (are : ArePacketsOf unit message d key start frames) (rooms : List (Vec ℕ Z)) where
+module _ {Z : Type 0} (unit : ℕ) (message : List ℕ) (d : ℕ) (key : KeyValue) (start : ℕ) (frames : List PacketValue) (are : ArePacketsOf unit message d key start frames) (rooms : List (Vec ℕ Z)) where
   -- the packets of a short message need no room
   pub short_needs_none : length message ≤ 64 → HaveRooms frames rooms
   short_needs_none short = λ k e within long.
-      let part = part_within (map (λ (f : Frame). f.payload) frames) k (get_or frames k e).payload (payload_at frames k e within) in
+      let part = part_within (map (λ (f : PacketValue). f.payload) frames) k (get_or frames k e).payload (payload_at frames k e within) in
       absurd (omega (arith, long, short, part, ap length are.cut.whole))
 
   -- as many rooms for a payload as long as the unit as a message fills
   pub enough_rooms : (most : ℕ) → length message ≤ most → (64 < unit → most ≤ length rooms * unit) → All (IsRoomFor unit) rooms → HaveRooms frames rooms
   enough_rooms most few enough each = λ k e within long.
-      let small = payload_within unit message (map (λ (f : Frame). f.payload) frames) are.cut k (get_or frames k e).payload (payload_at frames k e within) in
+      let small = payload_within unit message (map (λ (f : PacketValue). f.payload) frames) are.cut k (get_or frames k e).payload (payload_at frames k e within) in
       let large : 64 < unit = omega (arith, long, small) in
       let covers = enough large in
       let many = few_packets unit (length rooms) message d key start frames are (omega (arith, few, covers)) in
@@ -47,12 +47,12 @@ module _ {Z : Type 0} (unit : ℕ) (message : List ℕ) (d : ℕ) (key : KeyValu
 all_before : {A : Type 0} (P : A → Type 0) (left : List A) (last : A) → All P (left ++ last ∷ []) → All P left
 all_before P left last each k d within = subst P (get_or_append_left left (last ∷ []) d k within) (each k d (omega (arith, within, length_push left last)))
 
-module _ {Z : Type 0} (f : Frame) (fs : List Frame) where
+module _ {Z : Type 0} (f : PacketValue) (fs : List PacketValue) where
   module _ (left : List (Vec ℕ Z)) (room : Vec ℕ Z) (have : HaveRooms (f ∷ fs) (left ++ room ∷ [])) where
     -- the room that is taken off is for the first packet
     pub last_room : IsRoomFor (length f.payload) room
     last_room long =
-        let P : Frame → Type 0 = λ g. 64 < length g.payload → (length (f ∷ fs) ≤ length (left ++ room ∷ [])) × All (IsRoomFor (length g.payload)) (left ++ room ∷ []) in
+        let P : PacketValue → Type 0 = λ g. 64 < length g.payload → (length (f ∷ fs) ≤ length (left ++ room ∷ [])) × All (IsRoomFor (length g.payload)) (left ++ room ∷ []) in
         let each = (All-head P f fs have long).1 in
         let last = each (length left) room (omega (arith, length_push left room)) in
         subst (IsRoomFor (length f.payload)) (get_or_push left room room (length left) refl) last long
@@ -60,7 +60,7 @@ module _ {Z : Type 0} (f : Frame) (fs : List Frame) where
     -- the others have the rest
     pub rooms_left : HaveRooms fs left
     rooms_left k d within long =
-        let P : Frame → Type 0 = λ g. 64 < length g.payload → (length (f ∷ fs) ≤ length (left ++ room ∷ [])) × All (IsRoomFor (length g.payload)) (left ++ room ∷ []) in
+        let P : PacketValue → Type 0 = λ g. 64 < length g.payload → (length (f ∷ fs) ≤ length (left ++ room ∷ [])) × All (IsRoomFor (length g.payload)) (left ++ room ∷ []) in
         let (many, each) = All-tail P f fs have k d within long in
         (omega (arith, many, length_push left room), all_before (IsRoomFor (length (get_or fs k d).payload)) left room each)
 
@@ -68,12 +68,12 @@ module _ {Z : Type 0} (f : Frame) (fs : List Frame) where
     -- where there is no room, none is needed
     pub no_room : (room : Vec ℕ Z) → IsRoomFor (length f.payload) room
     no_room room long =
-        let P : Frame → Type 0 = λ g. 64 < length g.payload → (length (f ∷ fs) ≤ length rooms) × All (IsRoomFor (length g.payload)) rooms in
+        let P : PacketValue → Type 0 = λ g. 64 < length g.payload → (length (f ∷ fs) ≤ length rooms) × All (IsRoomFor (length g.payload)) rooms in
         let many = (All-head P f fs have long).0 in
         absurd (omega (arith, many, none))
 
     pub none_left : (left : List (Vec ℕ Z)) → HaveRooms fs left
     none_left left k d within long =
-        let P : Frame → Type 0 = λ g. 64 < length g.payload → (length (f ∷ fs) ≤ length rooms) × All (IsRoomFor (length g.payload)) rooms in
+        let P : PacketValue → Type 0 = λ g. 64 < length g.payload → (length (f ∷ fs) ≤ length rooms) × All (IsRoomFor (length g.payload)) rooms in
         let many = (All-tail P f fs have k d within long).0 in
         absurd (omega (arith, many, none))

@@ -3,7 +3,7 @@ use Rattle.std.proofs.Common.{◌≡◌, ◌≢◌, ◌↔◌, ℕ, ◌<◌, Lis
 use Rattle.std.specs.Prelude.{slice_get, option_map, option_and_then}
 use Rattle.std.proofs.lemmas.List.Elements.{All-map}
 use Rattle.std.proofs.lemmas.Option.{slice_get-map, slice_get-get_or, slice_get_within, none-some}
-use Rattle.mctp_transport.specs.Frames.{KeyValue}
+use Rattle.mctp_transport.specs.PacketValues.{KeyValue}
 use Rattle.net_plan.specs.declared.plan.Plan.{Plan}
 use Rattle.net_plan.specs.declared.nodes.Node.{Node}
 use Rattle.net_tables.specs.Routing.{Holds}
@@ -11,7 +11,7 @@ use Rattle.net_runs.specs.Termini.{TerminusState, WaitingMessage}
 use Rattle.net_runs.specs.States.{NetworkState, Flight}
 use Rattle.net_runs.specs.ExactMessages.{IsSettled}
 use Rattle.net_sim.specs.Flights.{flight_at}
-use Rattle.net_sim.specs.Standing.{TrafficValue, StandsFor}
+use Rattle.net_sim.specs.Standing.{TrafficValue, HasNetworkState}
 use Rattle.net_sim.specs.Settling.{IsTo, IsNotTo, NoneWaits, IsClearAt}
 use Rattle.net_sim.proofs.Dealt.{all_at}
 
@@ -60,7 +60,7 @@ pub settled_clear : (plan : Plan) (w : NetworkState) (key : KeyValue) (d : ℕ) 
 settled_clear plan w key d settled n holds = (settled.quiet.not_open n holds, waits_if_there key (w.terminus n) (λ t is. settled.none_waits n t holds is))
 
 module _ (plan : Plan) (v : TrafficValue) (w : NetworkState) (key : KeyValue) (d : ℕ) where
-  module _ {F : Type 0} (see : F → Option Flight) (fs : List F) (s : StandsFor v w) (flights : v.flights ≡ map see fs) where
+  module _ {F : Type 0} (see : F → Option Flight) (fs : List F) (s : HasNetworkState v w) (flights : v.flights ≡ map see fs) where
     at : (number : ℕ) → w.flight number ≡ flight_at (map see fs) number
     at number = s.flights number ∙ ap (λ (os : List (Option Flight)). flight_at os number) flights
 

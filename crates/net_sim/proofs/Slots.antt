@@ -9,6 +9,13 @@ use Rattle.std.proofs.lemmas.Option.{slice_get-get_or}
 use Rattle.net_tables.proofs.Elements.{push_last, set_there, set_elsewhere}
 use Rattle.net_sim.specs.Standing.{at_place}
 
+-- a push changes no other element
+pub push_elsewhere : {X : Type 0} (xs : List X) (x : X) (k : ℕ) → k ≢ length xs → slice_get (xs ++ x ∷ []) k ≡ slice_get xs k
+push_elsewhere xs x k other = elim (cases_lt k (length xs)) [
+  | inl within ↦ slice_get-get_or (xs ++ x ∷ []) k x (omega (arith, length_push xs x)) ∙ (ap Some (get_or_append_left xs (x ∷ []) x k within) ∙ sym (slice_get-get_or xs k x within))
+  | inr past ↦ slice_get_past (xs ++ x ∷ []) k (omega (arith, length_push xs x, other, past)) ∙ sym (slice_get_past xs k past)
+]
+
 module _ {A : Type 0} (xs : List (Option A)) where
   -- past the end there is nothing
   pub none_past : (k : ℕ) → length xs ≤ k → at_place xs k ≡ None
@@ -27,16 +34,10 @@ module _ {A : Type 0} (xs : List (Option A)) where
     | inr other ↦ rw other.0 (ap (λ (p : Option (Option A)). option_and_then (λ (x : Option A). x) p) (set_elsewhere xs i k o other.1))
   ]
 
-  push_elsewhere : (k : ℕ) (o : Option A) → k ≢ length xs → slice_get (xs ++ o ∷ []) k ≡ slice_get xs k
-  push_elsewhere k o other = elim (cases_lt k (length xs)) [
-    | inl within ↦ slice_get-get_or (xs ++ o ∷ []) k o (omega (arith, length_push xs o)) ∙ (ap Some (get_or_append_left xs (o ∷ []) o k within) ∙ sym (slice_get-get_or xs k o within))
-    | inr past ↦ slice_get_past (xs ++ o ∷ []) k (omega (arith, length_push xs o)) ∙ sym (slice_get_past xs k past)
-  ]
-
   pub push_slot : (k : ℕ) (o : Option A) → at_place (xs ++ o ∷ []) k ≡ cond (eqb k (length xs)) o (at_place xs k)
   push_slot k o = elim (eqb_tells k (length xs)) [
     | inl same ↦ rw same.0 (rw same.1 (ap (λ (p : Option (Option A)). option_and_then (λ (x : Option A). x) p) (push_last xs o)))
-    | inr other ↦ rw other.0 (ap (λ (p : Option (Option A)). option_and_then (λ (x : Option A). x) p) (push_elsewhere k o other.1))
+    | inr other ↦ rw other.0 (ap (λ (p : Option (Option A)). option_and_then (λ (x : Option A). x) p) (push_elsewhere xs o k other.1))
   ]
 
   -- a push of nothing changes nothing

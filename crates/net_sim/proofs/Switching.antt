@@ -10,7 +10,7 @@ use Rattle.net_runs.specs.States.{NetworkState, Flight, with_switched}
 use Rattle.net_runs.specs.Events.{Switch, Switched, Refusal, N01, N02, N03, N04, N05, N06, N07, IsRefused}
 use Rattle.net_tables.proofs.Elements.{set_there, set_elsewhere}
 use Rattle.net_sim.specs.Routers.{has_switched}
-use Rattle.net_sim.specs.Standing.{TrafficValue, StandsFor, Plays, at_place}
+use Rattle.net_sim.specs.Standing.{TrafficValue, HasNetworkState, Plays, at_place}
 
 -- the marks after one is set
 set_mark : (marks : List Bool) (i k : ℕ) → i < length marks → has_switched (slice_set marks i true) k ≡ cond (eqb k i) true (has_switched marks k)
@@ -21,7 +21,7 @@ set_mark marks i k within = elim (eqb_tells k i) [
 
 module _ (tables : Tables) (v u : TrafficValue) (node : ℕ) (within : node < length tables.plan.nodes.items) (after : tables.after ≢ None)
     (mark : slice_get v.switched node ≡ Some false) where
-  can_switch : (w : NetworkState) → StandsFor v w → (why : Refusal) → ¬ IsRefused tables w (Switch node) why
+  can_switch : (w : NetworkState) → HasNetworkState v w → (why : Refusal) → ¬ IsRefused tables w (Switch node) why
   can_switch w s N01 is = omega arith
   can_switch w s N02 is = is
   can_switch w s N03 is = is

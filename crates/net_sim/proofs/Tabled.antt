@@ -12,7 +12,7 @@ use Rattle.net_tables.specs.TwoPlans.{rows_by}
 use Rattle.net_rules.specs.Rules.{RuleHolds}
 use Rattle.net_rules.specs.MoveRules.{Before, After, AcceptsMove}
 use Rattle.net_tables.specs.Tables.{AreTabled, table_row}
-use Rattle.net_sim.specs.Accepted.{AreAccepted}
+use Rattle.net_check.specs.Accepted.{AreAccepted}
 use Rattle.net_sim.specs.Routers.{AreTabledAfter, has_switched}
 use Rattle.net_sim.proofs.Deciding.{same_count}
 

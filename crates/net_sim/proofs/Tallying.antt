@@ -7,7 +7,7 @@ use Rattle.std.proofs.lemmas.List.Sums.{count_by-le-length, sum_by-cons, sum_by_
 use Rattle.std.proofs.lemmas.List.Elements.{All-head, All-tail}
 use Rattle.std.proofs.lemmas.Option.{same_Some}
 use Rattle.std.specs.Cmp.{booleans_Decides}
-use Rattle.mctp_transport.specs.Frames.{KeyValue, key_of}
+use Rattle.mctp_transport.specs.PacketValues.{KeyValue, key_of}
 use Rattle.mctp_transport.specs.Packets.{key_value}
 use Rattle.net_runs.specs.States as state
 use Rattle.net_sim.specs.FlightValues.{flight_value}

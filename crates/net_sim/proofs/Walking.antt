@@ -3,11 +3,9 @@ use Rattle.std.proofs.Common.{◌≡◌, ◌≢◌, ℕ, ◌+◌, ◌<◌, Match
 use Rattle.std.specs.Prelude.{slice_get, slice_set}
 use Rattle.std.specs.declared.result.Result.{Result}
 use Rattle.std.specs.Result.{IsErr}
-use Rattle.std.proofs.lemmas.Bool.{cases_lt}
 use Rattle.std.proofs.lemmas.Bool.Decides.{eqb_tells}
-use Rattle.std.proofs.lemmas.Option.{slice_get_past, slice_get-get_or}
-use Rattle.std.proofs.lemmas.List.{length_push, length-set, get_or_append_left}
-use Rattle.mctp_transport.specs.Frames.{KeyValue}
+use Rattle.std.proofs.lemmas.List.{length_push, length-set}
+use Rattle.mctp_transport.specs.PacketValues.{KeyValue}
 use Rattle.mctp_transport.specs.Hearing.{Answer}
 use Rattle.net_tables.specs.TwoPlans.{Tables}
 use Rattle.net_runs.specs.States.{NetworkState}
@@ -16,8 +14,9 @@ use Rattle.net_runs.specs.Networks.{Step}
 use Rattle.net_runs.specs.Walkers.{WalkerValue, WalkedState, WalkedEvent, WalkedOutcome, Happening, Happened, WalkRefused, WalkRefusal, Also, N08, N09, N10, N11, N12, N13, IsWalkRefused, IsFirstWalkRefusal, with_walker}
 use Rattle.net_runs.specs.WalkedRuns.{IsForNone}
 use Rattle.net_tables.proofs.Elements.{set_there, set_elsewhere, push_last}
-use Rattle.net_sim.specs.Standing.{TrafficValue, StandsFor, Plays, Wants}
+use Rattle.net_sim.specs.Standing.{TrafficValue, HasNetworkState, Plays, Wants}
 use Rattle.net_sim.specs.WalkedStanding.{NetworkValue, StandsForWalked, WalkedPlays, WalkedWants}
+use Rattle.net_sim.proofs.Slots.{push_elsewhere}
 
 -- the number after two that are the same, or not
 next_eqb : (k i : ℕ) → eqb (k + 1) (i + 1) ≡ eqb k i
@@ -40,19 +39,13 @@ module _ {A : Type 0} (xs : List A) (x : A) where
     | inr other ↦ rw other.0 (set_elsewhere xs i k x other.1)
   ]
 
-  push_elsewhere : (k : ℕ) → k ≢ length xs → slice_get (xs ++ x ∷ []) k ≡ slice_get xs k
-  push_elsewhere k other = elim (cases_lt k (length xs)) [
-    | inl within ↦ slice_get-get_or (xs ++ x ∷ []) k x (omega (arith, length_push xs x)) ∙ (ap Some (get_or_append_left xs (x ∷ []) x k within) ∙ sym (slice_get-get_or xs k x within))
-    | inr past ↦ slice_get_past (xs ++ x ∷ []) k (omega (arith, length_push xs x, other, past)) ∙ sym (slice_get_past xs k past)
-  ]
-
   push_at : (k : ℕ) → slice_get (xs ++ x ∷ []) k ≡ cond (eqb k (length xs)) (Some x) (slice_get xs k)
   push_at k = elim (eqb_tells k (length xs)) [
     | inl same ↦ rw same.0 (rw same.1 (push_last xs x))
-    | inr other ↦ rw other.0 (push_elsewhere k other.1)
+    | inr other ↦ rw other.0 (push_elsewhere xs x k other.1)
   ]
 
-module _ (v : NetworkValue) (u : TrafficValue) (w : WalkedState) (next : NetworkState) (s : StandsForWalked v w) (stands : StandsFor u next) where
+module _ (v : NetworkValue) (u : TrafficValue) (w : WalkedState) (next : NetworkState) (s : StandsForWalked v w) (stands : HasNetworkState u next) where
   -- the walkers stay
   pub walkers_stay : (ws : List WalkerValue) → ws ≡ v.walkers → StandsForWalked (record { traffic = u; walkers = ws }) (record w { network = next })
   walkers_stay ws same = record {

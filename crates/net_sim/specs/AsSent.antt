@@ -1,7 +1,7 @@
 -- Where what is sent keeps apart, the whole messages that a network tells are those that were sent.
 use Rattle.std.specs.Prelude.{◌≡◌, ℕ, ◌*◌, ◌≤◌, List, length, slice_get, Option, Some}
 use Rattle.std.specs.List.{zip}
-use Rattle.mctp_transport.specs.Frames.{KeyValue}
+use Rattle.mctp_transport.specs.PacketValues.{KeyValue}
 use Rattle.net_plan.specs.declared.plan.Plan.{Plan}
 use Rattle.net_tables.specs.Routing.{Holds}
 use Rattle.net_tables.specs.TwoPlans.{Tables}

@@ -2,11 +2,9 @@
 use Rattle.std.specs.Prelude.{◌≡◌, ◌↔◌, ℕ, List, [], ◌∷◌, length, map, slice_get}
 use Rattle.std.specs.Prelude.{slice_set, Option, Some, None, option_map, IsSomeAnd}
 use Rattle.net_plan.specs.declared.plan.Plan.{Plan}
-use Rattle.net_plan.specs.declared.nodes.Kind.{Kind}
 use Rattle.net_plan.specs.declared.nodes.Kind.TheVariants as planned
 use Rattle.net_plan.specs.declared.nodes.Node.{Node}
 use Rattle.net_plan.specs.declared.nodes.Pool.{Pool}
-use Rattle.mctp_bridge.specs.declared.device_kind.DeviceKind.{DeviceKind}
 use Rattle.mctp_bridge.specs.declared.device_kind.DeviceKind.TheVariants as device
 use Rattle.mctp_control.specs.Ranges.{IsWithin}
 use Rattle.mctp_control.specs.RouteEntries.{EntryValue}
@@ -14,13 +12,10 @@ use Rattle.mctp_control.specs.Requests.{CommandValue, SetsEid, AllocatesEids, re
 use Rattle.mctp_control.specs.Responses.{AnswerValue, EidSet, PoolTold, ResponseValue, SpellsResponse}
 use Rattle.mctp_control.specs.Devices.{PoolHeld, DeviceValue}
 use Rattle.mctp_control.specs.Replies.{Replies}
+use Rattle.net_tables.specs.Names.{device_kind}
 use Rattle.net_tables.specs.Routing.{node_at}
 use Rattle.net_tables.specs.Ownership.{IsOwnedBy}
 use Rattle.net_sim.specs.Assignments.{AssignmentValue}
-
-abbrev pub device_kind : Kind → DeviceKind
-device_kind planned.Bridge = device.Bridge
-device_kind planned.Endpoint = device.Endpoint
 
 -- the size of a planned pool, 0 where there is none
 abbrev pub planned_size : Option Pool → ℕ

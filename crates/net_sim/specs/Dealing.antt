@@ -1,8 +1,6 @@
 -- How termini are dealt to the nodes of a plan.
-use Rattle.std.specs.Prelude.{◌≡◌, ℕ, List, [], ◌∷◌, length, Option, Some, None, false}
+use Rattle.std.specs.Prelude.{ℕ, List, [], ◌∷◌, length, Option, Some, None, false}
 use Rattle.std.specs.List.{filter_map, range_with_len}
-use Rattle.mctp_transport.specs.declared.assembler.Assembler.{Assembler}
-use Rattle.mctp_transport.specs.Assembly.{assembler_slots, assembler_limit, StandsFor}
 use Rattle.net_plan.specs.declared.plan.Plan.{Plan}
 use Rattle.net_plan.specs.declared.certificate.Certificate.{Certificate}
 use Rattle.net_plan.specs.declared.nodes.Node.{Node}
@@ -44,8 +42,3 @@ at_rest plan termini = record {
 -- the termini of a plan, in the order of its nodes, as they are planned
 abbrev pub planned_termini : Plan → Certificate → List TerminusState
 planned_termini plan cert = filter_map (terminus_at_start plan cert) (range_with_len 0 (length plan.nodes.items))
-
--- an assembler as each node has one at the start: of 16 slots, for messages of at most 4096 bytes, that was given
--- nothing
-abbrev pub IsIdleAssembler : Assembler → Type 0
-IsIdleAssembler a = (assembler_slots a ≡ 16) × (assembler_limit a ≡ 4096) × StandsFor a []

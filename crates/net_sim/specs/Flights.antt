@@ -2,7 +2,7 @@
 use Rattle.std.specs.Prelude.{ℕ, ◌+◌, ◌-◌, ◌==◌, if◌then◌else◌, List, [], ◌∷◌, map, length, slice_get}
 use Rattle.std.specs.Prelude.{Option, Some, None, option_map, option_and_then, vec_capacity}
 use Rattle.std.specs.List.{range_with_len}
-use Rattle.mctp_transport.specs.Frames.{Frame}
+use Rattle.mctp_transport.specs.PacketValues.{PacketValue}
 use Rattle.net_runs.specs.States as state
 pub use Rattle.net_sim.specs.FlightValues.{flight_value}
 use Rattle.net_sim.specs.declared.flights.Flight.{Flight}
@@ -32,5 +32,5 @@ abbrev pub room_of : Flights → ℕ
 room_of flights = vec_capacity flights.slots - length flights.slots.items
 
 -- a flight of a packet that begins at the node
-abbrev pub begun : ℕ → Frame → Option state.Flight
+abbrev pub begun : ℕ → PacketValue → Option state.Flight
 begun node p = Some (record { packet = p; origin = node; node = node; hops = 0 })

@@ -1,7 +1,7 @@
 -- How many there are of each message key and destination, of endpoint IDs that are known.
 use Rattle.std.specs.Prelude.{ℕ, ◌+◌, ◌*◌, ◌==◌, ◌&&◌, nat_lt, if◌then◌else◌, List, Bool}
 use Rattle.std.specs.Prelude.{Option, Some, None, option_map, option_and_then, slice_get}
-use Rattle.mctp_transport.specs.Frames.{KeyValue, bit}
+use Rattle.mctp_transport.specs.PacketValues.{KeyValue, bit}
 use Rattle.mctp_transport.specs.Histories.{same_key}
 use Rattle.mctp_transport.specs.declared.address.Eid.{Eid}
 use Rattle.net_sim.specs.declared.key_counts.KnownEids.{KnownEids}

@@ -1,6 +1,6 @@
 -- What room an event of a network lacks where memory is wanted.
 use Rattle.std.specs.Prelude.{◌≡◌, ◌⊎◌, ◌<◌, ℕ, length, true, Some, slice_get}
-use Rattle.mctp_transport.specs.Frames.{Frame, KeyValue, key_of, Spelled}
+use Rattle.mctp_transport.specs.PacketValues.{PacketValue, KeyValue, key_of, Spelled}
 use Rattle.net_tables.specs.Routing.{Holds}
 use Rattle.net_runs.specs.States.{Flight, destination, unit_of}
 use Rattle.net_runs.specs.Events.{EventValue, Put, Move, Lose, Expire, AnswerAt, Switch}
@@ -31,7 +31,7 @@ ArrivesAt traffic number node key =
 abbrev pub LacksRoom : {T : Type 0} → Traffic T → EventValue → Type 0
 LacksRoom traffic (Put node bytes) =
     LacksFlights traffic 1
-    ⊎ ((p : Frame) × Spelled (unit_of traffic.router.tables.plan) p bytes × (64 < length p.payload))
+    ⊎ ((p : PacketValue) × Spelled (unit_of traffic.router.tables.plan) p bytes × (64 < length p.payload))
 LacksRoom traffic (Move number keep) =
     ((keep ≡ true) × (LacksFlights traffic 1 ⊎ ((f : Flight)
     × (flight_at (slots_of traffic.flights) number ≡ Some f) × (64 < length f.packet.payload))))

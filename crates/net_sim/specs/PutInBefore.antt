@@ -1,6 +1,6 @@
 -- Each whole message that a network tells joins packets that were put in before it.
 use Rattle.std.specs.Prelude.{◌≡◌, ◌⊎◌, ℕ, ◌<◌, List, slice_get, Option, Some, All}
-use Rattle.mctp_transport.specs.Frames.{Frame, KeyValue, key_of}
+use Rattle.mctp_transport.specs.PacketValues.{PacketValue, KeyValue, key_of}
 use Rattle.mctp_transport.specs.Messages.{Joined}
 use Rattle.net_plan.specs.declared.plan.Plan.{Plan}
 use Rattle.net_plan.specs.declared.certificate.Certificate.{Certificate}
@@ -16,14 +16,14 @@ use Rattle.net_sim.specs.Played.{IsRunOf}
 -- The event at the index puts the packet in: it is a put of the packet's bytes, or an answer or a walker's request that
 -- has made a flight of the packet.
 pub record IsPutInAt (plan : Plan) (events : List WalkedEvent) (turns : List WalkedTurn) (index : ℕ)
-    (p : Frame) : Type 0 where
+    (p : PacketValue) : Type 0 where
   pub turn : WalkedTurn
   pub there : slice_get turns index ≡ Some turn
   pub event : slice_get events index ≡ Some turn.event
   pub puts : IsPutOfWalked plan turn.event turn.outcome turn.after.network p
 
 -- the packet was put in before all these events, or by one of them whose index is less than i
-abbrev pub WasPutInBefore : Plan → List WalkedTurn → List WalkedEvent → List WalkedTurn → ℕ → Frame → Type 0
+abbrev pub WasPutInBefore : Plan → List WalkedTurn → List WalkedEvent → List WalkedTurn → ℕ → PacketValue → Type 0
 WasPutInBefore plan before events turns i p =
     WasPutInWalked plan before p ⊎ ((index : ℕ) × (index < i) × IsPutInAt plan events turns index p)
 
@@ -35,7 +35,7 @@ abbrev pub TellWhatWasPutIn : {tables : Tables} {w : WalkedState} {events : List
 TellWhatWasPutIn {tables} {w} {events} {outcomes} before run =
     (i number n : ℕ) (key : KeyValue) (message : List ℕ) (handed : Option Handed)
     → BringsWholeAt outcomes i number n key message handed
-    → (ps : List Frame) × Joined ps message
+    → (ps : List PacketValue) × Joined ps message
     × All (λ p. WasPutInBefore tables.plan before events run.turns i p × Holds tables.plan n p.destination
     × (key_of p ≡ key)) ps
 

@@ -1,6 +1,6 @@
 -- The packets of an answer, or the one packet of a request, are put in at a node.
 use Rattle.std.specs.Prelude.{◌≡◌, ℕ, ◌+◌, List, [], ◌∷◌, ◌++◌, length, map, Option}
-use Rattle.mctp_transport.specs.Frames.{Frame, KeyValue, Spelled}
+use Rattle.mctp_transport.specs.PacketValues.{PacketValue, KeyValue, Spelled}
 use Rattle.mctp_transport.specs.Cutting.{ArePacketsOf}
 use Rattle.net_plan.specs.declared.plan.Plan.{Plan}
 use Rattle.net_tables.specs.Routing.{Holds}
@@ -16,7 +16,7 @@ use Rattle.net_sim.specs.Standing.{TrafficValue, Plays}
 pub record Sends (plan : Plan) (node : ℕ) (asked : KeyValue) (answer : List ℕ) (old : List (Option Flight))
     (outcome : OutcomeValue) (new : List (Option Flight)) : Type 0 where
   pub eid : ℕ
-  pub packets : List Frame
+  pub packets : List PacketValue
   pub first : ℕ
   pub last : ℕ
   pub holds : Holds plan node eid
@@ -29,7 +29,7 @@ pub record Sends (plan : Plan) (node : ℕ) (asked : KeyValue) (answer : List �
 -- The message is one packet, and that packet's bytes are put in at the node, as the flight of this number.
 pub record PutsOne (tables : Tables) (old : TrafficValue) (node : ℕ) (message : List ℕ) (destination : ℕ)
     (key : KeyValue) (number : ℕ) (new : TrafficValue) : Type 0 where
-  pub packet : Frame
+  pub packet : PacketValue
   pub bytes : List ℕ
   pub cut : ArePacketsOf (unit_of tables.plan) message destination key 0 (packet ∷ [])
   pub spelled : Spelled (unit_of tables.plan) packet bytes

@@ -1,6 +1,6 @@
 -- Runs in which one request is sent under a key come to that request, whatever is lost, repeated or out of order.
 use Rattle.std.specs.Prelude.{◌≡◌, ℕ, ◌*◌, ◌≤◌, List, length, Option, true, All}
-use Rattle.mctp_transport.specs.Frames.{Frame, KeyValue, key_of, Spelled}
+use Rattle.mctp_transport.specs.PacketValues.{PacketValue, KeyValue, key_of, Spelled}
 use Rattle.net_plan.specs.declared.plan.Plan.{Plan}
 use Rattle.net_tables.specs.Routing.{Holds}
 use Rattle.net_tables.specs.TwoPlans.{Tables}
@@ -16,9 +16,9 @@ use Rattle.net_sim.specs.Played.{IsRunOf}
 -- a packet that the turn puts in under the key for d, by a put or as a walker's request, is one of the message's
 abbrev pub PutsOnly : Plan → KeyValue → ℕ → Epoch → WalkedTurn → Type 0
 PutsOnly plan key d sent turn =
-    ((node : ℕ) (bytes : List ℕ) (p : Frame) → turn.event ≡ Happening (Put node bytes) → Spelled (unit_of plan) p bytes
-    → key_of p ≡ key → p.destination ≡ d → IsOfEpoch (unit_of plan) sent key d p)
-    × ((k : ℕ) (p : Frame) → turn.event ≡ Ask k → IsPutOfWalked plan turn.event turn.outcome turn.after.network p
+    ((node : ℕ) (bytes : List ℕ) (p : PacketValue) → turn.event ≡ Happening (Put node bytes)
+    → Spelled (unit_of plan) p bytes → key_of p ≡ key → p.destination ≡ d → IsOfEpoch (unit_of plan) sent key d p)
+    × ((k : ℕ) (p : PacketValue) → turn.event ≡ Ask k → IsPutOfWalked plan turn.event turn.outcome turn.after.network p
     → key_of p ≡ key → p.destination ≡ d → IsOfEpoch (unit_of plan) sent key d p)
 
 -- Where a key with the owner bit is quiet for d, and a run puts in under it for d packets of one message

@@ -1,6 +1,6 @@
 -- What a network that has settled for a key and a destination holds, part by part.
 use Rattle.std.specs.Prelude.{◌≡◌, ◌≢◌, ℕ, Bool, false, Option, Some, None, All}
-use Rattle.mctp_transport.specs.Frames.{KeyValue, key_of}
+use Rattle.mctp_transport.specs.PacketValues.{KeyValue, key_of}
 use Rattle.mctp_transport.specs.Histories.{IsOpen}
 use Rattle.net_sim.specs.KeyCounts.{are_these}
 use Rattle.net_runs.specs.Termini.{TerminusState}

@@ -1,6 +1,6 @@
 -- What the counters of a network tell.
 use Rattle.std.specs.Prelude.{◌≡◌, ℕ, ◌<◌, List, count_by, Bool, option_map, Some}
-use Rattle.mctp_transport.specs.Frames.{KeyValue}
+use Rattle.mctp_transport.specs.PacketValues.{KeyValue}
 use Rattle.mctp_transport.specs.Packets.{key_value}
 use Rattle.net_sim.specs.FlightValues.{flight_value}
 use Rattle.net_sim.specs.KeyCounts.{count_of, are_these}

@@ -2,7 +2,7 @@
 use Rattle.std.specs.Prelude.{◌≡◌, ◌≢◌, ◌⊎◌, ℕ, ◌<◌, List, [], ◌∷◌, map, Option, Some, None, option_map, if◌then◌else◌}
 use Rattle.std.specs.VecDeque.{deque_len, deque_capacity}
 use Rattle.mctp_transport.specs.Packets.{key_value}
-use Rattle.mctp_transport.specs.Frames.{KeyValue}
+use Rattle.mctp_transport.specs.PacketValues.{KeyValue}
 use Rattle.pdr_repository.specs.Records.{Entry}
 use Rattle.pdr_repository.specs.Answers.{Answers}
 use Rattle.net_runs.specs.Termini.{TerminusState, WaitingMessage, with_waiting}

@@ -1,14 +1,17 @@
 -- What a network holds, as plain lists.
 use Rattle.std.specs.Prelude.{◌≡◌, ◌<◌, ◌≤◌, ℕ, length, List, map, option_map, Option, Some, slice_get}
+use Rattle.std.specs.Prelude.{Result, MatchResult}
 use Rattle.net_plan.specs.declared.certificate.Certificate.{Certificate}
 use Rattle.net_tables.specs.TwoPlans.{Tables}
 use Rattle.pdr_repository.specs.Records.{Entry}
+use Rattle.net_sim.specs.declared.effect.Effect.{Effect}
 use Rattle.net_sim.specs.declared.terminus_queue.TerminusQueue.{TerminusQueue}
 use Rattle.net_sim.specs.declared.traffic.Traffic.{Traffic}
-use Rattle.net_runs.specs.Events.{most_flights}
+use Rattle.net_runs.specs.Events.{EventValue, most_flights}
+use Rattle.net_sim.specs.Effects.{effect_value}
 use Rattle.net_sim.specs.Flights.{slots_of, room_of}
 use Rattle.net_sim.specs.TerminusQueues.{queue_state, HasRoomFor}
-use Rattle.net_sim.specs.Standing.{TrafficValue}
+use Rattle.net_sim.specs.Standing.{TrafficValue, Plays, Wants}
 
 -- the tables of the network, of one plan or of two, and the certificate for them
 abbrev pub traffic_checked : {T : Type 0} → Traffic T → Tables × Certificate
@@ -22,6 +25,18 @@ traffic_value tid records network = record {
   termini = map (option_map (queue_state tid records)) network.queues.items;
   switched = network.router.switched;
 }
+
+-- this effect is what comes of the event
+abbrev pub HasEffect : {T : Type 0} → (T → ℕ) → (T → List Entry) → Traffic T → EventValue → Effect → Traffic T → Type 0
+HasEffect tid records old event effect new =
+    Plays old.router.tables (traffic_value tid records old) event (effect_value effect) (traffic_value tid records new)
+
+-- so it is, or memory ran out, and nothing has changed
+abbrev pub EndsInEffect : {T E : Type 0} → (T → ℕ) → (T → List Entry) → Traffic T → EventValue → Result Effect E
+    → Traffic T → Type 0
+EndsInEffect tid records old event result new = MatchResult result
+    (λ effect. HasEffect tid records old event effect new)
+    (λ _. Wants old.router.tables (traffic_value tid records old) event (traffic_value tid records new))
 
 -- where the node has a terminus, one message more can wait there without growing
 abbrev pub HasRoomAt : {T : Type 0} → Traffic T → ℕ → Type 0

@@ -5,7 +5,7 @@ use Rattle.net_runs.specs.States.{NetworkState}
 use Rattle.net_runs.specs.Walkers.{WalkerValue, WalkedState, WalkedEvent, Happening, BeginWalk}
 use Rattle.net_runs.specs.Walkers.{Ask, TellWalk, WalkedOutcome, WalkRefusal, IsWalkRefused}
 use Rattle.net_runs.specs.WalkedRuns.{WalkedStep}
-use Rattle.net_sim.specs.Standing.{TrafficValue, StandsFor, MayWant}
+use Rattle.net_sim.specs.Standing.{TrafficValue, HasNetworkState, MayWant}
 
 -- what a network holds, and its walkers in the order in which they began
 pub record NetworkValue : Type 0 where
@@ -14,7 +14,7 @@ pub record NetworkValue : Type 0 where
 
 -- The network is as its state says, and the walkers are those of the numbers from 1 on.
 pub record StandsForWalked (v : NetworkValue) (w : WalkedState) : Type 0 where
-  pub network : StandsFor v.traffic w.network
+  pub network : HasNetworkState v.traffic w.network
   pub none : w.walker 0 ≡ None
   pub walkers : (i : ℕ) → w.walker (i + 1) ≡ slice_get v.walkers i
   pub begun : w.begun ≡ length v.walkers

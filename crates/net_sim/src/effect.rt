@@ -1,6 +1,6 @@
 //! What an event does to the packets of a network.
 use crate::refusal::Refusal;
-use mctp_bridge::Obstacle;
+use mctp_bridge::ForwardFault;
 use mctp_transport::{DropCause, Key};
 
 /// What an event does to the packets of a network, their assemblers and the termini. Nodes are places in the plan's list.
@@ -40,7 +40,7 @@ pub enum Effect {
     /// The flight ended on its way.
     Stopped {
         number: u32,
-        why: Obstacle,
+        why: ForwardFault,
     },
     /// The flight was lost.
     Lost {

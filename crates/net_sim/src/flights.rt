@@ -2,7 +2,7 @@
 ghost use Rattle.std.specs.Prelude.{◌≡◌, ◌↔◌, ◌≢◌, ◌+◌, ◌*◌, ◌<◌, ◌≤◌, ◌++◌, ◌∷◌, [], length, None, option_map, slice_set, is_some, is_none, All, AllPairs, IsTrue, ℕ, ◌-◌, ◌^◌, if◌then◌else◌, IfOk, IfSome, IfNone, OnOk, OnErr, true};
 ghost use Rattle.std.specs.List.{HoldsAt, count_by};
 ghost use Rattle.mctp_transport.specs.Packets.{key_value};
-ghost use Rattle.mctp_transport.specs.Frames.{KeyValue, key_of};
+ghost use Rattle.mctp_transport.specs.PacketValues.{KeyValue, key_of};
 ghost use Rattle.net_runs.specs.States.{destination};
 ghost use Rattle.net_sim.specs.Settling.{IsTo, IsNotTo, goes_to};
 ghost use Rattle.net_sim.specs.FlightValues.{flight_value};
@@ -30,8 +30,8 @@ pub struct Flight {
 }
 
 impl Flight {
-    ghost use Rattle.mctp_transport.specs.Frames.{key_of};
-    ghost use Rattle.mctp_transport.specs.Packets.{frame_of};
+    ghost use Rattle.mctp_transport.specs.PacketValues.{key_of};
+    ghost use Rattle.mctp_transport.specs.Packets.{packet_value_of};
     ghost use Rattle.net_runs.specs.States.{destination};
     ghost use Rattle.net_sim.specs.Flights.{flight_value, gone_on};
     ghost use Rattle.net_sim.specs.Payloads.{IsRoomFor};
@@ -39,7 +39,7 @@ impl Flight {
     /// A flight of this packet that begins at a node. A long payload is copied into the room.
     pub fn put_in(node: usize, packet: PacketView, room: Vec<u8>) -> Flight
         requires { IsRoomFor (length packet.payload.now) room }
-        ensures { flight_value result ≡ record { packet = frame_of packet.entry; origin = node; node = node; hops = 0 } }
+        ensures { flight_value result ≡ record { packet = packet_value_of packet.entry; origin = node; node = node; hops = 0 } }
     {
         Flight {
             packet: KeptPacket::of(packet, room),

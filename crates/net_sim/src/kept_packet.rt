@@ -16,14 +16,14 @@ pub struct KeptPacket {
 
 impl KeptPacket {
     ghost use Rattle.std.specs.Prelude.{◌≡◌};
-    ghost use Rattle.mctp_transport.specs.Packets.{frame_of};
+    ghost use Rattle.mctp_transport.specs.Packets.{packet_value_of};
     ghost use Rattle.net_sim.specs.Payloads.{IsRoomFor};
     ghost use Rattle.net_sim.specs.KeptPackets.{kept_frame};
 
     /// The packet that a view shows, with its bytes. A long payload is copied into the room.
     pub fn of(view: PacketView, room: Vec<u8>) -> KeptPacket
         requires { IsRoomFor (length view.payload.now) room }
-        ensures { kept_frame result ≡ frame_of view.entry }
+        ensures { kept_frame result ≡ packet_value_of view.entry }
     {
         KeptPacket {
             header: view.header,
@@ -33,7 +33,7 @@ impl KeptPacket {
 
     /// The packet, with its payload lent.
     pub fn view(&self) -> PacketView<'_>
-        ensures { frame_of result ≡ kept_frame self.now }
+        ensures { packet_value_of result ≡ kept_frame self.now }
     {
         PacketView::new(self.header, self.payload.as_slice())
     }

@@ -1,5 +1,5 @@
 //! The network of a checked plan, or of a checked move, with its walkers.
-ghost use Rattle.std.specs.Prelude.{◌≡◌, ◌∷◌, ◌<◌, [], All, MatchResult, MatchOption, IfOk, OnErr, take, length, map, None, Some, false, true};
+ghost use Rattle.std.specs.Prelude.{◌≡◌, ◌⊎◌, ◌∷◌, ◌+◌, ◌<◌, [], All, MatchOption, IfOk, OnErr, take, length, map, None, Some, false, true};
 ghost use Rattle.net_sim.specs.NetworkWalkers.{walker_value};
 ghost use Rattle.net_sim.specs.Traffics.{traffic_checked};
 ghost use Rattle.net_sim.specs.WalkerIndexes.{AreNoted};
@@ -7,16 +7,16 @@ ghost use Rattle.net_sim.specs.WalkerIndexes.{AreNoted};
 mod laws;
 mod playing;
 
-use crate::accepted::Accepted;
 use crate::network_walker::NetworkWalker;
 use crate::outcome::Outcome;
 use crate::traffic::Traffic;
 use crate::walker_index::WalkerIndex;
+use arrayvec::ArrayVec;
 pub use laws::requests_come_as_sent;
 use mctp_transport::PacketView;
-use net_check::{Checked, CheckedMove};
-use net_plan::Event;
-use pdr_repository::Terminus;
+use net_check::{AcceptedNetwork, Checked, CheckedMove};
+use net_plan::{Event, Plan};
+use pdr_repository::{MAX_ANSWER, Terminus};
 use std::alloc::{AllocError, Global};
 
 /// What came of a list of events.
@@ -39,21 +39,22 @@ pub struct Network<'a, T = Box<dyn Terminus>> {
     walkers: Vec<NetworkWalker>,
     /// Where each of them stands among them, so that no search is needed.
     index: WalkerIndex,
+    /// Room for an answer of a terminus, which is written over the one before it.
+    answer: ArrayVec<u8, MAX_ANSWER>,
     ghost noted: { AreNoted index walkers.items },
     ghost placed: { All (λ walker. (walker_value walker).node < length (traffic_checked traffic).0.plan.nodes.items) walkers.items },
 }
 
 impl<'a, T: Terminus> Network<'a, T> {
     ghost use Rattle.net_tables.specs.TwoPlans.{one_plan, moving};
-    ghost use Rattle.mctp_transport.specs.Packets.{frame_of};
-    ghost use Rattle.net_runs.specs.States.{Flight, at_start, unit_of};
+    ghost use Rattle.mctp_transport.specs.Packets.{packet_value_of};
+    ghost use Rattle.net_runs.specs.States.{Flight, unit_of};
     ghost use Rattle.net_runs.specs.Walkers.{WalkerValue, WalkedState};
-    ghost use Rattle.net_sim.specs.Accepted.{tables_of, certificate_of};
     ghost use Rattle.net_sim.specs.Outcomes.{outcome_value, event_value};
-    ghost use Rattle.net_sim.specs.WalkedStanding.{StandsForWalked, without_walkers, WalkedPlays, WalkedWants};
-    ghost use Rattle.net_sim.specs.Networks.{network_value, checked_of};
+    ghost use Rattle.net_sim.specs.WalkedStanding.{StandsForWalked};
+    ghost use Rattle.net_sim.specs.Networks.{network_value, checked_of, StandsAtRest, StandsAtStart, EndsInOutcome, OfPlayed};
     ghost use Rattle.net_sim.specs.LackingRooms.{NetworkLacksRoom};
-    ghost use Rattle.net_sim.specs.Dealing.{resting, at_rest, planned_termini};
+    ghost use Rattle.net_sim.specs.Dealing.{planned_termini};
     ghost use Rattle.net_sim.specs.Played.{PlaysAll, StopsAfter};
     ghost use Rattle.net_sim.specs.Walks.{PlaysWalks};
     ghost use Rattle.net_sim.specs.AsSent.{PlaysAsSent};
@@ -70,12 +71,10 @@ impl<'a, T: Terminus> Network<'a, T> {
     ) -> Result<Network<'a, T>, AllocError>
         requires boxes { length termini.items ≡ length (planned_termini checked.0 checked.1) }
         ensures checked { IfOk result (λ network. checked_of network ≡ (one_plan checked.entry.0, checked.entry.1)) }
-        ensures at_rest { IfOk result (λ network. StandsForWalked (network_value T.tid T.records network)
-            (without_walkers (at_rest checked.entry.0 (map (resting T.tid T.records) termini.items)))) }
-        ensures stands { IfOk result (λ network. map (resting T.tid T.records) termini.items ≡ planned_termini checked.entry.0 checked.entry.1
-            → StandsForWalked (network_value T.tid T.records network) (without_walkers (at_start checked.entry.0 checked.entry.1))) }
+        ensures at_rest { IfOk result (StandsAtRest T.tid T.records checked.entry.0 termini.items) }
+        ensures stands { IfOk result (StandsAtStart T.tid T.records checked.entry.0 checked.entry.1 termini.items) }
     {
-        Network::start(alloc, Accepted::Plan(checked), termini)
+        Network::start(alloc, AcceptedNetwork::of_plan(checked), termini)
     }
 
     /// The network of a checked move, in which nothing has happened yet: each node goes by its rows in the plan before, until
@@ -87,25 +86,21 @@ impl<'a, T: Terminus> Network<'a, T> {
     ) -> Result<Network<'a, T>, AllocError>
         requires boxes { length termini.items ≡ length (planned_termini checked.0 checked.2) }
         ensures checked { IfOk result (λ network. checked_of network ≡ (moving checked.entry.0 checked.entry.1, checked.entry.2)) }
-        ensures at_rest { IfOk result (λ network. StandsForWalked (network_value T.tid T.records network)
-            (without_walkers (at_rest checked.entry.0 (map (resting T.tid T.records) termini.items)))) }
-        ensures stands { IfOk result (λ network. map (resting T.tid T.records) termini.items ≡ planned_termini checked.entry.0 checked.entry.2
-            → StandsForWalked (network_value T.tid T.records network) (without_walkers (at_start checked.entry.0 checked.entry.2))) }
+        ensures at_rest { IfOk result (StandsAtRest T.tid T.records checked.entry.0 termini.items) }
+        ensures stands { IfOk result (StandsAtStart T.tid T.records checked.entry.0 checked.entry.2 termini.items) }
     {
-        Network::start(alloc, Accepted::Move(checked), termini)
+        Network::start(alloc, AcceptedNetwork::of_move(checked), termini)
     }
 
-    /// The network of what was checked, in which nothing has happened yet.
-    fn start(
+    /// The network of what was checked, in which nothing has happened yet, over termini that are dealt as `new` deals them.
+    pub fn start(
         alloc: Global,
-        accepted: Accepted<'a>,
+        accepted: AcceptedNetwork<'a>,
         termini: Vec<T>,
     ) -> Result<Network<'a, T>, AllocError>
-        ensures checked { IfOk result (λ network. checked_of network ≡ (tables_of accepted.entry, certificate_of accepted.entry)) }
-        ensures at_rest { IfOk result (λ network. StandsForWalked (network_value T.tid T.records network)
-            (without_walkers (at_rest (tables_of accepted.entry).plan (map (resting T.tid T.records) termini.items)))) }
-        ensures stands { IfOk result (λ network. map (resting T.tid T.records) termini.items ≡ planned_termini (tables_of accepted.entry).plan (certificate_of accepted.entry)
-            → StandsForWalked (network_value T.tid T.records network) (without_walkers (at_start (tables_of accepted.entry).plan (certificate_of accepted.entry)))) }
+        ensures checked { IfOk result (λ network. checked_of network ≡ accepted.entry) }
+        ensures at_rest { IfOk result (StandsAtRest T.tid T.records accepted.entry.0.plan termini.items) }
+        ensures stands { IfOk result (StandsAtStart T.tid T.records accepted.entry.0.plan accepted.entry.1 termini.items) }
     {
         let traffic = Traffic::start(alloc, accepted, termini)?;
         let walkers = Vec::new(alloc);
@@ -115,19 +110,14 @@ impl<'a, T: Terminus> Network<'a, T> {
             traffic,
             walkers,
             index,
+            answer: ArrayVec::new(),
         })
     }
 
     /// Plays an event. Where memory runs out, nothing has changed.
     pub fn step(&mut self, event: &Event) -> Result<Outcome, AllocError>
         ensures checked { checked_of self.new ≡ checked_of self.old }
-        ensures plays { MatchResult result
-            (λ outcome. WalkedPlays (checked_of self.old).0
-            (network_value T.tid T.records self.old) (event_value event.now) (outcome_value outcome)
-            (network_value T.tid T.records self.new))
-            (λ _. WalkedWants (checked_of self.old).0
-            (network_value T.tid T.records self.old) (event_value event.now)
-            (network_value T.tid T.records self.new)) }
+        ensures plays { EndsInOutcome T.tid T.records self.old (event_value event.now) result self.new }
         // Memory is wanted only where the event makes some of its own, or where room was lacking.
         ensures full { OnErr result (NetworkLacksRoom self.old (event_value event.now)) }
         // Every run with walkers that the network may stand for keeps the headline, and what is promised of deliveries.
@@ -146,28 +136,16 @@ impl<'a, T: Terminus> Network<'a, T> {
     /// that is refused nothing is played.
     pub fn run(&mut self, events: &[Event]) -> Result<Played, AllocError>
         ensures checked { checked_of self.new ≡ checked_of self.old }
-        ensures plays { IfOk result (λ played. PlaysAll (checked_of self.old).0
-            (network_value T.tid T.records self.old)
-            (take (length played.outcomes.items) (map event_value events.now)) (map outcome_value played.outcomes.items)
-            (network_value T.tid T.records self.new)) }
+        ensures plays { IfOk result (λ played. OfPlayed PlaysAll T.tid T.records self.old events.now played self.new) }
         // Where one message at a time is sent under a key to a destination, of five packets at most, what is told of it is
         // that message.
-        ensures exact { IfOk result (λ played. PlaysAsSent (unit_of (checked_of self.old).0.plan) (checked_of self.old).0
-            (network_value T.tid T.records self.old)
-            (take (length played.outcomes.items) (map event_value events.now)) (map outcome_value played.outcomes.items)
-            (network_value T.tid T.records self.new)) }
+        ensures exact { IfOk result (λ played. OfPlayed (PlaysAsSent (unit_of (checked_of self.old).0.plan)) T.tid T.records self.old events.now played self.new) }
         // Every run with walkers that the network may stand for keeps the headline, and what is promised of deliveries.
         ensures promises { IsPromised (checked_of self.old).0 (checked_of self.old).1 }
         // A whole message that is told joins packets that were put in before it, by events that are named by their indices.
-        ensures joins { IfOk result (λ played. PlaysWhatWasPutIn (checked_of self.old).0 (checked_of self.old).1
-            (network_value T.tid T.records self.old)
-            (take (length played.outcomes.items) (map event_value events.now)) (map outcome_value played.outcomes.items)
-            (network_value T.tid T.records self.new)) }
+        ensures joins { IfOk result (λ played. OfPlayed (λ tables. PlaysWhatWasPutIn tables (checked_of self.old).1) T.tid T.records self.old events.now played self.new) }
         // The exchanges that each walker has taken are a walk over the records of the terminus that it asks.
-        ensures walks { IfOk result (λ played. PlaysWalks (checked_of self.old).0 (checked_of self.old).1
-            (network_value T.tid T.records self.old)
-            (take (length played.outcomes.items) (map event_value events.now)) (map outcome_value played.outcomes.items)
-            (network_value T.tid T.records self.new)) }
+        ensures walks { IfOk result (λ played. OfPlayed (λ tables. PlaysWalks tables (checked_of self.old).1) T.tid T.records self.old events.now played self.new) }
         ensures whole { IfOk result (λ played. played.stopped ≡ false → length played.outcomes.items ≡ length events.now) }
         ensures stopped { IfOk result (λ played. played.stopped ≡ true → StopsAfter (checked_of self.old).0
             (network_value T.tid T.records self.old)
@@ -195,14 +173,34 @@ impl<'a, T: Terminus> Network<'a, T> {
         })
     }
 
+    /// The plan that the nodes start on.
+    pub fn plan(&self) -> &'a Plan
+        ensures { result.now ≡ (checked_of self.now).0.plan }
+    {
+        self.traffic.plan()
+    }
+
     /// The node where a flight is, and its packet. None where there is no flight of this number.
     pub fn flight(&self, number: u32) -> Option<(usize, PacketView<'_>)>
         ensures { (w : WalkedState) → StandsForWalked (network_value T.tid T.records self.now) w
             → MatchOption result (w.network.flight number ≡ None)
-            (λ found. (f : Flight) × (w.network.flight number ≡ Some f) × (found.0 ≡ f.node) × (frame_of found.1 ≡ f.packet)) }
+            (λ found. (f : Flight) × (w.network.flight number ≡ Some f) × (found.0 ≡ f.node) × (packet_value_of found.1 ≡ f.packet)) }
     {
         let flight = self.traffic.flight(number)?;
         Some((flight.node, flight.packet.view()))
+    }
+
+    /// The index of the walker of this number, if there is one.
+    fn index_of(&self, number: usize) -> Option<usize>
+        ensures { MatchOption result ((number ≡ 0) ⊎ (length self.now.walkers.items < number))
+            (λ index. (index + 1 ≡ number) × (index < length self.now.walkers.items)) }
+    {
+        let index = number.checked_sub(1)?;
+        if index < self.walkers.len() {
+            Some(index)
+        } else {
+            None
+        }
     }
 
     /// The records that the walker of this number has collected, by place. None where there is no such walker.
@@ -210,8 +208,7 @@ impl<'a, T: Terminus> Network<'a, T> {
         ensures { (w : WalkedState) → StandsForWalked (network_value T.tid T.records self.now) w
             → MatchOption result (w.walker walker ≡ None) (λ found. (x : WalkerValue) × (w.walker walker ≡ Some x) × (map (λ v. v.items) found.now ≡ x.walk.records)) }
     {
-        let index = walker.checked_sub(1)?;
-        let walker = self.walkers.get(index)?;
-        Some(walker.records())
+        let index = self.index_of(walker)?;
+        Some(self.walkers[index].records())
     }
 }

@@ -1,4 +1,4 @@
-//! A walker at a node of a network.
+//! A walker at a node of a network (DSP0248, section 26.2).
 ghost use Rattle.std.specs.Prelude.{◌≡◌, ◌↔◌, ◌≤◌, ◌<◌, ℕ, IsTrue, IfOk, OnOk, OnErr, MatchOption, Some, None, Err, map, true};
 ghost use Rattle.pldm_message.specs.InstanceIds.{TakesBack};
 ghost use Rattle.pldm_message.specs.InstanceIdValues.{id_value, ids_of};
@@ -8,7 +8,7 @@ ghost use Rattle.net_runs.specs.Walkers.{fresh_walker, asking_key, answering_key
 
 use crate::standing::Standing;
 use mctp_transport::{Eid, Key, Tag};
-use pdr_repository::{MAX_RECORDS, Step, WalkFault, Walker};
+use pdr_repository::{MAX_RECORDS, WalkFault, WalkProgress, Walker};
 use pldm_message::{GetPdrRequest, InstanceId, InstanceIds};
 use std::alloc::{AllocError, Global};
 
@@ -160,7 +160,7 @@ impl NetworkWalker {
 
     /// Takes a message that came under the key of its answers, where room was made before. The instance ID of the outstanding
     /// request is free again where the message is its answer.
-    pub fn take(&mut self, message: &[u8]) -> Result<Step, WalkFault>
+    pub fn take(&mut self, message: &[u8]) -> Result<WalkProgress, WalkFault>
         requires { IsReady self.old }
         ensures { HasTakenMessage (walker_value self.old) message.now result (walker_value self.new) }
     {

@@ -1,6 +1,6 @@
 //! The payloads of the packets that a network keeps, and the rooms that they take.
 ghost use Rattle.std.specs.Prelude.{◌≡◌, ◌*◌, ◌<◌, ◌≤◌, ◌∷◌, List, length, All, IfOk, OnErr};
-ghost use Rattle.mctp_transport.specs.Frames.{Frame, IsUnit};
+ghost use Rattle.mctp_transport.specs.PacketValues.{PacketValue, IsUnit};
 ghost use Rattle.net_sim.specs.Payloads.{payload_bytes, IsRoomFor, HaveRooms};
 
 use arrayvec::ArrayVec;
@@ -58,8 +58,8 @@ pub fn room_for_payload(alloc: Global, count: usize) -> Result<Vec<u8>, AllocErr
 
 /// Takes a room off for the payload of the first of some packets. Where no room is left, the packets need none.
 pub fn take_room(alloc: Global, rooms: &mut Vec<Vec<u8>>) -> Vec<u8>
-    ensures first { (f : Frame) (fs : List Frame) → HaveRooms (f ∷ fs) rooms.old.items → IsRoomFor (length f.payload) result }
-    ensures others { (f : Frame) (fs : List Frame) → HaveRooms (f ∷ fs) rooms.old.items → HaveRooms fs rooms.new.items }
+    ensures first { (f : PacketValue) (fs : List PacketValue) → HaveRooms (f ∷ fs) rooms.old.items → IsRoomFor (length f.payload) result }
+    ensures others { (f : PacketValue) (fs : List PacketValue) → HaveRooms (f ∷ fs) rooms.old.items → HaveRooms fs rooms.new.items }
 {
     match rooms.pop() {
         Some(room) => room,

@@ -1,8 +1,8 @@
-//! A packet that has come to its node, and the room that this takes.
+//! A packet that has come to its node (DSP0236, "Message assembly"), and the room that this takes.
 ghost use Rattle.std.specs.Prelude.{◌≡◌, ◌≤◌, [], length, vec_capacity, true, IfOk, OnErr};
 ghost use Rattle.mctp_transport.specs.Histories.{History, Arrived, after};
 ghost use Rattle.mctp_transport.specs.Hearing.{Hears};
-ghost use Rattle.mctp_transport.specs.Assembly.{StandsFor, assembler_slots, assembler_limit};
+ghost use Rattle.mctp_transport.specs.Assembly.{HoldsHistory, assembler_slots, assembler_limit};
 ghost use Rattle.net_sim.specs.KeptPackets.{kept_frame};
 ghost use Rattle.net_sim.specs.Receiving.{receipt_value, HasRoomAfter};
 
@@ -54,10 +54,10 @@ pub fn feed(alloc: Global, assembler: &mut Assembler, packet: &KeptPacket, room:
     requires limit { assembler_limit assembler.old ≤ 4096 }
     ensures slots { assembler_slots assembler.new ≡ assembler_slots assembler.old }
     ensures limit { assembler_limit assembler.new ≡ assembler_limit assembler.old }
-    ensures hears { (h : History) → StandsFor assembler.old h
+    ensures hears { (h : History) → HoldsHistory assembler.old h
         → Hears (assembler_slots assembler.old) (assembler_limit assembler.old) h (kept_frame packet.now) (receipt_value result) }
-    ensures stands { (h : History) → StandsFor assembler.old h
-        → StandsFor assembler.new (after h (Arrived (kept_frame packet.now))) }
+    ensures stands { (h : History) → HoldsHistory assembler.old h
+        → HoldsHistory assembler.new (after h (Arrived (kept_frame packet.now))) }
 {
     match assembler.feed(packet.view()) {
         Fed::Whole(message) => Receipt::Whole(kept(alloc, message, room)),

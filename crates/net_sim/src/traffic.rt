@@ -13,8 +13,6 @@ mod moving;
 mod putting;
 mod settling;
 
-use crate::accepted::Accepted;
-use crate::assemblers::idle_assemblers;
 use crate::dealing::deal;
 use crate::effect::Effect;
 use crate::flights::{Flight, Flights};
@@ -22,7 +20,9 @@ use crate::payload::room_for_payload;
 use crate::refusal::Refusal;
 use crate::router::Router;
 use crate::terminus_queue::TerminusQueue;
-use mctp_transport::{Assembler, Eid};
+use mctp_transport::{Assembler, Eid, idle_assemblers};
+pub use moving::DecidedMove;
+use net_check::AcceptedNetwork;
 use net_plan::Plan;
 use pdr_repository::Terminus;
 use std::alloc::{AllocError, Global};
@@ -45,27 +45,26 @@ pub struct Traffic<'a, T> {
 
 impl<'a, T: Terminus> Traffic<'a, T> {
     ghost use Rattle.net_runs.specs.Events.{most_flights, Switch};
-    ghost use Rattle.net_sim.specs.Accepted.{tables_of, certificate_of, IsAccepted};
-    ghost use Rattle.net_sim.specs.Effects.{effect_value};
+    ghost use Rattle.net_check.specs.Accepted.{IsAccepted};
     ghost use Rattle.net_runs.specs.States.{at_start};
-    ghost use Rattle.net_sim.specs.Standing.{StandsFor, Plays};
-    ghost use Rattle.net_sim.specs.Traffics.{traffic_value, traffic_checked};
+    ghost use Rattle.net_sim.specs.Standing.{HasNetworkState};
+    ghost use Rattle.net_sim.specs.Traffics.{traffic_value, traffic_checked, HasEffect};
     ghost use Rattle.net_sim.specs.Dealing.{resting, at_rest, planned_termini};
-    ghost use Rattle.mctp_transport.specs.Frames.{IsUnit};
+    ghost use Rattle.mctp_transport.specs.PacketValues.{IsUnit};
     ghost use Rattle.net_tables.specs.Routing.{Holds};
 
     /// The network of what was checked, in which nothing has happened yet.
     #[tactic(auto, using(crate::proofs::Dealt::stands_at_rest))]
     pub fn start(
         alloc: Global,
-        accepted: Accepted<'a>,
+        accepted: AcceptedNetwork<'a>,
         termini: Vec<T>,
     ) -> Result<Traffic<'a, T>, AllocError>
-        ensures checked { IfOk result (λ network. traffic_checked network ≡ (tables_of accepted.entry, certificate_of accepted.entry)) }
-        ensures at_rest { IfOk result (λ network. StandsFor (traffic_value T.tid T.records network)
-            (at_rest (tables_of accepted.entry).plan (map (resting T.tid T.records) termini.items))) }
-        ensures stands { IfOk result (λ network. map (resting T.tid T.records) termini.items ≡ planned_termini (tables_of accepted.entry).plan (certificate_of accepted.entry)
-            → StandsFor (traffic_value T.tid T.records network) (at_start (tables_of accepted.entry).plan (certificate_of accepted.entry))) }
+        ensures checked { IfOk result (λ network. traffic_checked network ≡ accepted.entry) }
+        ensures at_rest { IfOk result (λ network. HasNetworkState (traffic_value T.tid T.records network)
+            (at_rest accepted.entry.0.plan (map (resting T.tid T.records) termini.items))) }
+        ensures stands { IfOk result (λ network. map (resting T.tid T.records) termini.items ≡ planned_termini accepted.entry.0.plan accepted.entry.1
+            → HasNetworkState (traffic_value T.tid T.records network) (at_start accepted.entry.0.plan accepted.entry.1)) }
     {
         let router = Router::new(alloc, accepted)?;
         let flights = Flights::new(alloc, router.plan().nodes.as_slice())?;
@@ -188,9 +187,7 @@ impl<'a, T: Terminus> Traffic<'a, T> {
     /// Lets a node go by its new rows from now on.
     pub fn switch(&mut self, node: usize) -> Effect
         ensures checked { traffic_checked self.new ≡ traffic_checked self.old }
-        ensures plays { Plays self.old.router.tables
-            (traffic_value T.tid T.records self.old) (Switch node) (effect_value result)
-            (traffic_value T.tid T.records self.new) }
+        ensures plays { HasEffect T.tid T.records self.old (Switch node) result self.new }
     {
         if !self.has_node(node) {
             Effect::Refused(Refusal::NoNode)

@@ -1,4 +1,4 @@
-//! The requests of an assignment, with instance ID 0.
+//! The requests of an assignment (DSP0236, "Set Endpoint ID" and "Allocate Endpoint IDs"), with instance ID 0.
 ghost use Rattle.std.specs.Prelude.{◌≡◌};
 ghost use Rattle.mctp_control.specs.Headers.{header_value};
 ghost use Rattle.mctp_control.specs.Requests.{request_value};

@@ -1,5 +1,5 @@
 //! One event of a network with walkers.
-ghost use Rattle.std.specs.Prelude.{◌≡◌, OnErr, MatchResult, None};
+ghost use Rattle.std.specs.Prelude.{◌≡◌, OnErr, None};
 ghost use Rattle.net_runs.specs.Walkers.{Happened};
 ghost use Rattle.net_sim.specs.Effects.{effect_value};
 ghost use Rattle.net_sim.specs.Outcomes.{outcome_value};
@@ -18,20 +18,13 @@ use std::alloc::AllocError;
 
 impl<'a, T: Terminus> Network<'a, T> {
     ghost use Rattle.net_sim.specs.Outcomes.{event_value};
-    ghost use Rattle.net_sim.specs.WalkedStanding.{WalkedPlays, WalkedWants};
-    ghost use Rattle.net_sim.specs.Networks.{network_value, checked_of};
+    ghost use Rattle.net_sim.specs.Networks.{checked_of, EndsInOutcome};
     ghost use Rattle.net_sim.specs.LackingRooms.{NetworkLacksRoom};
 
     /// Plays an event. Where memory runs out, nothing has changed.
     pub fn play(&mut self, event: &Event) -> Result<Outcome, AllocError>
         ensures checked { checked_of self.new ≡ checked_of self.old }
-        ensures plays { MatchResult result
-            (λ outcome. WalkedPlays (checked_of self.old).0
-            (network_value T.tid T.records self.old) (event_value event.now) (outcome_value outcome)
-            (network_value T.tid T.records self.new))
-            (λ _. WalkedWants (checked_of self.old).0
-            (network_value T.tid T.records self.old) (event_value event.now)
-            (network_value T.tid T.records self.new)) }
+        ensures plays { EndsInOutcome T.tid T.records self.old (event_value event.now) result self.new }
         ensures full { OnErr result (NetworkLacksRoom self.old (event_value event.now)) }
     {
         match event {
@@ -39,7 +32,9 @@ impl<'a, T: Terminus> Network<'a, T> {
             Event::Move { flight, keep } => self.move_flight(*flight, *keep),
             Event::Lose { flight } => Ok(happened(self.traffic.lose(*flight))),
             Event::Expire { node, key } => Ok(happened(self.traffic.expire(*node, *key))),
-            Event::Answer { node } => Ok(happened(self.traffic.answer(*node)?)),
+            Event::Answer { node } => {
+                Ok(happened(self.traffic.answer(*node, &mut self.answer)?))
+            }
             Event::Switch { node } => Ok(happened(self.traffic.switch(*node))),
             Event::Walk {
                 node,
@@ -47,8 +42,8 @@ impl<'a, T: Terminus> Network<'a, T> {
                 tag,
                 count,
             } => self.begin(*node, *eid, *tag, *count),
-            Event::Ask { walker } => self.ask(*walker),
-            Event::Collected { walker } => Ok(self.tell(*walker)),
+            Event::Ask { walker } => self.ask(*walker as usize),
+            Event::Collected { walker } => Ok(self.tell(*walker as usize)),
         }
     }
 }

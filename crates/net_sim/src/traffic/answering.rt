@@ -1,5 +1,5 @@
-//! Termini that answer.
-ghost use Rattle.std.specs.Prelude.{◌≡◌, All, ◌+◌, ◌*◌, ◌-◌, ◌<◌, ◌≤◌, MatchResult, OnErr, length, Some, false};
+//! Termini that answer (DSP0248, section 26.2), in packets (DSP0236, section 8.3).
+ghost use Rattle.std.specs.Prelude.{◌≡◌, All, ◌+◌, ◌*◌, ◌-◌, ◌<◌, ◌≤◌, OnErr, length, Some, false};
 ghost use Rattle.mctp_transport.specs.Packets.{key_value};
 ghost use Rattle.net_runs.specs.States.{unit_of};
 ghost use Rattle.net_sim.specs.Flights.{slots_of, room_of};
@@ -12,27 +12,24 @@ use crate::refusal::Refusal;
 use crate::terminus_queue::{answer_at, idle_at};
 use arrayvec::ArrayVec;
 use mctp_transport::{Key, Packets, Seq};
-use pdr_repository::Terminus;
+use pdr_repository::{MAX_ANSWER, Terminus};
 use std::alloc::AllocError;
 
 impl<'a, T: Terminus> Traffic<'a, T> {
     ghost use Rattle.net_runs.specs.Events.{most_flights, AnswerAt};
     ghost use Rattle.net_sim.specs.Effects.{effect_value};
-    ghost use Rattle.net_sim.specs.Standing.{Plays, Wants};
-    ghost use Rattle.net_sim.specs.Traffics.{traffic_value};
+    ghost use Rattle.net_sim.specs.Traffics.{EndsInEffect};
     ghost use Rattle.net_sim.specs.Sending.{Sends};
     ghost use Rattle.net_sim.specs.LackingRooms.{LacksRoom};
 
-    /// Lets the terminus of a node answer the oldest message that waits there.
-    pub fn answer(&mut self, node: usize) -> Result<Effect, AllocError>
+    /// Lets the terminus of a node answer the oldest message that waits there. Its answer is written into `out`.
+    pub fn answer(
+        &mut self,
+        node: usize,
+        out: &mut ArrayVec<u8, MAX_ANSWER>,
+    ) -> Result<Effect, AllocError>
         ensures router { self.new.router ≡ self.old.router }
-        ensures plays { MatchResult result
-            (λ outcome. Plays self.old.router.tables
-            (traffic_value T.tid T.records self.old) (AnswerAt node) (effect_value outcome)
-            (traffic_value T.tid T.records self.new))
-            (λ _. Wants self.old.router.tables
-            (traffic_value T.tid T.records self.old) (AnswerAt node)
-            (traffic_value T.tid T.records self.new)) }
+        ensures plays { EndsInEffect T.tid T.records self.old (AnswerAt node) result self.new }
         ensures full { OnErr result (LacksRoom self.old (AnswerAt node)) }
     {
         if !self.has_node(node) {
@@ -50,14 +47,13 @@ impl<'a, T: Terminus> Traffic<'a, T> {
         if self.reserve(64).is_err() {
             return Err(AllocError);
         }
-        let mut out = ArrayVec::new();
-        let Some(asked) = answer_at(&mut self.queues[node], &mut out) else {
+        let Some(asked) = answer_at(&mut self.queues[node], out) else {
             return Ok(Effect::Refused(Refusal::NothingWaits));
         };
         if !asked.answered {
             return Ok(Effect::Silent { node });
         }
-        Ok(self.send(node, asked.key, &out, rooms))
+        Ok(self.send(node, asked.key, out, rooms))
     }
 
     /// Puts the packets of an answer in at a node, to where a message of this key came from. Their long payloads are

@@ -10,16 +10,12 @@ use pdr_repository::Terminus;
 
 impl<'a, T: Terminus> Traffic<'a, T> {
     ghost use Rattle.net_runs.specs.Events.{Lose, Expire};
-    ghost use Rattle.net_sim.specs.Effects.{effect_value};
-    ghost use Rattle.net_sim.specs.Standing.{Plays};
-    ghost use Rattle.net_sim.specs.Traffics.{traffic_value};
+    ghost use Rattle.net_sim.specs.Traffics.{HasEffect};
 
     /// Loses a flight.
     pub fn lose(&mut self, number: u32) -> Effect
         ensures router { self.new.router ≡ self.old.router }
-        ensures plays { Plays self.old.router.tables
-            (traffic_value T.tid T.records self.old) (Lose number) (effect_value result)
-            (traffic_value T.tid T.records self.new) }
+        ensures plays { HasEffect T.tid T.records self.old (Lose number) result self.new }
     {
         if !self.flights.has(number) {
             return Effect::Refused(Refusal::NoFlight);
@@ -31,9 +27,7 @@ impl<'a, T: Terminus> Traffic<'a, T> {
     /// Ends the message of a key at a node.
     pub fn expire(&mut self, node: usize, key: Key) -> Effect
         ensures router { self.new.router ≡ self.old.router }
-        ensures plays { Plays self.old.router.tables
-            (traffic_value T.tid T.records self.old) (Expire node (key_value key)) (effect_value result)
-            (traffic_value T.tid T.records self.new) }
+        ensures plays { HasEffect T.tid T.records self.old (Expire node (key_value key)) result self.new }
     {
         if !self.has_node(node) {
             return Effect::Refused(Refusal::NoNode);

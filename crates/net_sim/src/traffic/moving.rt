@@ -1,9 +1,7 @@
 //! Packets on their way, and what comes of one that enters a node.
-ghost use Rattle.std.specs.Prelude.{◌≡◌, ℕ, ◌+◌, ◌-◌, ◌<◌, ◌≤◌, [], MatchResult, MatchOption, None, IfSome, IfOk, OnOk, OnErr, ◌⊎◌, length, Some, false, true};
-ghost use Rattle.mctp_transport.specs.Packets.{key_value};
+ghost use Rattle.std.specs.Prelude.{◌≡◌, ◌+◌, ◌<◌, ◌≤◌, ◌++◌, ◌∷◌, [], MatchResult, IfSome, IfOk, OnOk, OnErr, ◌⊎◌, length, is_some, Some, false, true};
 ghost use Rattle.net_runs.specs.States.{Flight};
-ghost use Rattle.net_sim.specs.Flights.{slots_of, flight_value, room_of};
-ghost use Rattle.net_sim.specs.Receiving.{HasRoomAfter};
+ghost use Rattle.net_sim.specs.Flights.{slots_of, flight_at, flight_value, room_of};
 
 use super::Traffic;
 use crate::effect::Effect;
@@ -16,6 +14,20 @@ use mctp_transport::{Header, Key};
 use pdr_repository::Terminus;
 use std::alloc::AllocError;
 
+/// A move that isn't refused, and what is decided on it.
+#[derive(Clone, Copy, Debug)]
+pub struct DecidedMove {
+    /// The node where the flight is.
+    pub node: usize,
+    /// The key of its packet.
+    pub key: Key,
+    header: Header,
+    /// How often the flight has moved before.
+    hops: u8,
+    /// What that node does with the packet.
+    pub decision: Decision,
+}
+
 /// Room for a message that is told, and for the same message that waits.
 #[derive(Drop)]
 struct Room {
@@ -24,147 +36,137 @@ struct Room {
 }
 
 impl<'a, T: Terminus> Traffic<'a, T> {
-    ghost use Rattle.net_runs.specs.Events.{Move};
+    ghost use Rattle.net_runs.specs.Events.{most_flights, Move};
     ghost use Rattle.net_sim.specs.Effects.{effect_value};
-    ghost use Rattle.net_sim.specs.Standing.{StandsFor, Plays, Wants, Receives};
-    ghost use Rattle.net_sim.specs.Traffics.{traffic_value, HasRoomAt};
-    ghost use Rattle.net_sim.specs.Arrivals.{Arrives};
-    ghost use Rattle.net_sim.specs.LackingRooms.{LacksRoom, ArrivesAt};
-    ghost use Rattle.mctp_transport.specs.Frames.{KeyValue};
-    ghost use Rattle.net_runs.specs.States.{NetworkState};
+    ghost use Rattle.net_sim.specs.Standing.{Receives, CarriesOutMove};
+    ghost use Rattle.net_sim.specs.Traffics.{traffic_value, HasRoomAt, HasEffect, EndsInEffect};
+    ghost use Rattle.net_sim.specs.Moves.{HasNumberFor, IsDecidedMove, IsRoomAt};
+    ghost use Rattle.net_sim.specs.LackingRooms.{LacksRoom};
 
-    /// Moves a flight, or a copy of it.
-    pub fn move_flight(&mut self, number: u32, keep: bool) -> Result<Effect, AllocError>
+    /// What a move comes to, of a flight or of a copy of it, or why it is refused.
+    pub fn decide(&self, number: u32, keep: bool) -> Result<DecidedMove, Refusal>
+        ensures { MatchResult result
+            (λ decided. IsDecidedMove self.now.router (slots_of self.now.flights) number decided × HasNumberFor (slots_of self.now.flights) keep)
+            (λ why. HasEffect T.tid T.records self.now (Move number keep) (Effect.Refused why) self.now) }
+    {
+        let Some(flight) = self.flights.get(number) else {
+            return Err(Refusal::NoFlight);
+        };
+        if keep && self.left() < 1 {
+            return Err(Refusal::NoNumbers);
+        }
+        Ok(DecidedMove {
+            node: flight.node,
+            key: flight.packet.view().key(),
+            header: flight.packet.header,
+            hops: flight.hops,
+            decision: self.router.decide(flight),
+        })
+    }
+
+    /// Moves the flight, or a copy of it, as was decided.
+    pub fn move_flight(
+        &mut self,
+        number: u32,
+        keep: bool,
+        decided: &DecidedMove,
+    ) -> Result<Effect, AllocError>
+        requires decided { IsDecidedMove self.old.router (slots_of self.old.flights) number decided.now }
+        requires few { HasNumberFor (slots_of self.old.flights) keep }
         ensures router { self.new.router ≡ self.old.router }
-        ensures plays { MatchResult result
-            (λ outcome. Plays self.old.router.tables
-            (traffic_value T.tid T.records self.old) (Move number keep) (effect_value outcome)
-            (traffic_value T.tid T.records self.new))
-            (λ _. Wants self.old.router.tables
-            (traffic_value T.tid T.records self.old) (Move number keep)
-            (traffic_value T.tid T.records self.new)) }
+        ensures plays { EndsInEffect T.tid T.records self.old (Move number keep) result self.new }
         ensures full { OnErr result (LacksRoom self.old (Move number keep)) }
     {
+        let room = self.room_for(decided)?;
         if keep {
-            self.move_copy(number)
+            let copy = self.put_copy(number)?;
+            Ok(self.carry_out(copy, decided, room))
         } else {
-            self.move_itself(number)
+            Ok(self.carry_out(number, decided, room))
         }
     }
 
-    /// Moves a flight.
-    fn move_itself(&mut self, number: u32) -> Result<Effect, AllocError>
-        ensures router { self.new.router ≡ self.old.router }
-        ensures plays { MatchResult result
-            (λ outcome. Plays self.old.router.tables
-            (traffic_value T.tid T.records self.old) (Move number false) (effect_value outcome)
-            (traffic_value T.tid T.records self.new))
-            (λ _. Wants self.old.router.tables
-            (traffic_value T.tid T.records self.old) (Move number false)
-            (traffic_value T.tid T.records self.new)) }
-        ensures full { OnErr result (LacksRoom self.old (Move number false)) }
-    {
-        let Some(flight) = self.flights.get(number) else {
-            return Ok(Effect::Refused(Refusal::NoFlight));
-        };
-        match self.router.decide(flight) {
-            Decision::Here => {
-                let (node, header) = (flight.node, flight.packet.header);
-                let room = self.room_at(node, header)?;
-                let Some(flight) = self.end(number) else {
-                    unreachable!();
-                };
-                Ok(self.receive(number, &flight, room))
-            }
-            Decision::Drop(why) => {
-                let _ = self.end(number);
-                Ok(Effect::Stopped { number, why })
-            }
-            Decision::Forward(hop) => {
-                let hops = flight.hops + 1;
-                self.go_on(number, hop.next);
-                Ok(Effect::Moved {
-                    number,
-                    node: hop.next,
-                    hops,
-                })
-            }
-        }
-    }
-
-    /// Moves a copy of a flight, which stays.
-    fn move_copy(&mut self, number: u32) -> Result<Effect, AllocError>
-        ensures router { self.new.router ≡ self.old.router }
-        ensures plays { MatchResult result
-            (λ outcome. Plays self.old.router.tables
-            (traffic_value T.tid T.records self.old) (Move number true) (effect_value outcome)
-            (traffic_value T.tid T.records self.new))
-            (λ _. Wants self.old.router.tables
-            (traffic_value T.tid T.records self.old) (Move number true)
-            (traffic_value T.tid T.records self.new)) }
-        ensures full { OnErr result (LacksRoom self.old (Move number true)) }
-    {
-        let Some(flight) = self.flights.get(number) else {
-            return Ok(Effect::Refused(Refusal::NoFlight));
-        };
-        if self.left() < 1 {
-            return Ok(Effect::Refused(Refusal::NoNumbers));
-        }
-        let Ok(mut copy) = flight.copy(self.alloc) else {
-            return Err(AllocError);
-        };
-        if self.reserve(1).is_err() {
-            return Err(AllocError);
-        }
-        match self.router.decide(&copy) {
-            Decision::Here => {
-                let room = self.room_at(copy.node, copy.packet.header)?;
-                let number = self.add(None);
-                Ok(self.receive(number, &copy, room))
-            }
-            Decision::Drop(why) => {
-                let number = self.add(None);
-                Ok(Effect::Stopped { number, why })
-            }
-            Decision::Forward(hop) => {
-                copy.go_on(hop.next);
-                let hops = copy.hops;
-                let number = self.add(Some(copy));
-                Ok(Effect::Moved {
-                    number,
-                    node: hop.next,
-                    hops,
-                })
-            }
-        }
-    }
-
-    /// Room for what a packet with this header can lead to at a node: a message that is told, and one that waits.
-    fn room_at(&mut self, node: usize, header: Header) -> Result<Room, AllocError>
-        requires { node < length self.old.router.tables.plan.nodes.items }
+    /// Room for what the move can lead to at its node: a message that is told, and one that waits. None is made where the
+    /// packet isn't taken in.
+    fn room_for(&mut self, decided: &DecidedMove) -> Result<Room, AllocError>
+        requires { decided.now.node < length self.old.router.tables.plan.nodes.items }
         ensures flights { slots_of self.new.flights ≡ slots_of self.old.flights }
         ensures room { room_of self.new.flights ≡ room_of self.old.flights }
         ensures router { self.new.router ≡ self.old.router }
         ensures assemblers { self.new.assemblers.items ≡ self.old.assemblers.items }
         ensures termini { (traffic_value T.tid T.records self.new).termini
             ≡ (traffic_value T.tid T.records self.old).termini }
-        ensures told { IfOk result (λ room. (room.told.items ≡ []) × HasRoomAfter header room.told) }
-        ensures kept { IfOk result (λ room. (room.kept.items ≡ []) × HasRoomAfter header room.kept) }
-        ensures queue { OnOk result (HasRoomAt self.new node) }
-        ensures full { OnErr result ((header.eom ≡ true) ⊎ ¬ HasRoomAt self.old node) }
+        ensures enough { IfOk result (λ room. decided.now.decision ≡ Decision.Deliver → IsRoomAt self.new decided.now.node decided.now.header room) }
+        ensures full { OnErr result ((decided.now.decision ≡ Decision.Deliver)
+            × ((decided.now.header.eom ≡ true) ⊎ ¬ HasRoomAt self.old decided.now.node)) }
     {
-        let told = room_for_message(self.alloc, header)?;
-        let kept = room_for_message(self.alloc, header)?;
-        reserve_at(&mut self.queues[node])?;
+        let Decision::Deliver = decided.decision else {
+            return Ok(Room {
+                told: Vec::new(self.alloc),
+                kept: Vec::new(self.alloc),
+            });
+        };
+        let told = room_for_message(self.alloc, decided.header)?;
+        let kept = room_for_message(self.alloc, decided.header)?;
+        reserve_at(&mut self.queues[decided.node])?;
         Ok(Room { told, kept })
+    }
+
+    /// Puts a copy of a flight in where that is, under the next number.
+    fn put_copy(&mut self, number: u32) -> Result<u32, AllocError>
+        requires there { is_some (flight_at (slots_of self.old.flights) number) ≡ true }
+        requires few { length (slots_of self.old.flights) ≤ most_flights }
+        ensures number { IfOk result (λ copy. copy ≡ length (slots_of self.old.flights)) }
+        ensures flights { OnOk result (slots_of self.new.flights ≡ slots_of self.old.flights ++ flight_at (slots_of self.old.flights) number ∷ []) }
+        ensures none { OnErr result (slots_of self.new.flights ≡ slots_of self.old.flights) }
+        ensures router { self.new.router ≡ self.old.router }
+        ensures assemblers { self.new.assemblers.items ≡ self.old.assemblers.items }
+        ensures queues { self.new.queues.items ≡ self.old.queues.items }
+        ensures full { OnErr result ((room_of self.old.flights < 1)
+            ⊎ IfSome (flight_at (slots_of self.old.flights) number) (λ f. 64 < length f.packet.payload)) }
+    {
+        let Some(flight) = self.flights.get(number) else {
+            unreachable!();
+        };
+        let copy = flight.copy(self.alloc)?;
+        self.reserve(1)?;
+        Ok(self.add(Some(copy)))
+    }
+
+    /// Moves the flight of this number, as was decided.
+    fn carry_out(&mut self, number: u32, decided: &DecidedMove, room: Room) -> Effect
+        requires decided { IsDecidedMove self.old.router (slots_of self.old.flights) number decided.now }
+        requires enough { decided.now.decision ≡ Decision.Deliver → IsRoomAt self.old decided.now.node decided.now.header room }
+        ensures router { self.new.router ≡ self.old.router }
+        ensures moves { CarriesOutMove self.old.router.tables (traffic_value T.tid T.records self.old) number
+            (effect_value result) (traffic_value T.tid T.records self.new) }
+    {
+        match decided.decision {
+            Decision::Deliver => {
+                let Some(flight) = self.end(number) else {
+                    unreachable!();
+                };
+                self.receive(number, &flight, room)
+            }
+            Decision::Drop(why) => {
+                let _ = self.end(number);
+                Effect::Stopped { number, why }
+            }
+            Decision::Forward(hop) => {
+                self.go_on(number, hop.next);
+                Effect::Moved {
+                    number,
+                    node: hop.next,
+                    hops: decided.hops + 1,
+                }
+            }
+        }
     }
 
     /// Takes a flight's packet in at its node.
     fn receive(&mut self, number: u32, flight: &Flight, room: Room) -> Effect
         requires node { flight.now.node < length self.old.router.tables.plan.nodes.items }
-        requires told { (room.told.items ≡ []) × HasRoomAfter flight.now.packet.header room.told }
-        requires kept { (room.kept.items ≡ []) × HasRoomAfter flight.now.packet.header room.kept }
-        requires queue { HasRoomAt self.old flight.now.node }
+        requires enough { IsRoomAt self.old flight.now.node flight.now.packet.header room }
         ensures router { self.new.router ≡ self.old.router }
         ensures receives { Receives (traffic_value T.tid T.records self.old) number
             (flight_value flight.now) (effect_value result)
@@ -196,23 +198,5 @@ impl<'a, T: Terminus> Traffic<'a, T> {
                 why,
             },
         }
-    }
-
-    /// The node into which the move of a flight brings its packet, and the packet's key. None where it is refused, or the
-    /// flight goes on or ends on its way.
-    pub fn arrival(&self, number: u32, keep: bool) -> Option<(usize, Key)>
-        ensures arrives { (w : NetworkState) → StandsFor (traffic_value T.tid T.records self.now) w
-            → MatchOption result ((node : ℕ) (key : KeyValue) → ¬ Arrives self.now.router.tables w number keep node key)
-            (λ at. Arrives self.now.router.tables w number keep at.0 (key_value at.1)) }
-        ensures there { IfSome result (λ at. ArrivesAt self.now number at.0 (key_value at.1)) }
-    {
-        if keep && self.left() < 1 {
-            return None;
-        }
-        let flight = self.flights.get(number)?;
-        if self.eid_at(flight.node) != flight.packet.header.destination {
-            return None;
-        }
-        Some((flight.node, flight.packet.view().key()))
     }
 }

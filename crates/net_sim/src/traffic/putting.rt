@@ -1,5 +1,5 @@
 //! Packets that are put in.
-ghost use Rattle.std.specs.Prelude.{◌≡◌, ◌+◌, ◌-◌, ◌<◌, ◌≤◌, ◌++◌, MatchResult, OnErr, length, map, Some};
+ghost use Rattle.std.specs.Prelude.{◌≡◌, ◌+◌, ◌-◌, ◌<◌, ◌≤◌, ◌++◌, OnErr, length, map, Some};
 ghost use Rattle.mctp_transport.specs.Packets.{key_value};
 ghost use Rattle.net_runs.specs.States.{Flight};
 ghost use Rattle.net_sim.specs.Flights.{slots_of, begun, room_of};
@@ -17,22 +17,14 @@ use std::alloc::AllocError;
 impl<'a, T: Terminus> Traffic<'a, T> {
     ghost use Rattle.net_runs.specs.Events.{most_flights, Put};
     ghost use Rattle.mctp_transport.specs.PacketsLeft.{frames_left};
-    ghost use Rattle.net_sim.specs.Effects.{effect_value};
-    ghost use Rattle.net_sim.specs.Standing.{Plays, Wants};
-    ghost use Rattle.net_sim.specs.Traffics.{traffic_value};
+    ghost use Rattle.net_sim.specs.Traffics.{traffic_value, EndsInEffect};
     ghost use Rattle.net_sim.specs.Sending.{PutsOne};
     ghost use Rattle.net_sim.specs.LackingRooms.{LacksRoom};
 
     /// Puts the packet of these bytes in at a node.
     pub fn put(&mut self, node: usize, bytes: &[u8]) -> Result<Effect, AllocError>
         ensures router { self.new.router ≡ self.old.router }
-        ensures plays { MatchResult result
-            (λ outcome. Plays self.old.router.tables
-            (traffic_value T.tid T.records self.old) (Put node bytes.now) (effect_value outcome)
-            (traffic_value T.tid T.records self.new))
-            (λ _. Wants self.old.router.tables
-            (traffic_value T.tid T.records self.old) (Put node bytes.now)
-            (traffic_value T.tid T.records self.new)) }
+        ensures plays { EndsInEffect T.tid T.records self.old (Put node bytes.now) result self.new }
         ensures full { OnErr result (LacksRoom self.old (Put node bytes.now)) }
     {
         if !self.has_node(node) {

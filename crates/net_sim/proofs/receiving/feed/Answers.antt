@@ -1,5 +1,5 @@
 use Rattle.std.proofs.Common.{◌≡◌, sym, subst, arith}
-use Rattle.mctp_transport.specs.Frames.{Frame}
+use Rattle.mctp_transport.specs.PacketValues.{PacketValue}
 use Rattle.mctp_transport.specs.Histories.{Comes, Arrived, after}
 use Rattle.mctp_transport.specs.Hearing.{IsDropped}
 use Rattle.mctp_transport.specs.Assembly.{assembler_slots, assembler_limit}
@@ -13,7 +13,7 @@ returns-in-Whole-clause-hears c h stands =
     let limit = assembler_limit c.args.assembler.now in
     let message = c.in-Whole.message.now in
     let came : Comes slots limit (after h (Arrived (kept_frame c.args.packet.now))) message =
-    subst (λ (p : Frame). Comes slots limit (after h (Arrived p)) message) c.view.ensures (c.in-Whole.ensures.hears h stands).hears in
+    subst (λ (p : PacketValue). Comes slots limit (after h (Arrived p)) message) c.view.ensures (c.in-Whole.ensures.hears h stands).hears in
     let room = c.requires.room (comes_ends slots limit h (kept_frame c.args.packet.now) message came) in
     let same : c.kept.result.items ≡ message = c.kept.ensures (omega (arith, came.fits, room, c.requires.limit)) in
     subst (Comes slots limit (after h (Arrived (kept_frame c.args.packet.now)))) (sym same) came

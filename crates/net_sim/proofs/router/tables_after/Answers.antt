@@ -1,6 +1,5 @@
 use Rattle.std.proofs.Common.{length}
 use Rattle.std.proofs.lemmas.Result.{IfOk-weaker}
-use Rattle.net_sim.specs.Accepted.{tables_of, certificate_of}
 use Rattle.net_tables.specs.Tables.{AreTabled}
 use Rattle.net_sim.specs.Routers.{AreTabledAfter}
 use Rattle.net_sim.proofs.Tabled.{are_rows_after, tabled_after}
@@ -8,13 +7,13 @@ use Rattle.net_sim.proofs.router.tables_after.Goals as goal
 
 pub routing_tables-requires : goal.routing_tables-requires
 routing_tables-requires c =
-    let rows = are_rows_after (tables_of c.args.accepted.now).plan c.in-Some.after.now (certificate_of c.args.accepted.now) c.in-Some.ensures.accepted in
+    let rows = are_rows_after c.args.accepted.now.0.plan c.in-Some.after.now c.args.accepted.now.1 c.in-Some.ensures.accepted in
     record { apart = rows.0; in_range = rows.1 }
 
 pub returns-in-Some : goal.returns-in-Some
 returns-in-Some c =
-    let tables = tables_of c.args.accepted.now in
+    let tables = c.args.accepted.now.0 in
     let after = c.in-Some.after.now in
     IfOk-weaker c.routing_tables.result (λ made. AreTabled after (length after.nodes.items) made.items) (λ made. AreTabledAfter tables.plan tables.after made.items)
-    (λ made are. tabled_after tables.plan after (certificate_of c.args.accepted.now) tables.after c.in-Some.ensures.plan c.in-Some.ensures.accepted made.items are)
+    (λ made are. tabled_after tables.plan after c.args.accepted.now.1 tables.after c.in-Some.ensures.plan c.in-Some.ensures.accepted made.items are)
     c.routing_tables.ensures

@@ -1,9 +1,9 @@
 //! A walker's request is put in.
-ghost use Rattle.std.specs.Prelude.{◌≡◌, ◌↔◌, ◌<◌, ℕ, length, IsTrue, OnErr, MatchOption, MatchResult};
+ghost use Rattle.std.specs.Prelude.{◌≡◌, ◌↔◌, ◌<◌, ℕ, length, IsTrue, OnErr, MatchOption};
 ghost use Rattle.net_tables.specs.Routing.{Holds};
 ghost use Rattle.net_runs.specs.States.{NetworkState};
 ghost use Rattle.net_runs.specs.Walkers.{IsOver, AreSettled};
-ghost use Rattle.net_sim.specs.Standing.{StandsFor};
+ghost use Rattle.net_sim.specs.Standing.{HasNetworkState};
 ghost use Rattle.net_sim.specs.Traffics.{traffic_value, traffic_checked, HasNumberAndRoom};
 ghost use Rattle.net_sim.specs.NetworkWalkers.{walker_value};
 ghost use Rattle.net_sim.specs.Requests.{MayAsk, MayNotAsk, PutsRequest};
@@ -20,21 +20,13 @@ use std::alloc::AllocError;
 
 impl<'a, T: Terminus> Network<'a, T> {
     ghost use Rattle.net_runs.specs.Walkers.{Ask};
-    ghost use Rattle.net_sim.specs.Outcomes.{outcome_value};
-    ghost use Rattle.net_sim.specs.WalkedStanding.{WalkedPlays, WalkedWants};
-    ghost use Rattle.net_sim.specs.Networks.{network_value, checked_of};
+    ghost use Rattle.net_sim.specs.Networks.{checked_of, EndsInOutcome};
     ghost use Rattle.net_sim.specs.LackingRooms.{NetworkLacksRoom};
 
     /// Puts the request of the walker of this number in at its node: the next one, or once more the outstanding one.
-    pub(super) fn ask(&mut self, number: u32) -> Result<Outcome, AllocError>
+    pub(super) fn ask(&mut self, number: usize) -> Result<Outcome, AllocError>
         ensures checked { checked_of self.new ≡ checked_of self.old }
-        ensures plays { MatchResult result
-            (λ outcome. WalkedPlays (checked_of self.old).0
-            (network_value T.tid T.records self.old) (Ask number) (outcome_value outcome)
-            (network_value T.tid T.records self.new))
-            (λ _. WalkedWants (checked_of self.old).0
-            (network_value T.tid T.records self.old) (Ask number)
-            (network_value T.tid T.records self.new)) }
+        ensures plays { EndsInOutcome T.tid T.records self.old (Ask number) result self.new }
         ensures full { OnErr result (NetworkLacksRoom self.old (Ask number)) }
     {
         if self.traffic.left() < 1 {
@@ -60,7 +52,7 @@ impl<'a, T: Terminus> Network<'a, T> {
 /// Why the walker can't ask, if so: its walk is over, or a new request of it has to wait.
 fn why_not_ask<T: Terminus>(traffic: &Traffic<T>, walker: &NetworkWalker) -> Option<WalkRefusal>
     requires { (walker_value walker.now).node < length (traffic_checked traffic.now).0.plan.nodes.items }
-    ensures { (w : NetworkState) → StandsFor (traffic_value T.tid T.records traffic.now) w
+    ensures { (w : NetworkState) → HasNetworkState (traffic_value T.tid T.records traffic.now) w
         → MatchOption result (MayAsk (traffic_checked traffic.now).0.plan w (walker_value walker.now))
         (λ why. MayNotAsk (traffic_checked traffic.now).0.plan w (walker_value walker.now) (walk_refusal_value why)) }
 {
@@ -76,7 +68,7 @@ fn why_not_ask<T: Terminus>(traffic: &Traffic<T>, walker: &NetworkWalker) -> Opt
 /// Whether the keys of the walker's requests and of their answers are settled.
 fn are_settled<T: Terminus>(traffic: &Traffic<T>, walker: &NetworkWalker) -> bool
     requires { (walker_value walker.now).node < length (traffic_checked traffic.now).0.plan.nodes.items }
-    ensures { (w : NetworkState) (own : ℕ) → StandsFor (traffic_value T.tid T.records traffic.now) w
+    ensures { (w : NetworkState) (own : ℕ) → HasNetworkState (traffic_value T.tid T.records traffic.now) w
         → Holds (traffic_checked traffic.now).0.plan (walker_value walker.now).node own
         → IsTrue result ↔ AreSettled (traffic_checked traffic.now).0.plan w own (walker_value walker.now) }
 {

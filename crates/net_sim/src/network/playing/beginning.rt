@@ -1,5 +1,5 @@
 //! A walk begins.
-ghost use Rattle.std.specs.Prelude.{◌≡◌, ◌↔◌, ◌≤◌, ◌<◌, length, option_map, Any, All, IsTrue, IfNone, MatchOption, MatchResult};
+ghost use Rattle.std.specs.Prelude.{◌≡◌, ◌↔◌, ◌≤◌, ◌<◌, length, option_map, Any, All, IsTrue, IfNone, MatchOption};
 
 use crate::network::Network;
 use crate::network_walker::NetworkWalker;
@@ -16,10 +16,10 @@ const LEAST_COUNT: u16 = 8;
 impl<'a, T: Terminus> Network<'a, T> {
     ghost use Rattle.net_runs.specs.Walkers.{WalkedState, BeginWalk};
     ghost use Rattle.net_sim.specs.Requests.{WhyNot};
-    ghost use Rattle.net_sim.specs.Outcomes.{outcome_value, walk_refusal_value};
+    ghost use Rattle.net_sim.specs.Outcomes.{walk_refusal_value};
     ghost use Rattle.net_sim.specs.NetworkWalkers.{walker_value, IsAt, StandsAt};
-    ghost use Rattle.net_sim.specs.WalkedStanding.{StandsForWalked, WalkedPlays, WalkedWants};
-    ghost use Rattle.net_sim.specs.Networks.{network_value, checked_of};
+    ghost use Rattle.net_sim.specs.WalkedStanding.{StandsForWalked};
+    ghost use Rattle.net_sim.specs.Networks.{network_value, checked_of, EndsInOutcome};
 
     /// Begins a walk at a node, which asks the terminus at the endpoint ID under the tag for parts of at most `count` bytes.
     pub(super) fn begin(
@@ -30,13 +30,7 @@ impl<'a, T: Terminus> Network<'a, T> {
         count: u16,
     ) -> Result<Outcome, AllocError>
         ensures checked { checked_of self.new ≡ checked_of self.old }
-        ensures plays { MatchResult result
-            (λ outcome. WalkedPlays (checked_of self.old).0
-            (network_value T.tid T.records self.old) (BeginWalk node eid.value tag.value count) (outcome_value outcome)
-            (network_value T.tid T.records self.new))
-            (λ _. WalkedWants (checked_of self.old).0
-            (network_value T.tid T.records self.old) (BeginWalk node eid.value tag.value count)
-            (network_value T.tid T.records self.new)) }
+        ensures plays { EndsInOutcome T.tid T.records self.old (BeginWalk node eid.value tag.value count) result self.new }
     {
         if let Some(why) = self.why_not_begin(node, eid, tag, count) {
             return Ok(Outcome::Refused(why));

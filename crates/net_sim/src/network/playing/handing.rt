@@ -1,69 +1,60 @@
 //! A flight moves, and a message that comes is handed to the walker that it is for.
-ghost use Rattle.std.specs.Prelude.{◌≡◌, ◌<◌, ℕ, All, length, slice_get, option_map, Some, IfSome, OnErr, MatchOption, MatchResult};
+ghost use Rattle.std.specs.Prelude.{◌≡◌, ◌<◌, All, length, option_map, IfSome, OnErr, MatchOption};
 ghost use Rattle.net_sim.specs.Effects.{effect_value};
 ghost use Rattle.net_sim.specs.Outcomes.{handed_value};
 ghost use Rattle.net_sim.specs.NetworkWalkers.{walker_value, IsReady, HandsOver};
 
+use super::happened;
 use crate::effect::Effect;
 use crate::handed::Handed;
 use crate::network::Network;
 use crate::network_walker::NetworkWalker;
 use crate::outcome::Outcome;
+use crate::traffic::DecidedMove;
+use mctp_bridge::Decision;
 use mctp_transport::Key;
 use pdr_repository::Terminus;
 use std::alloc::AllocError;
 
 impl<'a, T: Terminus> Network<'a, T> {
     ghost use Rattle.mctp_transport.specs.Packets.{key_value};
-    ghost use Rattle.mctp_transport.specs.Frames.{KeyValue};
     ghost use Rattle.net_runs.specs.Events.{Move};
-    ghost use Rattle.net_runs.specs.Walkers.{WalkerValue, WalkedState, Happening, answering_key};
-    ghost use Rattle.net_sim.specs.Outcomes.{outcome_value};
-    ghost use Rattle.net_sim.specs.Arrivals.{Arrives};
+    ghost use Rattle.net_runs.specs.Walkers.{Happening};
+    ghost use Rattle.net_sim.specs.Moves.{FindsListener};
     ghost use Rattle.net_sim.specs.NetworkWalkers.{Listens, ListensAt};
-    ghost use Rattle.net_sim.specs.WalkedStanding.{StandsForWalked, WalkedPlays, WalkedWants};
-    ghost use Rattle.net_sim.specs.Networks.{network_value, checked_of};
-    ghost use Rattle.net_sim.specs.LackingRooms.{ArrivesAt, NetworkLacksRoom};
+    ghost use Rattle.net_sim.specs.Networks.{checked_of, EndsInOutcome};
+    ghost use Rattle.net_sim.specs.LackingRooms.{NetworkLacksRoom};
 
     /// Moves a flight, or a copy of it. A message that comes with it is handed to the walker that it is for, whose room is
     /// made before.
     pub(super) fn move_flight(&mut self, number: u32, keep: bool) -> Result<Outcome, AllocError>
         ensures checked { checked_of self.new ≡ checked_of self.old }
-        ensures plays { MatchResult result
-            (λ outcome. WalkedPlays (checked_of self.old).0
-            (network_value T.tid T.records self.old) (Happening (Move number keep)) (outcome_value outcome)
-            (network_value T.tid T.records self.new))
-            (λ _. WalkedWants (checked_of self.old).0
-            (network_value T.tid T.records self.old) (Happening (Move number keep))
-            (network_value T.tid T.records self.new)) }
+        ensures plays { EndsInOutcome T.tid T.records self.old (Happening (Move number keep)) result self.new }
         ensures full { OnErr result (NetworkLacksRoom self.old (Happening (Move number keep))) }
     {
-        let Some(index) = self.listener(number, keep) else {
-            let effect = self.traffic.move_flight(number, keep)?;
-            return Ok(Outcome::Happened {
-                effect,
-                handed: None,
-            });
+        let decided = match self.traffic.decide(number, keep) {
+            Ok(decided) => decided,
+            Err(why) => return Ok(happened(Effect::Refused(why))),
+        };
+        let Some(index) = self.listener(&decided) else {
+            let effect = self.traffic.move_flight(number, keep, &decided)?;
+            return Ok(happened(effect));
         };
         self.walkers[index].reserve()?;
-        let effect = self.traffic.move_flight(number, keep)?;
+        let effect = self.traffic.move_flight(number, keep, &decided)?;
         let handed = hand(&mut self.walkers[index], index + 1, &effect);
         Ok(Outcome::Happened { effect, handed })
     }
 
-    /// The index of the first walker for which a message is that comes with the move, if it brings a packet in at a node.
-    fn listener(&self, number: u32, keep: bool) -> Option<usize>
-        ensures index { (w : WalkedState) → StandsForWalked (network_value T.tid T.records self.now) w
-            → MatchOption result
-            ((node : ℕ) (key : KeyValue) (k : ℕ) (walker : WalkerValue) → Arrives (checked_of self.now).0 w.network number keep node key
-            → slice_get (network_value T.tid T.records self.now).walkers k ≡ Some walker → ¬ Listens node key walker)
-            (λ index. (walker : WalkerValue) × (slice_get (network_value T.tid T.records self.now).walkers index ≡ Some walker)
-            × Arrives (checked_of self.now).0 w.network number keep walker.node (answering_key walker)) }
+    /// The index of the walker for which a message is that comes with the move, if that brings a packet in.
+    fn listener(&self, decided: &DecidedMove) -> Option<usize>
         ensures within { IfSome result (λ index. index < length self.now.walkers.items) }
-        ensures there { IfSome result (λ index. (at : ℕ × KeyValue) × ArrivesAt self.now.traffic number at.0 at.1 × ListensAt at.0 at.1 self.now.walkers.items index) }
+        ensures finds { FindsListener decided.now self.now.walkers.items result }
     {
-        let (node, key) = self.traffic.arrival(number, keep)?;
-        self.listener_at(node, key)
+        let Decision::Deliver = decided.decision else {
+            return None;
+        };
+        self.listener_at(decided.node, decided.key)
     }
 
     /// The index of the first walker for which a message is that comes at a node under a key.

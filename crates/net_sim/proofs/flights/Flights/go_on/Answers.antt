@@ -5,7 +5,7 @@ use Rattle.net_runs.specs.States as state
 use Rattle.net_sim.specs.declared.flights.Slot.{Slot}
 use Rattle.net_sim.specs.Flights.{flight_value, slots_of, gone_on}
 use Rattle.net_sim.proofs.Keeping.{none_at, slot_at, set_ascend, set_given, set_means, few_hops}
-use Rattle.mctp_transport.specs.Frames.{KeyValue}
+use Rattle.mctp_transport.specs.PacketValues.{KeyValue}
 use Rattle.std.proofs.lemmas.List.{get_or_default}
 use Rattle.net_sim.specs.Tallies.{slot_goes_to}
 use Rattle.net_sim.proofs.Tallying.{same_tallied, still_goes, still_counted}

@@ -1,6 +1,5 @@
 use Rattle.std.proofs.Common.{List, Bool, sym, ◌∙◌, ap, subst}
 use Rattle.net_plan.specs.declared.plan.Plan.{Plan}
-use Rattle.net_sim.specs.Accepted.{tables_of, certificate_of}
 use Rattle.net_tables.specs.Rows.{RowsAreApart, RowsAreInRange}
 use Rattle.net_sim.specs.Routers.{has_switched}
 use Rattle.net_sim.proofs.Tabled.{are_rows_before, none_marked}
@@ -8,9 +7,9 @@ use Rattle.net_sim.proofs.router.Router.new.Goals as goal
 
 pub routing_tables-requires : goal.routing_tables-requires
 routing_tables-requires c =
-    let tables = tables_of c.args.accepted in
+    let tables = c.args.accepted.0 in
     let P : Plan → Type 0 = λ plan. RowsAreApart plan × RowsAreInRange plan in
-    let rows = subst P (sym c.plan.ensures.plan) (are_rows_before tables.plan tables.after (certificate_of c.args.accepted) c.plan.ensures.accepted) in
+    let rows = subst P (sym c.plan.ensures.plan) (are_rows_before tables.plan tables.after c.args.accepted.1 c.plan.ensures.accepted) in
     record { apart = rows.0; in_range = rows.1 }
 
 pub returns-clause-unswitched : goal.returns-clause-unswitched

@@ -1,7 +1,7 @@
 use Rattle.std.proofs.Common.{◌≡◌, ◌<◌, length, Some, refl, sym, ◌∙◌, ap, arith}
 use Rattle.std.specs.Prelude.{slice_get}
 use Rattle.std.proofs.lemmas.Option.{slice_get_read}
-use Rattle.mctp_transport.specs.Frames.{key_of}
+use Rattle.mctp_transport.specs.PacketValues.{key_of}
 use Rattle.mctp_transport.specs.Packets.{key_value}
 use Rattle.mctp_transport.specs.Hearing.{Whole, Held, Dropped}
 use Rattle.net_runs.specs.Termini.{WaitingMessage}
@@ -45,4 +45,4 @@ returns-in-Whole-clause-receives g c =
     (queue_there _ now.queues.items f.node c.index_mut-in-Whole.result.now
     (slice_get_read now.queues.items _ _ c.index_mut-in-Whole.result.now refl (omega (arith, c.requires.node, now.queued)) c.index_mut-in-Whole.ensures.value))
     (λ fits ends. queue_waits _ _ _ _ message _
-    (at_bytes m c.deref.result.now (sym c.deref.ensures.value) key _ _ (λ short. c.wait_at.ensures (omega (arith, short, c.requires.kept.1 ends))) fits))
+    (at_bytes m c.deref.result.now (sym c.deref.ensures.value) key _ _ (λ short. c.wait_at.ensures (omega (arith, short, c.requires.enough.3 ends))) fits))
