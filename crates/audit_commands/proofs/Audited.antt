@@ -1,7 +1,7 @@
 -- What the end of `audit` tells of an answer.
-use Rattle.std.proofs.Common.{◌≡◌, ◌≢◌, ◌⊎◌, ℕ, zero, suc, List, Result, Ok, Err, inl, inr, refl, sym, subst}
+use Rattle.std.proofs.Common.{◌≡◌, ◌≢◌, ℕ, zero, suc, List, Result, Ok, Err, inl, inr, refl, sym, subst}
 use Rattle.std.proofs.Math.Nat.{suc-ne-zero}
-use Rattle.std.specs.Prelude.{IfOk, IfErr, OnErr, Option, codes}
+use Rattle.std.specs.Prelude.{IfOk, IfErr, Option, codes}
 use Rattle.std.specs.Cow.{cow_str_bytes}
 use Rattle.audited_captures.specs.Audits.{AreAudited, difference_count, audit_text}
 use Rattle.audited_captures.specs.Lines.{LineValue}
@@ -17,21 +17,9 @@ use Rattle.command_answers.specs.declared.refused.Refused.{Refused}
 use Rattle.command_answers.specs.declared.refused.Refused.TheVariants as refused
 use Rattle.command_answers.specs.declared.status.Status.{Status}
 use Rattle.command_answers.specs.declared.status.Status.TheVariants as status
-use Rattle.command_answers.specs.Answers.{Stream, AreGiven, AreUnread, IsFaultText, BreaksOff}
-use Rattle.command_answers.specs.Told.{IsTold, IsSomeAnswer, Gives}
+use Rattle.command_answers.specs.Answers.{Stream, AreGiven, AreUnread, IsFaultText}
 use Rattle.audit_commands.specs.Auditing.{TellsCapture, AuditsCapture, AuditsOn, AuditsOf, AuditsAt, AuditsSo}
 use Rattle.audit_commands.specs.Buses.{IsBusOf, NamesNoBus}
-
--- an answer may tell why an input can't be read, and there may be none
-pub same_gives_or_breaks : (Answers : Status → List ℕ → Type 0) (ended : Status) (output errors : Stream) (Same : Type 0) (answered : Result Answer Refused)
-    → IfOk answered (λ (a : Answer). Answers a.status (cow_str_bytes a.text)) → IfOk answered (λ (a : Answer). IsTold a.status (cow_str_bytes a.text) ended output errors)
-    → OnErr answered Same → ended ≡ status.Unreadable → Same ⊎ (Gives Answers status.Unreadable output ⊎ BreaksOff (IsSomeAnswer Answers) output)
-same_gives_or_breaks Answers ended output errors Same (Ok a) answers (inl (is, written)) same unreadable =
-    let A : Status → Type 0 = λ s. Answers s (cow_str_bytes a.text) in
-    inr (inl (cow_str_bytes a.text, subst A unreadable (subst A (sym is) answers), written))
-same_gives_or_breaks Answers ended output errors Same (Ok a) answers (inr (is, fails, part, line)) same unreadable =
-    inr (inr (record { text = cow_str_bytes a.text; answer = (a.status, answers); fails = fails; beginning = part }))
-same_gives_or_breaks Answers ended output errors Same (Err why) answers told same unreadable = inl same
 
 module _ (plan : Plan) (cert : Certificate) (bus : Option ℕ) (bytes text : List ℕ) (ended : Status) where
   -- of a capture that was read whole

@@ -1,12 +1,12 @@
 -- The records of one node more.
-use Rattle.std.proofs.Common.{◌≡◌, ℕ, ◌+◌, List, [], ◌∷◌, ◌++◌, length, refl, ap, sym, ◌∙◌, subst, inl, inr, arith, map}
-use Rattle.std.specs.Prelude.{slice_get, Some, Vec}
-use Rattle.std.proofs.lemmas.List.{length_push, map-append}
+use Rattle.std.proofs.Common.{◌≡◌, ℕ, ◌+◌, List, [], ◌∷◌, ◌++◌, refl, ap, sym, ◌∙◌, subst, inl, inr, arith}
+use Rattle.std.specs.Prelude.{Some}
+use Rattle.std.proofs.lemmas.List.{length_push}
 use Rattle.net_plan.specs.declared.certificate.Certificate.{Certificate}
 use Rattle.net_plan.specs.declared.plan.Plan.{Plan}
 use Rattle.net_tables.specs.Repositories.{records_by_place}
 use Rattle.net_tables.proofs.Elements.{in_push}
-use Rattle.pdr_repository.specs.Records.{Entry, entries}
+use Rattle.pdr_repository.specs.Records.{Entry}
 use Rattle.audited_captures.specs.Audits.{AreRepositories}
 
 pub none_stored : (plan : Plan) (cert : Certificate) → AreRepositories plan cert 0 []

@@ -1,11 +1,11 @@
 //! The command `audit`: what captured devices said, laid beside a checked plan.
-ghost use Rattle.std.specs.Prelude.{◌≡◌, ◌≢◌, ◌⊎◌, ℕ, Option, IfOk, IfErr, map, option_map, string_bytes, codes};
+ghost use Rattle.std.specs.Prelude.{◌≡◌, ◌≢◌, Option, IfOk, IfErr, map, option_map, string_bytes, codes};
 ghost use Rattle.std.specs.Cow.{cow_str_bytes};
 ghost use Rattle.net_json.specs.Stream.{HasRoom};
-ghost use Rattle.command_answers.specs.declared.status.Status.TheVariants.{Yes, Fault, Unreadable, NoMemory};
+ghost use Rattle.command_answers.specs.declared.status.Status.TheVariants.{Yes, Fault, Unreadable};
 ghost use Rattle.command_answers.specs.declared.refused.Refused.TheVariants as refused;
-ghost use Rattle.command_answers.specs.Answers.{stream, AreUnread, IsWithoutPlan, BreaksOff};
-ghost use Rattle.command_answers.specs.Told.{Gives, IsSomeAnswer, Ends};
+ghost use Rattle.command_answers.specs.Answers.{stream, AreUnread, IsWithoutPlan};
+ghost use Rattle.command_answers.specs.Told.{ConcludesOnBoth};
 ghost use Rattle.audited_captures.specs.Audits.{difference_count};
 ghost use Rattle.audited_captures.specs.Lines.{line_value};
 ghost use Rattle.audit_commands.specs.Auditing.{AuditsCapture, AuditsOn, AuditsOf, AuditsAt, AuditsSo};
@@ -39,20 +39,12 @@ pub fn run_audit<P: Source, C: Source, T: Source, O: Sink, E: Sink>(
     requires capture { HasRoom (T.account capture.old) }
     requires output { HasRoom (O.account output.old) }
     requires errors { HasRoom (E.account errors.old) }
-    ensures tells { let plans = stream P.account plan.old plan.new in
+    ensures concludes { let plans = stream P.account plan.old plan.new in
         let certificates = stream C.account certificate.old certificate.new in
         let captures = stream T.account capture.old capture.new in
-        Ends (AuditsSo (option_map (λ name. name.now) bus.entry) plans certificates captures) (λ why. AreUnread why plans certificates) result
-        (stream O.account output.old output.new) (stream E.account errors.old errors.new) }
-    ensures silent { (result ≡ Yes) ⊎ (result ≡ Fault) → errors.new ≡ errors.old }
-    ensures unwritten { let plans = stream P.account plan.old plan.new in
-        let certificates = stream C.account certificate.old certificate.new in
-        let captures = stream T.account capture.old capture.new in
-        let outputs = stream O.account output.old output.new in
-        result ≡ Unreadable → (output.new ≡ output.old)
-        ⊎ Gives (AuditsSo (option_map (λ name. name.now) bus.entry) plans certificates captures) Unreadable outputs
-        ⊎ BreaksOff (IsSomeAnswer (AuditsSo (option_map (λ name. name.now) bus.entry) plans certificates captures)) outputs }
-    ensures no_memory { result ≡ NoMemory → output.new ≡ output.old }
+        ConcludesOnBoth (AuditsSo (option_map (λ name. name.now) bus.entry) plans certificates captures) (λ why. AreUnread why plans certificates) result
+        (stream O.account output.old output.new) (stream E.account errors.old errors.new)
+        (output.new ≡ output.old) (errors.new ≡ errors.old) }
     ensures in_order { IsWithoutPlan (stream P.account plan.old plan.new)
         → (certificate.new ≡ certificate.old) × (capture.new ≡ capture.old) }
 {

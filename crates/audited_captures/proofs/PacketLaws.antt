@@ -10,7 +10,7 @@ use Rattle.bus_captures.specs.Values.{EntryValue, entry_value}
 use Rattle.bus_captures.specs.declared.capture.Entry.{Entry}
 use Rattle.audited_captures.specs.Counts.{AreCounts, place_of}
 use Rattle.audited_captures.specs.PacketSteps.{AddsPacket}
-use Rattle.audited_captures.specs.Packets.{PacketValue, packet_value, ArePackets, is_between, count_between, count_like, AreFirst}
+use Rattle.audited_captures.specs.Packets.{NumberedPacket, numbered_packet, ArePackets, is_between, count_between, count_like, AreFirst}
 use Rattle.audited_captures.specs.Packets as packets
 use Rattle.audited_captures.specs.declared.packets.CapturedPacket.{CapturedPacket}
 use Rattle.audited_captures.specs.AsPlanned.{IsAmong}
@@ -19,26 +19,26 @@ use Rattle.audited_captures.proofs.WordLaws.{mapped_more}
 
 -- ---- the packets among the entries
 
-added : (entries : List EntryValue) (old new : List PacketValue) (e : EntryValue) → ArePackets entries old → AddsPacket (length entries + 1) e old new
-    → ArePackets (entries ++ e ∷ []) new
-added entries old new e are (inl (none, same)) = subst (λ ps. ArePackets (entries ++ e ∷ []) ps) (sym same) (packets.Other entries old e are none)
-added entries old new e are (inr (f, is, same)) = subst (λ ps. ArePackets (entries ++ e ∷ []) ps) (sym same) (packets.More entries old e f are is)
+added : (unit : ℕ) (entries : List EntryValue) (old new : List NumberedPacket) (e : EntryValue) → ArePackets unit entries old → AddsPacket unit (length entries + 1) e old new
+    → ArePackets unit (entries ++ e ∷ []) new
+added unit entries old new e are (inl (none, same)) = subst (λ ps. ArePackets unit (entries ++ e ∷ []) ps) (sym same) (packets.Other entries old e are none)
+added unit entries old new e are (inr (f, is, same)) = subst (λ ps. ArePackets unit (entries ++ e ∷ []) ps) (sym same) (packets.More entries old e f are is)
 
 -- the next entry of a list
-pub next_packet : (items : List Entry) (i : ℕ) (item : Entry) (old new : List PacketValue) → i < length items → item ≡ get_or items i item
-    → ArePackets (map entry_value (take i items)) old → AddsPacket (i + 1) (entry_value item) old new → ArePackets (map entry_value (take (i + 1) items)) new
-next_packet items i item old new within is are adds =
+pub next_packet : (unit : ℕ) (items : List Entry) (i : ℕ) (item : Entry) (old new : List NumberedPacket) → i < length items → item ≡ get_or items i item
+    → ArePackets unit (map entry_value (take i items)) old → AddsPacket unit (i + 1) (entry_value item) old new → ArePackets unit (map entry_value (take (i + 1) items)) new
+next_packet unit items i item old new within is are adds =
     let many : length (map entry_value (take i items)) ≡ i = omega (arith, within, length-map (take i items) entry_value, length-take i items) in
-    subst (λ es. ArePackets es new) (sym (mapped_more entry_value items i item within is))
-    (added (map entry_value (take i items)) old new (entry_value item) are (subst (λ n. AddsPacket (n + 1) (entry_value item) old new) (sym many) adds))
+    subst (λ es. ArePackets unit es new) (sym (mapped_more entry_value items i item within is))
+    (added unit (map entry_value (take i items)) old new (entry_value item) are (subst (λ n. AddsPacket unit (n + 1) (entry_value item) old new) (sym many) adds))
 
 -- ---- counts
 
-one_if : (b : Bool) (p : PacketValue) → length (cond b (p ∷ []) []) ≡ cond b 1 0
+one_if : (b : Bool) (p : NumberedPacket) → length (cond b (p ∷ []) []) ≡ cond b 1 0
 one_if true p = refl
 one_if false p = refl
 
-count_more : (source destination : ℕ) (ps : List PacketValue) (p : PacketValue)
+count_more : (source destination : ℕ) (ps : List NumberedPacket) (p : NumberedPacket)
     → count_between source destination (ps ++ p ∷ []) ≡ count_between source destination ps + cond (is_between source destination p) 1 0
 count_more source destination ps p =
     ap length (filter-append (is_between source destination) ps (p ∷ []))
@@ -52,13 +52,13 @@ filter_within test (x ∷ xs) = elim (cases_Bool (test x)) [
   | inr fails ↦ rw fails (omega (arith, filter_within test xs))
 ]
 
-pub count_within : (source destination : ℕ) (ps : List PacketValue) → count_between source destination ps ≤ length ps
+pub count_within : (source destination : ℕ) (ps : List NumberedPacket) → count_between source destination ps ≤ length ps
 count_within source destination ps = filter_within (is_between source destination) ps
 
-between_same : (p : PacketValue) → is_between p.source p.destination p ≡ true
+between_same : (p : NumberedPacket) → is_between p.source p.destination p ≡ true
 between_same p = both (p.source == p.source) (p.destination == p.destination) (grind (arith, nat_tests)) (grind (arith, nat_tests))
 
-pub between_is : (source destination : ℕ) (p : PacketValue) → is_between source destination p ≡ true → (p.source ≡ source) × (p.destination ≡ destination)
+pub between_is : (source destination : ℕ) (p : NumberedPacket) → is_between source destination p ≡ true → (p.source ≡ source) × (p.destination ≡ destination)
 between_is source destination p is =
     let first : (p.source == source) ≡ true = both_left (p.source == source) (p.destination == destination) is in
     let second : (p.destination == destination) ≡ true = both_right (p.source == source) (p.destination == destination) is in
@@ -71,7 +71,7 @@ none_counted counts is = record {
 }
 
 -- a count more
-pub next_counts : (ps : List PacketValue) (p : PacketValue) (old new : List ℕ) → p.source < 256 → p.destination < 256 → AreCounts ps old
+pub next_counts : (ps : List NumberedPacket) (p : NumberedPacket) (old new : List ℕ) → p.source < 256 → p.destination < 256 → AreCounts ps old
     → new ≡ slice_set old (place_of p.source p.destination) (count_like p ps + 1) → AreCounts (ps ++ p ∷ []) new
 next_counts ps p old new source_fits destination_fits are set_so = record {
   many = ap length set_so ∙ length-set old (place_of p.source p.destination) (count_like p ps + 1) ∙ are.many;
@@ -102,26 +102,26 @@ next_counts ps p old new source_fits destination_fits are set_so = record {
 
 -- ---- first packets
 
-first_or_further : (ps firsts new : List PacketValue) (p : PacketValue) (b : Bool) → AreFirst ps firsts → (b ≡ true → count_like p ps ≡ 0) → (b ≡ false → count_like p ps ≢ 0)
+first_or_further : (ps firsts new : List NumberedPacket) (p : NumberedPacket) (b : Bool) → AreFirst ps firsts → (b ≡ true → count_like p ps ≡ 0) → (b ≡ false → count_like p ps ≢ 0)
     → new ≡ firsts ++ (cond b (p ∷ []) []) → AreFirst (ps ++ p ∷ []) new
 first_or_further ps firsts new p true are first further is = subst (λ fs. AreFirst (ps ++ p ∷ []) fs) (sym is) (packets.More ps firsts p are (first refl))
 first_or_further ps firsts new p false are first further is =
     subst (λ fs. AreFirst (ps ++ p ∷ []) fs) (sym (is ∙ append-nil firsts)) (packets.Further ps firsts p are (further refl))
 
 mapped_if : (old new : List CapturedPacket) (item : CapturedPacket) (b : Bool) → new ≡ old ++ (cond b (item ∷ []) [])
-    → map packet_value new ≡ map packet_value old ++ (cond b (packet_value item ∷ []) [])
-mapped_if old new item true is = ap (map packet_value) is ∙ map-append packet_value old (item ∷ [])
-mapped_if old new item false is = ap (map packet_value) is ∙ map-append packet_value old []
+    → map numbered_packet new ≡ map numbered_packet old ++ (cond b (numbered_packet item ∷ []) [])
+mapped_if old new item true is = ap (map numbered_packet) is ∙ map-append numbered_packet old (item ∷ [])
+mapped_if old new item false is = ap (map numbered_packet) is ∙ map-append numbered_packet old []
 
 -- the next packet of a list
 pub next_first : (items : List CapturedPacket) (i : ℕ) (item : CapturedPacket) (old new : List CapturedPacket) (before : ℕ) → i < length items → item ≡ get_or items i item
-    → AreFirst (map packet_value (take i items)) (map packet_value old) → before ≡ count_like (packet_value item) (map packet_value (take i items))
-    → new ≡ old ++ (if before == 0 then item ∷ [] else []) → AreFirst (map packet_value (take (i + 1) items)) (map packet_value new)
+    → AreFirst (map numbered_packet (take i items)) (map numbered_packet old) → before ≡ count_like (numbered_packet item) (map numbered_packet (take i items))
+    → new ≡ old ++ (if before == 0 then item ∷ [] else []) → AreFirst (map numbered_packet (take (i + 1) items)) (map numbered_packet new)
 next_first items i item old new before within is are counted joined =
-    let ps = map packet_value (take i items) in
-    let p = packet_value item in
-    subst (λ qs. AreFirst qs (map packet_value new)) (sym (mapped_more packet_value items i item within is))
-    (first_or_further ps (map packet_value old) (map packet_value new) p (before == 0) are
+    let ps = map numbered_packet (take i items) in
+    let p = numbered_packet item in
+    subst (λ qs. AreFirst qs (map numbered_packet new)) (sym (mapped_more numbered_packet items i item within is))
+    (first_or_further ps (map numbered_packet old) (map numbered_packet new) p (before == 0) are
     (λ zero. let none : before ≡ 0 = grind (arith, nat_tests) in sym counted ∙ none)
     (λ some. λ none. let zero : before ≡ 0 = counted ∙ none in grind (arith, nat_tests))
     (mapped_if old new item (before == 0) joined))
@@ -146,10 +146,10 @@ among_split x (y ∷ xs) ys (inr among) = elim (among_split x xs ys among) [
 ]
 
 -- one of the packets went this way
-abbrev pub HasOneBetween : ℕ → ℕ → List PacketValue → Type 0
-HasOneBetween source destination ps = (p : PacketValue) × IsAmong p ps × (p.source ≡ source) × (p.destination ≡ destination)
+abbrev pub HasOneBetween : ℕ → ℕ → List NumberedPacket → Type 0
+HasOneBetween source destination ps = (p : NumberedPacket) × IsAmong p ps × (p.source ≡ source) × (p.destination ≡ destination)
 
-some_counted : (source destination : ℕ) (ps : List PacketValue) → count_between source destination ps ≢ 0 → HasOneBetween source destination ps
+some_counted : (source destination : ℕ) (ps : List NumberedPacket) → count_between source destination ps ≢ 0 → HasOneBetween source destination ps
 some_counted source destination [] some = absurd (some refl)
 some_counted source destination (p ∷ ps) some = elim (cases_Bool (is_between source destination p)) [
   | inl is ↦ (let ends = between_is source destination p is in (p, inl refl, ends.0, ends.1))
@@ -159,7 +159,7 @@ some_counted source destination (p ∷ ps) some = elim (cases_Bool (is_between s
 ]
 
 -- each of the packets went the way of a first one
-pub each_has_first : {ps firsts : List PacketValue} → AreFirst ps firsts → (p : PacketValue) → IsAmong p ps → HasOneBetween p.source p.destination firsts
+pub each_has_first : {ps firsts : List NumberedPacket} → AreFirst ps firsts → (p : NumberedPacket) → IsAmong p ps → HasOneBetween p.source p.destination firsts
 each_has_first packets.None p among = absurd among
 each_has_first (packets.Further ps firsts q are some) p among = elim (among_split p ps (q ∷ []) among) [
   | inl before ↦ each_has_first are p before
@@ -167,7 +167,7 @@ each_has_first (packets.Further ps firsts q are some) p among = elim (among_spli
     | inl same ↦ (
         let like = some_counted q.source q.destination ps some in
         let first = each_has_first are like.0 like.1 in
-        let P : PacketValue → Type 0 = λ r. HasOneBetween r.source r.destination firsts in
+        let P : NumberedPacket → Type 0 = λ r. HasOneBetween r.source r.destination firsts in
         subst P same (first.0, first.1, first.2 ∙ like.2, first.3 ∙ like.3))
     | inr none ↦ absurd none
   ]
@@ -176,14 +176,14 @@ each_has_first (packets.More ps firsts q are none) p among = elim (among_split p
   | inl before ↦ (let first = each_has_first are p before in (first.0, among_left first.0 firsts (q ∷ []) first.1, first.2, first.3))
   | inr last ↦ elim last [
     | inl same ↦ (
-        let P : PacketValue → Type 0 = λ r. HasOneBetween r.source r.destination (firsts ++ q ∷ []) in
+        let P : NumberedPacket → Type 0 = λ r. HasOneBetween r.source r.destination (firsts ++ q ∷ []) in
         subst P same (q, among_right q firsts (q ∷ []) (inl refl), refl, refl))
     | inr nothing ↦ absurd nothing
   ]
 ]
 
 -- a first one is one of them
-pub first_among : {ps firsts : List PacketValue} → AreFirst ps firsts → (f : PacketValue) → IsAmong f firsts → IsAmong f ps
+pub first_among : {ps firsts : List NumberedPacket} → AreFirst ps firsts → (f : NumberedPacket) → IsAmong f firsts → IsAmong f ps
 first_among packets.None f among = absurd among
 first_among (packets.Further ps firsts q are some) f among = among_left f ps (q ∷ []) (first_among are f among)
 first_among (packets.More ps firsts q are none) f among = elim (among_split f firsts (q ∷ []) among) [

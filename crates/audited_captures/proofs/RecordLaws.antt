@@ -1,5 +1,5 @@
 -- Records that were brought, beside the planned ones.
-use Rattle.std.proofs.Common.{◌≡◌, ◌≢◌, ℕ, suc, ◌+◌, ◌<◌, ◌≤◌, ◌==◌, ◌&&◌, Bool, true, false, List, [], ◌∷◌, length, refl, ap, sym, ◌∙◌, nat_eq, take, drop, get_or, ◌++◌, inl, inr, arith, add-one, cond}
+use Rattle.std.proofs.Common.{◌≡◌, ◌≢◌, ℕ, suc, ◌+◌, ◌<◌, ◌≤◌, ◌==◌, ◌&&◌, Bool, true, false, List, [], ◌∷◌, length, refl, ap, sym, ◌∙◌, nat_eq, take, drop, get_or, ◌++◌, inl, inr, arith}
 use Rattle.std.specs.Prelude.{Some, None, Vec}
 use Rattle.std.specs.List.{flat_map}
 use Rattle.std.proofs.lemmas.List.{append-nil}
@@ -52,30 +52,8 @@ next_missing name found items i item old new within is before added =
     ∙ sym (flat_map-append (missing_lines name found) (entries (take i items)) (entry_of item ∷ []))
     ∙ ap (flat_map (missing_lines name found)) (sym (mapped_more entry_of items i item within is))
 
--- ---- the bytes of a record
-
--- the first byte in which two records differ is the one at this place, where they have one
-pub differs_at : (a b : List ℕ) (i x y : ℕ) → i < length a → i < length b → x ≡ get_or a i x → y ≡ get_or b i y → (x == y) ≡ false
-    → unlike_from i (drop i a) (drop i b) ≡ Some i
-differs_at a b i x y in_a in_b is_x is_y other =
-    ap (λ (l : List ℕ). unlike_from i l (drop i b)) (drop-cons a i x in_a ∙ ap (λ (k : ℕ). k ∷ drop (suc i) a) (sym is_x))
-    ∙ ap (λ (l : List ℕ). unlike_from i (x ∷ drop (suc i) a) l) (drop-cons b i y in_b ∙ ap (λ (k : ℕ). k ∷ drop (suc i) b) (sym is_y))
-    ∙ ap (λ (same : Bool). cond same (unlike_from (i + 1) (drop (suc i) a) (drop (suc i) b)) (Some i)) other
-
-pub same_at : (a b : List ℕ) (i x y : ℕ) → i < length a → i < length b → x ≡ get_or a i x → y ≡ get_or b i y → (x == y) ≡ true
-    → unlike_from i (drop i a) (drop i b) ≡ unlike_from (i + 1) (drop (i + 1) a) (drop (i + 1) b)
-same_at a b i x y in_a in_b is_x is_y same =
-    ap (λ (l : List ℕ). unlike_from i l (drop i b)) (drop-cons a i x in_a ∙ ap (λ (k : ℕ). k ∷ drop (suc i) a) (sym is_x))
-    ∙ ap (λ (l : List ℕ). unlike_from i (x ∷ drop (suc i) a) l) (drop-cons b i y in_b ∙ ap (λ (k : ℕ). k ∷ drop (suc i) b) (sym is_y))
-    ∙ ap (λ (b_ : Bool). cond b_ (unlike_from (i + 1) (drop (suc i) a) (drop (suc i) b)) (Some i)) same
-    ∙ ap (λ (k : ℕ). unlike_from (i + 1) (drop k a) (drop k b)) (sym (add-one i))
-
 rest_nil : (l : List ℕ) (i : ℕ) → i ≡ length l → drop i l ≡ []
 rest_nil l i is = past_end l i (omega (arith, is))
-
--- both end at this place
-pub both_end : (a b : List ℕ) (i : ℕ) → i ≡ length a → i ≡ length b → unlike_from i (drop i a) (drop i b) ≡ None
-both_end a b i end_a end_b = ap (λ (l : List ℕ). unlike_from i l (drop i b)) (rest_nil a i end_a) ∙ ap (λ (l : List ℕ). unlike_from i [] l) (rest_nil b i end_b)
 
 -- one of them ends
 pub one_ends : (a b : List ℕ) (i : ℕ) → i ≤ length a → i ≤ length b → (i ≡ length a → i ≢ length b) → (i < length a → i < length b → ⊥)

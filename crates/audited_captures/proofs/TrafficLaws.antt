@@ -18,9 +18,9 @@ use Rattle.audited_captures.specs.Audits.{difference_count}
 use Rattle.audited_captures.specs.Judging.{why_by}
 use Rattle.audited_captures.specs.Lines.{LineValue}
 use Rattle.audited_captures.specs.Matching.{TrafficMatchesWhereAsPlanned}
-use Rattle.audited_captures.specs.Packets.{PacketValue, packet_value, count_like, ArePackets, AreFirst}
+use Rattle.audited_captures.specs.Packets.{NumberedPacket, numbered_packet, count_like, ArePackets, AreFirst}
 use Rattle.audited_captures.specs.declared.packets.CapturedPacket.{CapturedPacket}
-use Rattle.audited_captures.specs.Traffic.{IsHeld, LacksSender, LacksReceiver, is_one_over, ArrivesBy, GoesOver, IsPlanned, Unplanned, IsJudged}
+use Rattle.audited_captures.specs.Traffic.{LacksSender, LacksReceiver, is_one_over, ArrivesBy, GoesOver, IsPlanned, Unplanned, IsJudged}
 use Rattle.audited_captures.specs.TrafficLines.{IsOneLine, AreLinesOf, AreTrafficLines, More, IsTraffic}
 use Rattle.audited_captures.specs.TrafficLines as lines
 use Rattle.audited_captures.proofs.MatchLaws.{zero_left, zero_right, zero_both}
@@ -62,13 +62,7 @@ module _ (plan : Plan) (cert : Certificate) (accepted : Accepts plan cert) (bus 
   )
   way_decides steps last end.Arrives way = arrives_so steps last (is_one_over plan bus steps) refl way
 
--- where nobody holds one of both, there is no way to ask for
-pub nobody_between : (plan : Plan) (bus : Option ℕ) (source destination : ℕ) → ¬ LacksSender plan source → ¬ LacksReceiver plan destination
-    → (¬ IsHeld plan source) ⊎ (¬ IsHeld plan destination) → IsPlanned plan bus source destination
-nobody_between plan bus source destination sent taken (inl none) = record { sent = sent; taken = taken; goes = λ from to here there. absurd (none (from, here)) }
-nobody_between plan bus source destination sent taken (inr none) = record { sent = sent; taken = taken; goes = λ from to here there. absurd (none (to, there)) }
-
-among_cases : (f : PacketValue) (fs : List PacketValue) (g : PacketValue) → IsAmong f (fs ++ g ∷ []) → IsAmong f fs ⊎ (g ≡ f)
+among_cases : (f : NumberedPacket) (fs : List NumberedPacket) (g : NumberedPacket) → IsAmong f (fs ++ g ∷ []) → IsAmong f fs ⊎ (g ≡ f)
 among_cases f fs g among = elim (among_split f fs (g ∷ []) among) [
   | inl before ↦ inl before
   | inr last ↦ elim last [ inl same ↦ inr same | inr none ↦ absurd none ]
@@ -76,48 +70,48 @@ among_cases f fs g among = elim (among_split f fs (g ∷ []) among) [
 
 -- ---- lines
 
-module _ (plan : Plan) (bus : Option ℕ) (packets : List PacketValue) where
+module _ (plan : Plan) (bus : Option ℕ) (packets : List NumberedPacket) where
   pub next_lines : (items : List CapturedPacket) (i : ℕ) (item : CapturedPacket) (old more new : List LineValue) → i < length items → item ≡ get_or items i item
-      → AreTrafficLines plan bus packets (map packet_value (take i items)) old → AreLinesOf plan bus (packet_value item) (count_like (packet_value item) packets) more
-      → new ≡ old ++ more → AreTrafficLines plan bus packets (map packet_value (take (i + 1) items)) new
+      → AreTrafficLines plan bus packets (map numbered_packet (take i items)) old → AreLinesOf plan bus (numbered_packet item) (count_like (numbered_packet item) packets) more
+      → new ≡ old ++ more → AreTrafficLines plan bus packets (map numbered_packet (take (i + 1) items)) new
   next_lines items i item old more new within is are of_one joined =
-      subst (λ fs. AreTrafficLines plan bus packets fs new) (sym (mapped_more packet_value items i item within is))
-      (subst (λ ls. AreTrafficLines plan bus packets (map packet_value (take i items) ++ packet_value item ∷ []) ls) (sym joined)
-      (More (map packet_value (take i items)) old (packet_value item) more are of_one))
+      subst (λ fs. AreTrafficLines plan bus packets fs new) (sym (mapped_more numbered_packet items i item within is))
+      (subst (λ ls. AreTrafficLines plan bus packets (map numbered_packet (take i items) ++ numbered_packet item ∷ []) ls) (sym joined)
+      (More (map numbered_packet (take i items)) old (numbered_packet item) more are of_one))
 
-  pub some_lines : {T E : Type 0} (lines_of : T → List LineValue) (f : PacketValue) (count : ℕ) (why : Unplanned) (result : Result T E)
+  pub some_lines : {T E : Type 0} (lines_of : T → List LineValue) (f : NumberedPacket) (count : ℕ) (why : Unplanned) (result : Result T E)
       → IsJudged plan bus f.source f.destination (Some why) → IfOk result (λ t. IsOneLine plan f count why (lines_of t)) → IfOk result (λ t. AreLinesOf plan bus f count (lines_of t))
   some_lines lines_of f count why (Ok t) judged line = inr (why, judged, line)
   some_lines lines_of f count why (Err e) judged line = line
 
-  one_zero : (f : PacketValue) (count : ℕ) (ls : List LineValue) → AreLinesOf plan bus f count ls → difference_count ls ≡ 0 → IsPlanned plan bus f.source f.destination
+  one_zero : (f : NumberedPacket) (count : ℕ) (ls : List LineValue) → AreLinesOf plan bus f count ls → difference_count ls ≡ 0 → IsPlanned plan bus f.source f.destination
   one_zero f count ls (inl (planned, none)) zero = planned
   one_zero f count ls (inr (why, judged, (line, is, told))) zero =
       let one : difference_count ls ≡ 1 = ap difference_count told ∙ ap (λ l. difference_count (l ∷ [])) is.told in
       absurd (omega (arith, one, zero))
 
-  zero_one : (f : PacketValue) (count : ℕ) (ls : List LineValue) → AreLinesOf plan bus f count ls → IsPlanned plan bus f.source f.destination → difference_count ls ≡ 0
+  zero_one : (f : NumberedPacket) (count : ℕ) (ls : List LineValue) → AreLinesOf plan bus f count ls → IsPlanned plan bus f.source f.destination → difference_count ls ≡ 0
   zero_one f count ls (inl (planned, none)) is = ap difference_count none
   zero_one f count ls (inr (why, judged, line)) is = absurd (judged.0 is)
 
-  each_planned : {firsts : List PacketValue} {ls : List LineValue} → AreTrafficLines plan bus packets firsts ls → difference_count ls ≡ 0
-      → (f : PacketValue) → IsAmong f firsts → IsPlanned plan bus f.source f.destination
+  each_planned : {firsts : List NumberedPacket} {ls : List LineValue} → AreTrafficLines plan bus packets firsts ls → difference_count ls ≡ 0
+      → (f : NumberedPacket) → IsAmong f firsts → IsPlanned plan bus f.source f.destination
   each_planned lines.Empty zero f among = absurd among
   each_planned (More firsts ls first more are of_one) zero f among = elim (among_cases f firsts first among) [
     | inl before ↦ each_planned are (zero_left ls more zero) f before
-    | inr same ↦ (let P : PacketValue → Type 0 = λ p. IsPlanned plan bus p.source p.destination in
+    | inr same ↦ (let P : NumberedPacket → Type 0 = λ p. IsPlanned plan bus p.source p.destination in
         subst P same (one_zero first (count_like first packets) more of_one (zero_right ls more zero)))
   ]
 
-  none_told : {firsts : List PacketValue} {ls : List LineValue} → AreTrafficLines plan bus packets firsts ls
-      → ((f : PacketValue) → IsAmong f firsts → IsPlanned plan bus f.source f.destination) → difference_count ls ≡ 0
+  none_told : {firsts : List NumberedPacket} {ls : List LineValue} → AreTrafficLines plan bus packets firsts ls
+      → ((f : NumberedPacket) → IsAmong f firsts → IsPlanned plan bus f.source f.destination) → difference_count ls ≡ 0
   none_told lines.Empty planned = refl
   none_told (More firsts ls first more are of_one) planned =
       zero_both ls more (none_told are (λ f among. planned f (among_left f firsts (first ∷ []) among)))
       (zero_one first (count_like first packets) more of_one (planned first (among_right first firsts (first ∷ []) (inl refl))))
 
-pub traffic_if : {T E : Type 0} (lines_of : T → List LineValue) (plan : Plan) (bus : Option ℕ) (entries : List EntryValue) (packets firsts : List PacketValue) (result : Result T E)
-    → ArePackets entries packets → AreFirst packets firsts → IfOk result (λ t. AreTrafficLines plan bus packets firsts (lines_of t))
+pub traffic_if : {T E : Type 0} (lines_of : T → List LineValue) (plan : Plan) (bus : Option ℕ) (entries : List EntryValue) (packets firsts : List NumberedPacket) (result : Result T E)
+    → ArePackets plan.unit entries packets → AreFirst packets firsts → IfOk result (λ t. AreTrafficLines plan bus packets firsts (lines_of t))
     → IfOk result (λ t. IsTraffic plan bus entries (lines_of t))
 traffic_if lines_of plan bus entries packets firsts (Ok t) read first told = record { packets = packets; firsts = firsts; read = read; first = first; told = told }
 traffic_if lines_of plan bus entries packets firsts (Err e) read first told = told

@@ -114,7 +114,7 @@ next_walk name planned parts i item lines more all within is first (w, walks, te
           subst (λ (ws : List Walked). AreWalks (map record_part_value parts) ws) (sym (append_assoc before.done (w ∷ []) rest))
           (before.goes_on (w ∷ rest) (subst (λ (ps : List RecordPartValue). AreWalks ps (w ∷ rest)) (sym left)
           (Begins (record_part_value item) (map record_part_value (drop (i + 1) parts)) w rest first
-          (subst (λ (ps : List RecordPartValue). Walks item.requester.value (fresh_walk item.request.count) ps w) left walks) are)));
+          (subst (λ (ps : List RecordPartValue). Walks item.requester.value (fresh_walk item.request.request_count) ps w) left walks) are)));
       told = joined ∙ ap (λ ls. ls ++ more) before.told ∙ ap (λ ls. walks_lines name planned before.done ++ ls) (tells ∙ sym (append-nil (walk_lines name planned w)))
           ∙ sym (flat_map-append (walk_lines name planned) before.done (w ∷ []));
     }

@@ -121,13 +121,14 @@ rest_line (end.Broken place why) = codes "capture not read from " ++ (decimal pl
 abbrev pub audit_text : List LineValue → End → List ℕ
 audit_text lines how = flat_map text_line lines ++ (rest_line how ++ last_line how (difference_count lines))
 
--- These are the lines of what was captured beside the plan and these records: the messages that came whole, those among
--- them that ask and answer, the control messages that were answered, and what the answers of each node say.
+-- These are the lines of what was captured beside the plan and these records: the messages that came whole in packets
+-- of the plan's transmission unit, those among them that ask and answer, the control messages that were answered, and
+-- what the answers of each node say.
 pub record AreBeside (plan : Plan) (repositories : List (List Entry)) (entries : List EntryValue)
     (lines : List LineValue) : Type 0 where
   pub messages : List MessageValue
   pub heard : Heard
-  pub whole : AreHeard entries messages
+  pub whole : AreHeard plan.unit entries messages
   pub spoken : AreWords messages heard.words
   pub answered : AreExchanges heard.words heard.exchanges
   pub told : AreLines plan repositories heard (length plan.nodes.items) lines

@@ -12,7 +12,7 @@ use Rattle.audited_captures.specs.Audits.{AreAudited, NodeFacts, AreFacts, diffe
 use Rattle.audited_captures.specs.Exchanges.{ExchangeValue}
 use Rattle.audited_captures.specs.Identities.{answers_of, first_of, size_of, kind_number}
 use Rattle.audited_captures.specs.Lines.{LineValue}
-use Rattle.audited_captures.specs.Packets.{PacketValue}
+use Rattle.audited_captures.specs.Packets.{NumberedPacket}
 use Rattle.audited_captures.specs.Traffic.{IsPlanned}
 use Rattle.audited_captures.specs.TrafficLines.{IsTraffic}
 use Rattle.pdr_repository.specs.Records.{Entry, bytes_by_place}
@@ -66,9 +66,9 @@ NodesMatchWhereAsPlanned = (node : Node) (xs : List ExchangeValue) (f : NodeFact
     ↔ SaysAsPlanned node xs f
 
 -- each of the packets is planned on the bus
-abbrev pub ArePlanned : Plan → Option ℕ → List PacketValue → Type 0
+abbrev pub ArePlanned : Plan → Option ℕ → List NumberedPacket → Type 0
 ArePlanned plan bus packets =
-    (p : PacketValue) → IsAmong p packets → IsPlanned plan bus p.source p.destination
+    (p : NumberedPacket) → IsAmong p packets → IsPlanned plan bus p.source p.destination
 
 -- no line about packets tells a difference exactly where each packet of the capture is planned on the bus
 abbrev pub TrafficMatchesWhereAsPlanned : Type 0

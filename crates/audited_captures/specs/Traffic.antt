@@ -5,11 +5,8 @@ use Rattle.net_plan.specs.declared.plan.Plan.{Plan}
 use Rattle.net_questions.specs.Ways.{IsWay}
 use Rattle.net_questions.specs.declared.step.WayStep.{WayStep}
 use Rattle.net_questions.specs.declared.way.End.TheVariants.{Arrives}
-use Rattle.net_tables.specs.Routing.{Holds}
+use Rattle.net_tables.specs.Routing.{Holds, IsHeld}
 use Rattle.net_tables.specs.Rows.{bus_of}
-
-abbrev pub IsHeld : Plan → ℕ → Type 0
-IsHeld plan e = (n : ℕ) × Holds plan n e
 
 -- Nobody can have sent it: no node holds the source. The null endpoint ID, 0, is that of a device that has none yet.
 abbrev pub LacksSender : Plan → ℕ → Type 0

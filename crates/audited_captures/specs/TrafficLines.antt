@@ -5,12 +5,12 @@ use Rattle.std.specs.List.{flat_map}
 use Rattle.bus_captures.specs.Values.{EntryValue}
 use Rattle.net_plan.specs.declared.plan.Plan.{Plan}
 use Rattle.net_questions.specs.declared.step.WayStep.{WayStep}
-use Rattle.net_tables.specs.Routing.{Holds}
+use Rattle.net_tables.specs.Routing.{Holds, IsHeld}
 use Rattle.net_tables.specs.Rows.{bus_of}
-use Rattle.plan_exports.specs.Words.{node_name, bus_name}
+use Rattle.net_tables.specs.Names.{node_name, bus_name}
 use Rattle.audited_captures.specs.Lines.{LineValue, difference}
-use Rattle.audited_captures.specs.Packets.{PacketValue, ArePackets, AreFirst, count_like}
-use Rattle.audited_captures.specs.Traffic.{IsHeld, Unplanned, NoSender, NoReceiver, Nobody, NoWay, Elsewhere, IsJudged}
+use Rattle.audited_captures.specs.Packets.{NumberedPacket, ArePackets, AreFirst, count_like}
+use Rattle.audited_captures.specs.Traffic.{Unplanned, NoSender, NoReceiver, Nobody, NoWay, Elsewhere, IsJudged}
 
 -- an endpoint ID by the node that holds it, or by its number
 abbrev pub IsNameOf : Plan → ℕ → List ℕ → Type 0
@@ -59,7 +59,8 @@ packets_line number count source destination why =
     ++ (codes " to " ++ (destination ++ (codes ": " ++ why))))))))
 
 -- the line of the packets for this reason
-pub record IsLineOf (plan : Plan) (first : PacketValue) (count : ℕ) (why : Unplanned) (line : LineValue) : Type 0 where
+pub record IsLineOf (plan : Plan) (first : NumberedPacket) (count : ℕ) (why : Unplanned) (line : LineValue)
+    : Type 0 where
   pub source : List ℕ
   pub destination : List ℕ
   pub source_named : IsNameOf plan first.source source
@@ -67,29 +68,29 @@ pub record IsLineOf (plan : Plan) (first : PacketValue) (count : ℕ) (why : Unp
   pub told : line ≡ packets_line first.number count source destination
       (why_words plan first.source first.destination why)
 
-abbrev pub IsOneLine : Plan → PacketValue → ℕ → Unplanned → List LineValue → Type 0
+abbrev pub IsOneLine : Plan → NumberedPacket → ℕ → Unplanned → List LineValue → Type 0
 IsOneLine plan first count why lines = (line : LineValue) × IsLineOf plan first count why line × (lines ≡ line ∷ [])
 
 -- what is told of so many packets that go the way of the first of them: nothing where they are planned
-abbrev pub AreLinesOf : Plan → Option ℕ → PacketValue → ℕ → List LineValue → Type 0
+abbrev pub AreLinesOf : Plan → Option ℕ → NumberedPacket → ℕ → List LineValue → Type 0
 AreLinesOf plan bus first count lines =
     (IsJudged plan bus first.source first.destination None × (lines ≡ []))
     ⊎ ((why : Unplanned) × IsJudged plan bus first.source first.destination (Some why)
     × IsOneLine plan first count why lines)
 
 -- the lines of all of them, in the order of the first packets
-pub data AreTrafficLines (plan : Plan) (bus : Option ℕ) (packets : List PacketValue)
-    : List PacketValue → List LineValue → Type 0 where
+pub data AreTrafficLines (plan : Plan) (bus : Option ℕ) (packets : List NumberedPacket)
+    : List NumberedPacket → List LineValue → Type 0 where
   Empty : AreTrafficLines plan bus packets [] []
-  More : (firsts : List PacketValue) (lines : List LineValue) (first : PacketValue) (more : List LineValue)
+  More : (firsts : List NumberedPacket) (lines : List LineValue) (first : NumberedPacket) (more : List LineValue)
       → AreTrafficLines plan bus packets firsts lines
       → AreLinesOf plan bus first (count_like first packets) more
       → AreTrafficLines plan bus packets (firsts ++ first ∷ []) (lines ++ more)
 
--- the lines tell which packets of the capture aren't planned on the bus
+-- the lines tell which packets of the capture, within the plan's transmission unit, aren't planned on the bus
 pub record IsTraffic (plan : Plan) (bus : Option ℕ) (entries : List EntryValue) (lines : List LineValue) : Type 0 where
-  pub packets : List PacketValue
-  pub firsts : List PacketValue
-  pub read : ArePackets entries packets
+  pub packets : List NumberedPacket
+  pub firsts : List NumberedPacket
+  pub read : ArePackets plan.unit entries packets
   pub first : AreFirst packets firsts
   pub told : AreTrafficLines plan bus packets firsts lines

@@ -60,7 +60,7 @@ fn lines_of_capture(
     requires stored { length repositories.now ≡ length plan.now.nodes.items }
     ensures { IfOk result (λ lines. AreBeside plan.now (repository_values repositories.now) (map bus_entry_value capture.now.entries.items) (map line_value lines.items)) }
 {
-    let messages = heard_messages(alloc, capture)?;
+    let messages = heard_messages(alloc, usize::from(plan.unit), capture)?;
     let words = words_of(alloc, &messages)?;
     let exchanges = exchanges_of(alloc, &words)?;
     lines_of_nodes(alloc, plan, repositories, &words, &exchanges)

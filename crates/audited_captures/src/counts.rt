@@ -1,6 +1,6 @@
 //! How many packets went from each endpoint ID to each.
 ghost use Rattle.std.specs.Prelude.{◌≡◌, ◌+◌, ◌<◌, ◌==◌, ◌++◌, ◌∷◌, [], ℕ, IfOk, OnOk, List, map, length, slice_index_or, slice_set, if◌then◌else◌};
-ghost use Rattle.audited_captures.specs.Packets.{PacketValue, packet_value, count_like, AreFirst};
+ghost use Rattle.audited_captures.specs.Packets.{NumberedPacket, numbered_packet, count_like, AreFirst};
 ghost use Rattle.audited_captures.specs.Counts.{place_of, AreCounts};
 
 use crate::packets::CapturedPacket;
@@ -19,13 +19,13 @@ pub struct FirstPackets {
 
 impl FirstPackets {
     ghost use Rattle.std.specs.Prelude.{◌≡◌, ◌<◌, List, length};
-    ghost use Rattle.audited_captures.specs.Packets.{PacketValue, packet_value, count_like};
+    ghost use Rattle.audited_captures.specs.Packets.{NumberedPacket, numbered_packet, count_like};
     ghost use Rattle.audited_captures.specs.Counts.{AreCounts};
 
     /// How many packets went the way of this one, itself among them.
     pub fn count_like(&self, packet: &CapturedPacket) -> usize
         requires { length self.now.counts.items ≡ 65536 }
-        ensures { (ps : List PacketValue) → AreCounts ps self.now.counts.items → result ≡ count_like (packet_value packet.now) ps }
+        ensures { (ps : List NumberedPacket) → AreCounts ps self.now.counts.items → result ≡ count_like (numbered_packet packet.now) ps }
     {
         self.counts[place_of(packet)]
     }
@@ -33,8 +33,8 @@ impl FirstPackets {
 
 /// The first packets from each endpoint ID to each.
 pub fn first_packets(alloc: Global, packets: &[CapturedPacket]) -> Result<FirstPackets, AllocError>
-    ensures first { IfOk result (λ found. AreFirst (map packet_value packets.now) (map packet_value found.packets.items)) }
-    ensures counts { IfOk result (λ found. AreCounts (map packet_value packets.now) found.counts.items) }
+    ensures first { IfOk result (λ found. AreFirst (map numbered_packet packets.now) (map numbered_packet found.packets.items)) }
+    ensures counts { IfOk result (λ found. AreCounts (map numbered_packet packets.now) found.counts.items) }
 {
     let mut counts = vec![in alloc; 0; EIDS * EIDS]?;
     let mut firsts = Vec::new(alloc);

@@ -2,13 +2,13 @@
 ghost use Rattle.std.specs.Prelude.{◌≡◌, ◌≢◌, ◌↔◌, IfOk, IsTrue, MatchOption, option_map, true, false};
 ghost use Rattle.net_tables.specs.Routing.{Holds};
 ghost use Rattle.audited_captures.specs.Judging.{unplanned_value, why_by};
-ghost use Rattle.audited_captures.specs.Traffic.{IsHeld, LacksSender, LacksReceiver, is_over, is_one_over, IsPlanned, IsJudged};
+ghost use Rattle.audited_captures.specs.Traffic.{LacksSender, LacksReceiver, is_over, is_one_over, IsPlanned, IsJudged};
 
 use mctp_transport::Eid;
 use net_check::Checked;
 use net_plan::Plan;
 use net_questions::{End, Way, WayStep, follow};
-use net_tables::lookup::{bus_at, holds};
+use net_tables::lookup::{bus_at, holder, holds, is_held};
 use std::alloc::{AllocError, Global};
 
 /// Why packets from an endpoint ID to another aren't planned.
@@ -61,24 +61,6 @@ fn lacks_receiver(plan: &Plan, destination: Eid) -> bool
     ensures { IsTrue result ↔ LacksReceiver plan.now destination.value }
 {
     destination.value != 0 && destination.value != 255 && !is_held(plan, destination)
-}
-
-fn is_held(plan: &Plan, eid: Eid) -> bool
-    ensures { IsTrue result ↔ IsHeld plan.now eid.value }
-{
-    holder(plan, eid).is_some()
-}
-
-/// A node that holds the endpoint ID.
-pub fn holder(plan: &Plan, eid: Eid) -> Option<usize>
-    ensures { MatchOption result (¬ IsHeld plan.now eid.value) (λ n. Holds plan.now n eid.value) }
-{
-    for node in 0..plan.nodes.len() {
-        if holds(plan, node, eid) {
-            return Some(node);
-        }
-    }
-    None
 }
 
 /// The same where nobody lacks.

@@ -3,24 +3,25 @@ ghost use Rattle.std.specs.Prelude.{◌≡◌, ◌++◌, ◌==◌, IfOk, OnOk, L
 ghost use Rattle.std.specs.Fmt.{decimal};
 ghost use Rattle.std.specs.List.{flat_map};
 ghost use Rattle.bus_captures.specs.Values.{entry_value};
+ghost use Rattle.mctp_transport.specs.PacketValues.{IsUnit};
 ghost use Rattle.net_questions.specs.declared.step.WayStep.{WayStep};
-ghost use Rattle.plan_exports.specs.Words.{node_name, bus_name};
+ghost use Rattle.net_tables.specs.Names.{node_name, bus_name};
 ghost use Rattle.audited_captures.specs.Counts.{AreCounts};
 ghost use Rattle.audited_captures.specs.Judging.{unplanned_value};
 ghost use Rattle.audited_captures.specs.Lines.{line_value, difference};
-ghost use Rattle.audited_captures.specs.Packets.{PacketValue, packet_value};
+ghost use Rattle.audited_captures.specs.Packets.{NumberedPacket, numbered_packet};
 ghost use Rattle.audited_captures.specs.TrafficLines.{IsNameOf, bus_text, step_bus, by_words, over_words, why_words, more_words, IsLineOf, IsOneLine, AreLinesOf, AreTrafficLines, IsTraffic};
 
 use crate::counts::{FirstPackets, first_packets};
 use crate::lines::{Line, add_difference};
 use crate::packets::{CapturedPacket, packets_of};
-use crate::traffic::{Unplanned, holder, judged};
+use crate::traffic::{Unplanned, judged};
 use bus_captures::Capture;
 use mctp_transport::Eid;
 use net_check::Checked;
 use net_plan::Plan;
 use net_questions::WayStep;
-use net_tables::lookup::bus_at;
+use net_tables::lookup::{bus_at, bus_name, holder, node_name};
 use std::alloc::{AllocError, Global};
 
 /// What is told of the packets of a capture that a checked plan doesn't have on a bus, or on any bus where none is given.
@@ -33,9 +34,17 @@ pub fn traffic_lines(
 ) -> Result<Vec<Line>, AllocError>
     ensures { IfOk result (λ lines. IsTraffic checked.now.0 bus (map entry_value capture.now.entries.items) (map line_value lines.items)) }
 {
-    let packets = packets_of(alloc, capture)?;
+    let packets = packets_of(alloc, unit_of(checked), capture)?;
     let firsts = first_packets(alloc, &packets)?;
     lines_of_firsts(alloc, checked, bus, &firsts)
+}
+
+/// The transmission unit of a checked plan, in bytes.
+fn unit_of(checked: &Checked) -> usize
+    ensures unit { result ≡ checked.now.0.unit }
+    ensures bounds { IsUnit result }
+{
+    usize::from(checked.plan().unit)
 }
 
 fn lines_of_firsts(
@@ -45,8 +54,8 @@ fn lines_of_firsts(
     firsts: &FirstPackets,
 ) -> Result<Vec<Line>, AllocError>
     requires { length firsts.now.counts.items ≡ 65536 }
-    ensures { (packets : List PacketValue) → AreCounts packets firsts.now.counts.items
-        → IfOk result (λ lines. AreTrafficLines checked.now.0 bus packets (map packet_value firsts.now.packets.items) (map line_value lines.items)) }
+    ensures { (packets : List NumberedPacket) → AreCounts packets firsts.now.counts.items
+        → IfOk result (λ lines. AreTrafficLines checked.now.0 bus packets (map numbered_packet firsts.now.packets.items) (map line_value lines.items)) }
 {
     let mut lines = Vec::new(alloc);
     for first in firsts.packets.iter() {
@@ -64,7 +73,7 @@ fn lines_of(
     first: &CapturedPacket,
     count: usize,
 ) -> Result<Vec<Line>, AllocError>
-    ensures { IfOk result (λ lines. AreLinesOf checked.now.0 bus (packet_value first.now) count (map line_value lines.items)) }
+    ensures { IfOk result (λ lines. AreLinesOf checked.now.0 bus (numbered_packet first.now) count (map line_value lines.items)) }
 {
     let why = judged(alloc, checked, bus, first.source, first.destination)?;
     match why {
@@ -80,7 +89,7 @@ fn line_of(
     count: usize,
     why: &Unplanned,
 ) -> Result<Vec<Line>, AllocError>
-    ensures { IfOk result (λ lines. IsOneLine plan.now (packet_value first.now) count (unplanned_value why.now) (map line_value lines.items)) }
+    ensures { IfOk result (λ lines. IsOneLine plan.now (numbered_packet first.now) count (unplanned_value why.now) (map line_value lines.items)) }
 {
     let text = packets_text(alloc, plan, first, count, why)?;
     let mut lines = Vec::new(alloc);
@@ -95,7 +104,7 @@ fn packets_text(
     count: usize,
     why: &Unplanned,
 ) -> Result<String, AllocError>
-    ensures { IfOk result (λ text. IsLineOf plan.now (packet_value first.now) count (unplanned_value why.now) (difference (string_bytes text))) }
+    ensures { IfOk result (λ text. IsLineOf plan.now (numbered_packet first.now) count (unplanned_value why.now) (difference (string_bytes text))) }
 {
     let number = first.number;
     let more = more_words(alloc, count)?;
@@ -218,22 +227,4 @@ fn step_bus<'a>(plan: &'a Plan, step: &WayStep) -> &'a str
         Some(bus) => bus_name(plan, bus),
         None => "-",
     }
-}
-
-/// The name of a bus; a dash where there is no such bus.
-fn bus_name(plan: &Plan, bus: usize) -> &str
-    ensures { result.now ≡ bus_name plan.now bus }
-{
-    plan.buses
-        .get(bus)
-        .map_or("-", |bus| bus.name.text.as_str())
-}
-
-/// The name of a node; a dash where there is no such node.
-fn node_name(plan: &Plan, node: usize) -> &str
-    ensures { result.now ≡ node_name plan.now node }
-{
-    plan.nodes
-        .get(node)
-        .map_or("-", |node| node.name.text.as_str())
 }

@@ -50,7 +50,7 @@ fn lines_of_walk(
 ) -> Result<Vec<Line>, AllocError>
     ensures { IfOk result (λ lines. IsWalkLines name.now (entries planned.now) (record_part_value first.now) (map record_part_value parts.now) (map line_value lines.items)) }
 {
-    let mut walker = fresh_walk(alloc, first.request.count)?;
+    let mut walker = fresh_walk(alloc, first.request.request_count)?;
     let ending = walk(&mut walker, first.requester, parts)?;
     walk_lines(alloc, name, planned, walker.records(), ending)
 }

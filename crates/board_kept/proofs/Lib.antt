@@ -4,7 +4,6 @@ pub mod Members
 pub mod Reaching
 pub mod Raising
 pub mod Turning
-pub mod SameLists
 pub mod Named
 mod SameFrames
 pub mod CutOff

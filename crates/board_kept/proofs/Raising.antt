@@ -5,11 +5,6 @@ use Rattle.mctp_transport.proofs.FirstIndexes.{get_cases}
 use Rattle.net_plan.specs.declared.plan.Plan.{Plan}
 use Rattle.board_kept.specs.Ways.{AreLeast, ComesOver, HaveReached, IsRaised, IsRaisedAt, NoneFewer, TurnsTo}
 
--- no hop is the least
-pub none_least : (turns : List (Option ℕ)) (plan : Plan) (a : ℕ) (hops : List ℕ) → ((b said : ℕ) → slice_get hops b ≡ Some said → said ≡ 0)
-    → AreLeast turns plan a hops
-none_least turns plan a hops none b said within found fewer less = absurd (omega (arith, less, none b said found))
-
 -- one number more
 pub one_zero_more : (hops : List ℕ) → ((b said : ℕ) → slice_get hops b ≡ Some said → said ≡ 0)
     → (b said : ℕ) → slice_get (hops ++ 0 ∷ []) b ≡ Some said → said ≡ 0

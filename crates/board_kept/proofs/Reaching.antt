@@ -1,5 +1,5 @@
 -- Which nodes one hop more leads to.
-use Rattle.std.proofs.Common.{◌≡◌, ◌≢◌, ◌⊎◌, ℕ, zero, suc, ◌+◌, ◌<◌, ◌≤◌, List, [], ◌∷◌, ◌++◌, Vec, length, Bool, true, Option, Some, IsTrue, slice_get, subst, sym, ap, inl, inr, arith, add-one}
+use Rattle.std.proofs.Common.{◌≡◌, ◌⊎◌, ℕ, zero, suc, ◌+◌, ◌<◌, ◌≤◌, List, [], ◌∷◌, ◌++◌, Vec, length, Bool, true, Option, Some, IsTrue, slice_get, subst, sym, ap, inl, inr, arith, add-one}
 use Rattle.std.proofs.lemmas.Bool.{cases_lt}
 use Rattle.std.proofs.lemmas.Option.{slice_get_within}
 use Rattle.mctp_transport.proofs.FirstIndexes.{get_front, get_last}
@@ -87,10 +87,6 @@ none_shared plan m n count end ports same counted reached none (p, (port, found,
     let within : p < length (ports_of plan m) = slice_get_within (ports_of plan m) p port found in
     let all : length ports ≡ length (ports_of plan m) = ap length same in
     none p (omega (arith, within, all, counted, reached)) (port, found, on)
-
--- what turns away is no step
-pub no_step_away : (near : List (Vec Bool Global)) (turns : List (Option ℕ)) (m n : ℕ) → (k : ℕ) × TurnsTo turns m k × (k ≢ n) → ¬ IsStepIn near turns m n
-no_step_away near turns m n (k, turned, other) (flags, only) = other (only k turned)
 
 -- where more is given there are fewer ways
 pub more_given : (One Other : ℕ → ℕ → Type 0) (plan : Plan) → ((n k : ℕ) → One n k → Other n k) → (a hops b : ℕ)

@@ -1,15 +1,11 @@
 -- Two plans of one frame, of whose nodes none is unlike.
-use Rattle.std.proofs.Common.{◌≡◌, ℕ, length, Option, Some, None, is_some, Bool, IsTrue, not}
+use Rattle.std.proofs.Common.{◌≡◌, ℕ, Option, Some, None, is_some, Bool, IsTrue, not}
 use Rattle.net_plan.specs.NodeValues.{but_rows}
 use Rattle.net_plan.specs.declared.plan.Plan.{Plan}
 use Rattle.net_plan.proofs.SameItems.{same_items}
 use Rattle.net_rules.specs.MoveRules.{HaveSameFrame, IsSameNode}
 use Rattle.net_rules.specs.MoveSearch.{IsFirstUnlike}
 use Rattle.board_kept.specs.Rowed.{IsSameButRows}
-
-pub as_many : (before after : Plan) → HaveSameFrame before after → length before.nodes.items ≡ length after.nodes.items
-unfolding HaveSameFrame
-as_many before after (unit, buses, many) = many
 
 pub same_but_rows : (before after : Plan) (first : Option ℕ) (none : Bool) → HaveSameFrame before after → IsFirstUnlike before after first
     → is_some first ≡ not none → IsTrue none → IsSameButRows before after

@@ -1,7 +1,7 @@
 -- Who is reached where what is given leads on.
 use Rattle.std.proofs.Common.{◌≡◌, ℕ, ◌<◌, ◌≤◌, List, [], ◌∷◌, ◌++◌, Vec, length, Option, Some, None, IfSome, slice_get, subst, sym, ◌∙◌, inl, inr, arith}
 use Rattle.std.specs.declared.alloc.Global.{Global}
-use Rattle.std.proofs.lemmas.Option.{same_Some, none-some}
+use Rattle.std.proofs.lemmas.Option.{same_Some}
 use Rattle.mctp_transport.proofs.FirstIndexes.{get_cases}
 use Rattle.net_plan.specs.declared.plan.Plan.{Plan}
 use Rattle.toml.specs.Data.{Data}
@@ -12,10 +12,6 @@ use Rattle.board_kept.specs.Ways.{AreLeast, NoneFewer, ReachesBy, ReachesTurning
 use Rattle.board_kept.specs.Made.{IsRowGiven, GivesStepAt}
 use Rattle.board_kept.specs.Turns.{AreTurns, AreTurnsTo, HaveTurns, IsTurnsAt}
 use Rattle.board_kept.proofs.Reaching.{none_fewer_given}
-
--- nothing is turned by nothing
-pub no_turns : (Given : ℕ → ℕ → Type 0) → AreTurns Given []
-no_turns Given n k turned = absurd (none-some (Some k) turned)
 
 -- one turn more
 pub one_turn_more : (Given : ℕ → ℕ → Type 0) (turns : List (Option ℕ)) (turn : Option ℕ) (m : ℕ) → length turns ≡ m → AreTurns Given turns

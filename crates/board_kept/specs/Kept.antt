@@ -17,7 +17,8 @@ use Rattle.board_values.specs.Said.{SaysText, SaysNumber, SaysOr, SaysNoneOr, it
 use Rattle.board_values.specs.Said.{AreItemsKept}
 use Rattle.board_kept.specs.Keys.{IsBoardKey, IsBusKey, IsNodeKey, IsHexKey, IsFileKey}
 use Rattle.board_values.specs.Eids.{eids_text}
-use Rattle.board_kept.specs.Texts.{binding_word, kind_word, node_name, port_text, row_text}
+use Rattle.net_tables.specs.Names.{kind_word, name_of_node}
+use Rattle.board_kept.specs.Texts.{binding_word, port_text, row_text}
 use Rattle.board_kept.specs.Fields.{AreFieldsGiven}
 
 -- the number of a binding, or its word
@@ -39,7 +40,7 @@ IsKindKept kind said = (said ≡ None) ⊎ SaysText said (kind_word kind)
 -- the owner by its name; nobody where nothing stands there
 abbrev pub IsOwnerKept : Plan → Option ℕ → Option Data → Type 0
 IsOwnerKept plan owner said = ((said ≡ None) × (owner ≡ None))
-    ⊎ ((m : ℕ) × (name : List ℕ) × (owner ≡ Some m) × (node_name plan m ≡ Some name) × SaysText said name)
+    ⊎ ((m : ℕ) × (name : List ℕ) × (owner ≡ Some m) × (name_of_node plan m ≡ Some name) × SaysText said name)
 
 -- the endpoint IDs of a pool, or its size
 abbrev pub SaysPool : Pool → Option Data → Type 0
@@ -69,7 +70,7 @@ pub record AreRowsKept (plan : Plan) (rows : List Row) (d : Data) : Type 0 where
 
 -- what stands there is a node's name
 abbrev pub NamesNode : Plan → Option Data → Type 0
-NamesNode plan said = (n : ℕ) × (name : List ℕ) × (node_name plan n ≡ Some name) × SaysText said name
+NamesNode plan said = (n : ℕ) × (name : List ℕ) × (name_of_node plan n ≡ Some name) × SaysText said name
 
 -- nothing stands at the index of the list, or a node's name
 abbrev pub IsNameAt : Plan → Data → ℕ → Type 0

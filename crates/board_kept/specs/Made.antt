@@ -10,7 +10,8 @@ use Rattle.net_tables.specs.Ownership.{IsOwnedBy}
 use Rattle.net_tables.specs.Routing.{Covers, IsBridge, ports_of, rows_of}
 use Rattle.net_rules.specs.Rules.{Accepts}
 use Rattle.board_values.specs.Said.{SaysText, item_at}
-use Rattle.board_kept.specs.Texts.{node_name, row_text}
+use Rattle.board_kept.specs.Texts.{row_text}
+use Rattle.net_tables.specs.Names.{name_of_node}
 use Rattle.board_kept.specs.Kept.{Keeps}
 use Rattle.board_kept.specs.Ways.{HasNoWayBy, ReachesBy}
 
@@ -20,7 +21,7 @@ ListsName d name = (i : ℕ) × SaysText (item_at (codes "reaches") i d) name
 
 -- so it is of node b's name
 abbrev pub ListsNode : Data → Plan → ℕ → Type 0
-ListsNode d plan b = (name : List ℕ) × (node_name plan b ≡ Some name) × ListsName d name
+ListsNode d plan b = (name : List ℕ) × (name_of_node plan b ≡ Some name) × ListsName d name
 
 -- what stands of a node asks for b: nothing stands at `reaches`, or b's name does
 abbrev pub Asks : Data → Plan → ℕ → Type 0

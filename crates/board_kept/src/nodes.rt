@@ -7,13 +7,14 @@ ghost use Rattle.board_kept.specs.Kept.{IsKindKept, IsOwnerKept, SaysPool, IsPoo
 
 use crate::keys::{Level, has_only_keys};
 use crate::records::keeps_terminus;
-use crate::texts::{kind_word, node_name, port_text, row_text};
+use crate::texts::{node_name, port_text, row_text};
 use board::RecordFile;
 use board_values::{
     eids_text, has_item, is_left_out, is_list_at, is_text, item, says_none_or, says_number,
     says_text,
 };
 use net_plan::{Kind, Node, Plan, Pool, Port, Row};
+use net_tables::lookup::kind_word;
 use std::alloc::{AllocError, Global};
 use toml::Value;
 

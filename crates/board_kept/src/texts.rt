@@ -1,9 +1,10 @@
 //! How a board writes what stands in a plan.
 ghost use Rattle.std.specs.Prelude.{◌≡◌, IfOk, [], Some, None, option_map, unwrap_or, string_bytes};
-ghost use Rattle.board_kept.specs.Texts.{binding_word, kind_word, node_name, bus_name, port_text, row_text};
+ghost use Rattle.net_tables.specs.Names.{name_of_bus, name_of_node};
+ghost use Rattle.board_kept.specs.Texts.{binding_word, port_text, row_text};
 
 use board_values::eids_text;
-use net_plan::{Kind, Plan, Port, Row};
+use net_plan::{Plan, Port, Row};
 use std::alloc::{AllocError, Global};
 
 /// The word of a physical transport binding identifier (DSP0239), where it has one.
@@ -21,19 +22,9 @@ pub fn binding_word(number: u8) -> Option<&'static str>
     }
 }
 
-/// The word of a kind.
-pub fn kind_word(kind: Kind) -> &'static str
-    ensures { result.now ≡ kind_word kind }
-{
-    match kind {
-        Kind::Bridge => "bridge",
-        Kind::Endpoint => "endpoint",
-    }
-}
-
 /// The name of a node, none beyond the plan.
 pub fn node_name(plan: &Plan, node: usize) -> Option<&str>
-    ensures { option_map (λ name. name.now) result ≡ node_name plan.now node }
+    ensures { option_map (λ name. name.now) result ≡ name_of_node plan.now node }
 {
     match plan.nodes.get(node) {
         Some(node) => Some(node.name.text.as_str()),
@@ -43,7 +34,7 @@ pub fn node_name(plan: &Plan, node: usize) -> Option<&str>
 
 /// The name of a bus, none beyond the plan.
 fn bus_name(plan: &Plan, bus: usize) -> Option<&str>
-    ensures { option_map (λ name. name.now) result ≡ bus_name plan.now bus }
+    ensures { option_map (λ name. name.now) result ≡ name_of_bus plan.now bus }
 {
     match plan.buses.get(bus) {
         Some(bus) => Some(bus.name.text.as_str()),

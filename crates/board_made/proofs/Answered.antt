@@ -1,5 +1,5 @@
 -- What is answered for a board is answered to its text, and how lines are worded.
-use Rattle.std.proofs.Common.{◌≡◌, ◌≢◌, ℕ, List, ◌++◌, String, Global, Option, Some, None, Result, Ok, Err, inl, inr, subst, sym}
+use Rattle.std.proofs.Common.{◌≡◌, ◌≢◌, ℕ, List, ◌++◌, String, Global, Option, Some, None, Result, Ok, Err, subst, sym}
 use Rattle.std.specs.Prelude.{IfOk, IfSome, codes, string_bytes}
 use Rattle.toml.specs.Data.{Data}
 use Rattle.net_plan.specs.declared.plan.Plan.{Plan}

@@ -9,7 +9,7 @@ use Rattle.net_plan.specs.PlanValues.{node_names, plan_value}
 use Rattle.net_json.specs.CertificateJson.{certificate_text}
 use Rattle.net_json.specs.CertificateText.{IsCertificateOf}
 use Rattle.net_json.specs.PlanText.{IsPlanOf}
-use Rattle.net_json.specs.Texts.{StandsFor}
+use Rattle.net_json.specs.Texts.{IsJsonTextOf}
 use Rattle.net_rules.specs.Certificates.{IsExact}
 use Rattle.board_values.specs.Said.{IsTomlOf}
 use Rattle.board_kept.specs.Made.{IsFitFor}
@@ -22,13 +22,13 @@ use Rattle.board_made.specs.declared.answer.BoardAnswer.TheVariants.{Made, NoPla
 pub record IsCertificateText (plan : Plan) (certificate : Certificate) (text : List ℕ) : Type 0 where
   pub exact : IsExact plan certificate
   pub written : text ≡ certificate_text (node_names (plan_value plan).nodes) (certificate_value certificate)
-  pub reads_back : StandsFor (IsCertificateOf (plan_value plan)) text (certificate_value certificate)
+  pub reads_back : IsJsonTextOf (IsCertificateOf (plan_value plan)) text (certificate_value certificate)
 
 -- One text reads as a plan, and the other is that of its certificate, with which the plan is fit for the board.
 pub record IsFitText (files : List RecordFile) (board : Data) (text certified : List ℕ) : Type 0 where
   pub plan : Plan
   pub certificate : Certificate
-  pub reads : StandsFor IsPlanOf text (plan_value plan)
+  pub reads : IsJsonTextOf IsPlanOf text (plan_value plan)
   pub written : IsCertificateText plan certificate certified
   pub fit : IsFitFor files board plan certificate
 

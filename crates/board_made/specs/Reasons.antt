@@ -10,7 +10,7 @@ use Rattle.board.specs.declared.board.RecordFile.{RecordFile}
 use Rattle.board.specs.declared.making.NoPlan.{NoPlan}
 use Rattle.board_values.specs.Lacks.{Lacks}
 use Rattle.board_values.specs.Lines.{IsNodeTold, IsWorded}
-use Rattle.board_kept.specs.Texts.{node_name}
+use Rattle.net_tables.specs.Names.{name_of_node}
 use Rattle.board_kept.specs.Kept.{Keeps}
 use Rattle.board_kept.specs.Made.{IsCutOff}
 use Rattle.board_kept.specs.Rowed.{IsSameButRows, LeadsAlready}
@@ -83,7 +83,7 @@ name_words name = codes "node \"" ++ (name ++ codes "\"")
 
 -- the text says of these nodes of a plan that no way leads from one to the other
 abbrev pub IsWayToldOf : Plan → ℕ → ℕ → List ℕ → Type 0
-IsWayToldOf plan a b text = (one other : List ℕ) × (node_name plan a ≡ Some one) × (node_name plan b ≡ Some other)
+IsWayToldOf plan a b text = (one other : List ℕ) × (name_of_node plan a ≡ Some one) × (name_of_node plan b ≡ Some other)
     × (text ≡ reason_line (way_words (name_words one) (name_words other)))
 
 -- The text says so, and so it is in a plan that is the given one but for its rows, with the rows of the given one.

@@ -4,7 +4,7 @@ use Rattle.net_plan.specs.declared.plan.Plan.{Plan}
 use Rattle.net_plan.specs.declared.certificate.Certificate.{Certificate}
 use Rattle.net_plan.specs.PlanValues.{plan_value}
 use Rattle.net_json.specs.PlanText.{IsPlanOf}
-use Rattle.net_json.specs.Texts.{StandsFor}
+use Rattle.net_json.specs.Texts.{IsJsonTextOf}
 use Rattle.board_kept.specs.Rowed.{IsRowedFrom}
 use Rattle.board_made.specs.declared.rowed.RowsAnswer.{RowsAnswer}
 use Rattle.board_made.specs.declared.rowed.RowsAnswer.TheVariants.{Made, NoPlan}
@@ -14,7 +14,7 @@ use Rattle.board_made.specs.Reasons.{IsRowsReason}
 pub record IsRowedText (before : Plan) (text : List ℕ) : Type 0 where
   pub plan : Plan
   pub certificate : Certificate
-  pub reads : StandsFor IsPlanOf text (plan_value plan)
+  pub reads : IsJsonTextOf IsPlanOf text (plan_value plan)
   pub rowed : IsRowedFrom before plan certificate
 
 -- what is answered of the plan

@@ -5,7 +5,7 @@ ghost use Rattle.net_plan.specs.CertificateValues.{certificate_value};
 ghost use Rattle.net_plan.specs.PlanValues.{plan_value};
 ghost use Rattle.net_plan.specs.WellFormed.{IsWellFormed};
 ghost use Rattle.net_json.specs.PlanText.{IsPlanOf};
-ghost use Rattle.net_json.specs.Texts.{StandsFor};
+ghost use Rattle.net_json.specs.Texts.{IsJsonTextOf};
 ghost use Rattle.net_rules.specs.Certificates.{IsExact, NamesObstacle, RulesOutCertificates};
 ghost use Rattle.board_kept.specs.Made.{IsFitFor};
 ghost use Rattle.board_made.specs.Made.{IsAnswerFor, IsCertificateText};
@@ -46,7 +46,7 @@ fn judged_plan(
     made: Made,
     plan: &Plan,
 ) -> Result<BoardAnswer, AllocError>
-    requires { StandsFor IsPlanOf (string_bytes made.text) (plan_value plan.now) }
+    requires { IsJsonTextOf IsPlanOf (string_bytes made.text) (plan_value plan.now) }
     ensures { IfOk result (λ answer. IsAnswerFor files.now (view board.now) answer) }
 {
     match cut_reason(alloc, text, files, board, plan, made.cut)? {
@@ -96,7 +96,7 @@ fn judged_text(
     made: String,
     plan: &Plan,
 ) -> Result<BoardAnswer, AllocError>
-    requires { StandsFor IsPlanOf (string_bytes made) (plan_value plan.now) }
+    requires { IsJsonTextOf IsPlanOf (string_bytes made) (plan_value plan.now) }
     ensures { IfOk result (λ answer. IsAnswerFor files.now (view board.now) answer) }
 {
     match certify(alloc, plan) {
@@ -136,7 +136,7 @@ fn judged_with(
     plan: &Plan,
     certificate: &Certificate,
 ) -> Result<BoardAnswer, AllocError>
-    requires reads { StandsFor IsPlanOf (string_bytes made) (plan_value plan.now) }
+    requires reads { IsJsonTextOf IsPlanOf (string_bytes made) (plan_value plan.now) }
     requires exact { IsExact plan.now certificate.now }
     requires well_formed { IsWellFormed (plan_value plan.now) (certificate_value certificate.now) }
     ensures { IfOk result (λ answer. IsAnswerFor files.now (view board.now) answer) }

@@ -2,7 +2,7 @@
 ghost use Rattle.std.specs.Prelude.{◌≡◌, IfOk, IfSome, None, string_bytes};
 ghost use Rattle.net_plan.specs.PlanValues.{plan_value};
 ghost use Rattle.net_json.specs.PlanText.{IsPlanOf};
-ghost use Rattle.net_json.specs.Texts.{StandsFor};
+ghost use Rattle.net_json.specs.Texts.{IsJsonTextOf};
 ghost use Rattle.net_rules.specs.Certificates.{NamesObstacle, RulesOutCertificates};
 ghost use Rattle.board_kept.specs.Rowed.{IsRowedFrom};
 ghost use Rattle.board_made.specs.Reasons.{IsCutToldOf, IsRowsReason, IsUnfound};
@@ -52,7 +52,7 @@ fn judged_plan(
     made: Made,
     plan: &Plan,
 ) -> Result<RowsAnswer, AllocError>
-    requires { StandsFor IsPlanOf (string_bytes made.text) (plan_value plan.now) }
+    requires { IsJsonTextOf IsPlanOf (string_bytes made.text) (plan_value plan.now) }
     ensures { IfOk result (λ answer. IsRowsAnswer before.now answer) }
 {
     match cut_reason(alloc, before, plan, made.cut)? {
@@ -96,7 +96,7 @@ fn judged_text(
     made: String,
     plan: &Plan,
 ) -> Result<RowsAnswer, AllocError>
-    requires { StandsFor IsPlanOf (string_bytes made) (plan_value plan.now) }
+    requires { IsJsonTextOf IsPlanOf (string_bytes made) (plan_value plan.now) }
     ensures { IfOk result (λ answer. IsRowsAnswer before.now answer) }
 {
     match certify(alloc, plan) {
@@ -130,7 +130,7 @@ fn judged_with(
     plan: &Plan,
     certificate: &Certificate,
 ) -> Result<RowsAnswer, AllocError>
-    requires { StandsFor IsPlanOf (string_bytes made) (plan_value plan.now) }
+    requires { IsJsonTextOf IsPlanOf (string_bytes made) (plan_value plan.now) }
     ensures { IfOk result (λ answer. IsRowsAnswer before.now answer) }
 {
     match why_unfit(alloc, before, plan, certificate)? {

@@ -1,15 +1,10 @@
 -- What the nodes take, one after another.
-use Rattle.std.proofs.Common.{◌≡◌, ℕ, ◌+◌, ◌<◌, ◌≤◌, List, [], ◌∷◌, ◌++◌, sum, Option, refl, subst, inl, inr, arith}
+use Rattle.std.proofs.Common.{◌≡◌, ℕ, ◌+◌, ◌≤◌, List, [], ◌∷◌, ◌++◌, sum, Option, subst, inl, inr, arith}
 use Rattle.std.proofs.lemmas.List.{length-append}
 use Rattle.std.proofs.lemmas.List.Sums.{fold-append}
-use Rattle.std.proofs.lemmas.Option.{none-some}
 use Rattle.mctp_transport.proofs.FirstIndexes.{get_cases}
 use Rattle.toml.specs.Data.{Data}
-use Rattle.board_values.specs.Owners.{Takes, HaveTaken, HasInPool, IsOverdrawn}
-
--- nothing is taken by none
-pub none_taken : (board : Data) (owner : Option ℕ) → HaveTaken board owner 0 0
-none_taken board owner = record { shares = []; counted = refl; taken = λ n taken at. absurd (none-some taken at); most = omega arith }
+use Rattle.board_values.specs.Owners.{Takes, HaveTaken}
 
 sum_more : (xs : List ℕ) (x : ℕ) → sum (xs ++ x ∷ []) ≡ sum xs + x
 sum_more xs x = fold-append ◌+◌ 0 xs (x ∷ [])
@@ -26,9 +21,3 @@ one_taken_more board owner count total taken all before here few = record {
   ];
   most = omega (arith, few, before.most, sum_more before.shares taken);
 }
-
--- more than the pool has
-pub overdrawn_by : (board : Data) (owner : Option ℕ) (size total : ℕ) → (count : ℕ) × HaveTaken board owner count total → HasInPool board owner size
-    → size < total → IsOverdrawn board owner
-overdrawn_by board owner size total (count, taken) has more =
-    record { shares = taken.shares; taken = taken.taken; size = size; has = has; more = omega (arith, taken.most) }

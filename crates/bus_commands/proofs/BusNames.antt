@@ -4,12 +4,13 @@ use Rattle.std.proofs.lemmas.Option.{slice_get_within}
 use Rattle.net_plan.specs.declared.nodes.Bus.{Bus}
 use Rattle.net_plan.specs.declared.plan.Plan.{Plan}
 use Rattle.bus_captures.specs.Lines.{behind_word, uncommented, word}
-use Rattle.bus_commands.specs.PacketLines.{IsOtherText, IsPacketText, IsReadOver, NamesBus, Says, bus_name, said_value}
+use Rattle.bus_commands.specs.PacketLines.{IsOtherText, IsPacketText, IsReadOver, NamesBus, Says, said_value}
+use Rattle.net_tables.specs.Names.{name_of_bus}
 use Rattle.bus_commands.specs.declared.line.Said.{Said}
 use Rattle.bus_commands.specs.declared.line.Said.TheVariants as said
 
 -- a bus with a name is one of the plan's
-pub named_within : (plan : Plan) (b : ℕ) (name : List ℕ) → bus_name plan b ≡ Some name → b < length plan.buses.items
+pub named_within : (plan : Plan) (b : ℕ) (name : List ℕ) → name_of_bus plan b ≡ Some name → b < length plan.buses.items
 named_within plan b name is = by (slice_get plan.buses.items b) refl is
   where
     by : (o : Option Bus) → slice_get plan.buses.items b ≡ o → option_map (λ (bus : Bus). string_bytes bus.name.text) o ≡ Some name → b < length plan.buses.items

@@ -1,5 +1,4 @@
 mod BusNames
-mod BytesTold
 mod Capturing
 mod Emulating
 mod HopLaws

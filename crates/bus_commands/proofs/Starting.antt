@@ -1,5 +1,5 @@
 -- What the rules of an accepted plan say of a node that is emulated.
-use Rattle.std.proofs.Common.{◌≡◌, ℕ, Bool, List, Some, None, Option, Result, Ok, Err, IfOk, option_map, sym, ap, subst, ◌∙◌, arith}
+use Rattle.std.proofs.Common.{◌≡◌, ℕ, Bool, List, [], Some, None, Option, Result, Ok, Err, IfOk, option_map, refl, sym, ap, subst, ◌∙◌, arith}
 use Rattle.net_plan.specs.declared.certificate.Certificate.{Certificate}
 use Rattle.net_plan.specs.declared.nodes.Kind.TheVariants as kind
 use Rattle.net_plan.specs.declared.nodes.Node.{Node}
@@ -8,20 +8,25 @@ use Rattle.net_plan.specs.declared.plan.Plan.{Plan}
 use Rattle.net_rules.specs.Pools.{IsPoolInRange, IsLawfulPool, HasLawfulPool}
 use Rattle.net_rules.specs.Rules.{Accepts}
 use Rattle.net_rules.specs.declared.rule.Rule.TheVariants.{C02, C04, C05, C06, C09}
+use Rattle.net_plan.specs.declared.terminus.PlannedTerminus.{PlannedTerminus}
 use Rattle.net_tables.specs.Ownership.{pool_of}
+use Rattle.net_tables.specs.Repositories.{records_by_place, terminus_of}
 use Rattle.net_tables.specs.Routing.{node_at, rows_of}
 use Rattle.net_tables.specs.Tables.{AreRows}
 use Rattle.plan_exports.specs.PlannedTables.{HasLawfulRows}
 use Rattle.std.specs.Option.{option_and_then}
 use Rattle.mctp_control.specs.Ranges.{IsAssignableRange}
 use Rattle.emulated_node.specs.Nodes.{NodeState, Setting, TerminusValue}
-use Rattle.emulated_node.specs.Standing.{StandsFor, at_start, setting_of}
+use Rattle.emulated_node.specs.Standing.{HasNodeState, at_start, setting_of}
+use Rattle.emulated_node.specs.Termini.{terminus_value}
 use Rattle.emulated_node.specs.declared.emulated.Emulated.{Emulated}
 use Rattle.mctp_bridge.specs.declared.device_kind.DeviceKind.{DeviceKind}
 use Rattle.mctp_bridge.specs.declared.row.TableRow.{TableRow}
 use Rattle.mctp_control.specs.Devices.{DeviceValue}
 use Rattle.mctp_control.specs.RouteEntries.{EntryValue}
-use Rattle.net_sim.specs.AssignmentRuns.{device_kind}
+use Rattle.net_runs.specs.Termini.{TerminusState, terminus_at_start}
+use Rattle.net_tables.specs.Names.{device_kind}
+use Rattle.net_sim.specs.Dealing.{resting}
 use Rattle.pdr_repository.specs.BlockTermini.{block_tid, block_records}
 use Rattle.pdr_repository.specs.declared.block_terminus.BlockTerminus.{BlockTerminus}
 use Rattle.plan_exports.specs.PlannedRows.{IsOrdered}
@@ -55,14 +60,26 @@ module _ (plan : Plan) (cert : Certificate) (n : ℕ) (node : Node) (accepted : 
     pool = lawful_pool;
   }
 
+fused : {A B C : Type 0} (g : B → C) (f : A → B) (o : Option A) → option_map g (option_map f o) ≡ option_map (λ a. g (f a)) o
+fused g f None = refl
+fused g f (Some a) = refl
+
+-- nothing waits at a planned terminus: so it is its TID and its records
+pub planned_so : (plan : Plan) (cert : Certificate) (n : ℕ) (terminus : Option BlockTerminus) → option_map (resting block_tid block_records) terminus ≡ terminus_at_start plan cert n
+    → option_map (terminus_value block_tid block_records) terminus ≡ planned_terminus plan cert n
+planned_so plan cert n terminus is =
+    let value_of : TerminusState → TerminusValue = λ s. record { tid = s.tid; records = s.records } in
+    let planned : PlannedTerminus → TerminusState = λ t. record { tid = t.tid; records = records_by_place plan cert n; waiting = [] } in
+    sym (fused value_of (resting block_tid block_records) terminus) ∙ (ap (option_map value_of) is ∙ fused value_of planned (terminus_of plan n))
+
 -- what is made of these is the node at its start
 pub started : {E : Type 0} (is_configured : Bool) (plan plan' : Plan) (cert cert' : Certificate) (n : ℕ) (node : Node) (kind_is : DeviceKind) (rows : List TableRow)
     (entries : List EntryValue) (device : DeviceValue) (terminus : Option TerminusValue) (made : Result (Emulated BlockTerminus) E)
     → plan' ≡ plan → cert' ≡ cert → node_at plan' n ≡ Some node → kind_is ≡ device_kind node.kind → IsOrdered plan' n rows → AreEntriesOf plan' n entries
     → device ≡ device_at_start is_configured node → terminus ≡ planned_terminus plan' cert' n
     → IfOk made (λ e. setting_of e ≡ record { plan = plan'; node = n; kind = kind_is; rows = rows; entries = entries })
-    → IfOk made (λ e. StandsFor block_tid block_records e (at_start device terminus))
-    → IfOk made (λ e. (s : NodeState) × IsStart is_configured plan cert n (setting_of e) s × StandsFor block_tid block_records e s)
+    → IfOk made (λ e. HasNodeState block_tid block_records e (at_start device terminus))
+    → IfOk made (λ e. (s : NodeState) × IsStart is_configured plan cert n (setting_of e) s × HasNodeState block_tid block_records e s)
 started is_configured plan plan' cert cert' n node kind_is rows entries device terminus (Ok e) same same_cert there kind ordered listed holds records setting stands =
     let at : node_at plan n ≡ Some node = subst (λ (p : Plan). node_at p n ≡ Some node) same there in (
       at_start device terminus,

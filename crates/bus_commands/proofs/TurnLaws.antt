@@ -3,7 +3,7 @@ use Rattle.std.proofs.Common.{◌≡◌, ℕ, List, Result, Ok, Err, IfOk, inl, 
 use Rattle.emulated_node.specs.Nodes.{NodeState, Setting}
 use Rattle.emulated_node.specs.ReceivedValues.{ReceivedValue}
 use Rattle.emulated_node.specs.Receiving.{Receives}
-use Rattle.mctp_transport.specs.Frames.{Frame, Spelled}
+use Rattle.mctp_transport.specs.PacketValues.{PacketValue, Spelled}
 use Rattle.net_plan.specs.declared.plan.Plan.{Plan}
 use Rattle.bus_commands.specs.PacketLines as said
 use Rattle.bus_commands.specs.PacketLines.{Says}
@@ -12,7 +12,7 @@ use Rattle.bus_commands.specs.declared.turn.Turn.{Turn}
 
 module _ {E : Type 0} (Before After : NodeState → Type 0) (set : Setting) (plan : Plan) (same : set.plan ≡ plan) where
   -- the bytes are a packet, and what the node does with it is told
-  pub comes_all : (bus : ℕ) (bytes line : List ℕ) (frame : Frame) (received : ReceivedValue) (made : Result Turn E) → Spelled plan.unit frame bytes
+  pub comes_all : (bus : ℕ) (bytes line : List ℕ) (frame : PacketValue) (received : ReceivedValue) (made : Result Turn E) → Spelled plan.unit frame bytes
       → ((s : NodeState) → Before s → (next : NodeState) × Receives set s bus frame received next × After next)
       → IfOk made (λ (t : Turn). IsToldOf plan received line (string_bytes t.answer) t.note.items)
       → IfOk made (λ (t : Turn). (s : NodeState) → Before s

@@ -3,7 +3,7 @@ use Rattle.std.specs.Prelude.{◌≡◌, ℕ, ◌+◌, ◌-◌, ◌^◌, ◌==�
 use Rattle.std.specs.Prelude.{◌∷◌, ◌++◌, Option, Some, None, find, option_map, slice_get}
 use Rattle.std.specs.Option.{option_and_then, option_to_list}
 use Rattle.bus_captures.specs.Written.{CarriedValue}
-use Rattle.mctp_transport.specs.Frames.{frame_bytes}
+use Rattle.mctp_transport.specs.PacketValues.{packet_value_bytes}
 use Rattle.net_plan.specs.declared.nodes.Port.{Port}
 use Rattle.net_plan.specs.declared.nodes.Row.{Row}
 use Rattle.net_plan.specs.declared.plan.Plan.{Plan}
@@ -25,7 +25,7 @@ departure_value d = record { node = d.node; destination = d.destination.value; b
 
 abbrev pub flight_departure : Flight → DepartureValue
 flight_departure f =
-    record { node = f.node; destination = f.packet.destination; bytes = frame_bytes f.packet }
+    record { node = f.node; destination = f.packet.destination; bytes = packet_value_bytes f.packet }
 
 -- the flight that the event is to move, if it is such an event
 abbrev pub moving : WalkedEvent → Option ℕ

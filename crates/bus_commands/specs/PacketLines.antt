@@ -1,6 +1,6 @@
 -- What a line of the line protocol says to a node: the name of a bus, and behind it a packet as a line of a text
 -- capture has it.
-use Rattle.std.specs.Prelude.{◌≡◌, ◌≢◌, ℕ, List, [], ◌∷◌, Option, Some, option_map, slice_get, string_bytes}
+use Rattle.std.specs.Prelude.{◌≡◌, ◌≢◌, ℕ, List, [], ◌∷◌, Some}
 use Rattle.bus_captures.specs.Captures.{IsCapture}
 use Rattle.bus_captures.specs.Lines.{behind_word, uncommented, word}
 use Rattle.bus_captures.specs.Values.{EntryValue}
@@ -13,8 +13,8 @@ use Rattle.bus_commands.specs.declared.line.Mark.{Mark}
 use Rattle.bus_commands.specs.declared.line.Mark.TheVariants as mark
 use Rattle.bus_commands.specs.declared.line.Said.{Said}
 use Rattle.bus_commands.specs.declared.line.Said.TheVariants as said
-use Rattle.net_plan.specs.declared.nodes.Bus.{Bus}
 use Rattle.net_plan.specs.declared.plan.Plan.{Plan}
+use Rattle.net_tables.specs.Names.{name_of_bus}
 use Rattle.net_tables.specs.Rows.{IsOnBus}
 
 -- nothing but a comment; no bus on which the node has a port; no packet; or these bytes, which came over the bus
@@ -35,13 +35,9 @@ sort_of mark.Hash = sort.Hash
 sort_of mark.Space = sort.Space
 sort_of mark.NoSpace = sort.NoSpace
 
--- a bus's name; none beyond the plan
-abbrev pub bus_name : Plan → ℕ → Option (List ℕ)
-bus_name plan b = option_map (λ (bus : Bus). string_bytes bus.name.text) (slice_get plan.buses.items b)
-
 -- b is a bus of the name, and n has a port on it
 abbrev pub NamesBus : Plan → ℕ → List ℕ → ℕ → Type 0
-NamesBus plan n name b = (bus_name plan b ≡ Some name) × IsOnBus plan n b
+NamesBus plan n name b = (name_of_bus plan b ≡ Some name) × IsOnBus plan n b
 
 -- the entries are one packet of these bytes, and all was read
 pub record IsOnePacket (entries : List EntryValue) (how : End) (bytes : List ℕ) : Type 0 where

@@ -4,13 +4,14 @@ use Rattle.emulated_node.specs.Nodes.{NodeState, Setting, TerminusValue}
 use Rattle.emulated_node.specs.Standing.{at_start}
 use Rattle.mctp_control.specs.Devices.{DeviceValue}
 use Rattle.mctp_control.specs.Ranges.{IsAssignableRange}
-use Rattle.mctp_transport.specs.Frames.{IsAssignable}
+use Rattle.mctp_transport.specs.PacketValues.{IsAssignable}
 use Rattle.net_plan.specs.declared.certificate.Certificate.{Certificate}
 use Rattle.net_plan.specs.declared.nodes.Kind.TheVariants as kind
 use Rattle.net_plan.specs.declared.nodes.Node.{Node}
 use Rattle.net_plan.specs.declared.nodes.Pool.{Pool}
 use Rattle.net_plan.specs.declared.plan.Plan.{Plan}
-use Rattle.net_sim.specs.AssignmentRuns.{device_kind, holding, starting}
+use Rattle.net_tables.specs.Names.{device_kind}
+use Rattle.net_sim.specs.AssignmentRuns.{holding, starting}
 use Rattle.net_tables.specs.Repositories.{records_by_place, terminus_of}
 use Rattle.net_tables.specs.Routing.{node_at}
 use Rattle.plan_exports.specs.PlannedRows.{IsOrdered}

@@ -7,14 +7,14 @@ use Rattle.emulated_node.specs.ReceivedValues.{ReceivedValue, Sent, Held, Droppe
 use Rattle.emulated_node.specs.Receiving.{Receives}
 use Rattle.emulated_node.specs.declared.received.Reason.{Reason}
 use Rattle.emulated_node.specs.declared.received.Reason.TheVariants as reason
-use Rattle.mctp_bridge.specs.Decisions.{obstacle_code}
+use Rattle.mctp_bridge.specs.Decisions.{forward_fault_code}
 use Rattle.mctp_transport.specs.Causes.{cause_code}
-use Rattle.mctp_transport.specs.Frames.{Frame, Spelled}
+use Rattle.mctp_transport.specs.PacketValues.{PacketValue, Spelled}
 use Rattle.mctp_transport.specs.Refusals as refusals
 use Rattle.mctp_transport.specs.declared.packet_error.PacketError.{PacketError}
 use Rattle.mctp_transport.specs.declared.packet_error.PacketError.TheVariants as packet
 use Rattle.net_plan.specs.declared.plan.Plan.{Plan}
-use Rattle.plan_texts.specs.Lines.{bus_name_or_dash}
+use Rattle.net_tables.specs.Names.{bus_name}
 use Rattle.bus_commands.specs.PacketLines as said
 use Rattle.bus_commands.specs.PacketLines.{SaidValue, Says}
 
@@ -28,7 +28,7 @@ IsNoPacketFor unit packet.Version bytes =
 
 -- a packet that is sent over a bus
 abbrev pub answer_line : Plan → ℕ → List ℕ → List ℕ
-answer_line plan bus bytes = bus_name_or_dash plan bus ++ (codes " " ++ (encode_lower bytes ++ codes "\n"))
+answer_line plan bus bytes = bus_name plan bus ++ (codes " " ++ (encode_lower bytes ++ codes "\n"))
 
 -- what is sent, each packet in a line
 abbrev pub answer_text : Plan → ReceivedValue → List ℕ
@@ -45,7 +45,7 @@ abbrev pub note_line : List ℕ → List ℕ → List ℕ
 note_line why line = codes "# " ++ why ++ codes ": " ++ map shown_byte line ++ codes "\n"
 
 abbrev pub reason_words : Reason → List ℕ
-reason_words (reason.Obstacle why) = codes "dropped " ++ obstacle_code why
+reason_words (reason.ForwardFault why) = codes "dropped " ++ forward_fault_code why
 reason_words reason.NoPort = codes "no port"
 reason_words (reason.Unassembled why) = codes "dropped " ++ cause_code why
 reason_words reason.NoRequest = codes "no request"
@@ -64,7 +64,7 @@ IsToldOf plan received line answer note = (answer ≡ answer_text plan received)
 -- The bytes are a packet that comes over the bus, and this becomes of it.
 pub record ComesOver (set : Setting) (s : NodeState) (bus : ℕ) (bytes line answer note : List ℕ)
     (next : NodeState) : Type 0 where
-  pub frame : Frame
+  pub frame : PacketValue
   pub received : ReceivedValue
   pub spelled : Spelled set.plan.unit frame bytes
   pub receives : Receives set s bus frame received next

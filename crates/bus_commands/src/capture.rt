@@ -1,23 +1,20 @@
 //! The command `capture`: the hops of a run as a capture file.
-ghost use Rattle.std.specs.Prelude.{◌≡◌, ◌⊎◌, IfOk, IfErr, OnOk, map};
-ghost use Rattle.command_answers.specs.Answers.{stream, AreGiven, BreaksOff, IsWithoutPlan};
-ghost use Rattle.command_answers.specs.Inputs.{GaveEvents};
-ghost use Rattle.command_answers.specs.Told.{Ends, IsSomeAnswer};
+ghost use Rattle.std.specs.Prelude.{◌≡◌, IfOk, IfErr, map};
+ghost use Rattle.command_answers.specs.Answers.{stream, IsWithoutPlan};
+ghost use Rattle.command_answers.specs.Told.{Concludes};
 ghost use Rattle.command_answers.specs.declared.refused.Refused.TheVariants as refused;
-ghost use Rattle.command_answers.specs.declared.status.Status.TheVariants.{Yes, Fault, Unreadable, NoMemory};
 ghost use Rattle.net_json.specs.Stream.{HasRoom};
 ghost use Rattle.net_sim.specs.Outcomes.{event_value};
 ghost use Rattle.play_commands.specs.Simulating.{AreUnreadAmong};
 ghost use Rattle.bus_commands.specs.Capturing.{AnswersCapture, AnswersRun, IsRunFile};
 
 use crate::hops::{add_hop, departing};
-use crate::telling::{ToldBytes, tell_bytes};
 use bus_captures::begin_file;
-use command_answers::{Refused, Status, fault_text, given_events, planned_termini, read_inputs};
-use net_check::{Checked, check};
+use command_answers::{BytesAnswer, Refused, Status, fault_text, planned_network, tell_bytes};
+use net_check::{AcceptedNetwork, Checked, check};
 use net_json::{Sink, Source};
 use net_plan::{Certificate, Event, Plan};
-use net_sim::Network;
+use play_commands::read_run;
 use std::alloc::{AllocError, Global};
 
 /// Writes on `output` a capture file of the packets that go from a node to the next one while events happen in the
@@ -39,18 +36,12 @@ pub fn run_capture<P: Source, C: Source, V: Source, O: Sink, E: Sink>(
     requires events { HasRoom (V.account events.old) }
     requires output { HasRoom (O.account output.old) }
     requires errors { HasRoom (E.account errors.old) }
-    ensures tells { let plans = stream P.account plan.old plan.new in
+    ensures concludes { let plans = stream P.account plan.old plan.new in
         let certificates = stream C.account certificate.old certificate.new in
         let happenings = stream V.account events.old events.new in
-        Ends (AnswersCapture plans certificates happenings) (λ why. AreUnreadAmong why plans certificates happenings) result
-        (stream O.account output.old output.new) (stream E.account errors.old errors.new) }
-    ensures silent { (result ≡ Yes) ⊎ (result ≡ Fault) → errors.new ≡ errors.old }
-    ensures unwritten { let plans = stream P.account plan.old plan.new in
-        let certificates = stream C.account certificate.old certificate.new in
-        let happenings = stream V.account events.old events.new in
-        result ≡ Unreadable → (output.new ≡ output.old)
-        ⊎ BreaksOff (IsSomeAnswer (AnswersCapture plans certificates happenings)) (stream O.account output.old output.new) }
-    ensures no_memory { result ≡ NoMemory → output.new ≡ output.old }
+        Concludes (AnswersCapture plans certificates happenings) (λ why. AreUnreadAmong why plans certificates happenings) result
+        (stream O.account output.old output.new) (stream E.account errors.old errors.new)
+        (output.new ≡ output.old) (errors.new ≡ errors.old) }
     ensures in_order { IsWithoutPlan (stream P.account plan.old plan.new)
         → (certificate.new ≡ certificate.old) × (events.new ≡ events.old) }
 {
@@ -63,7 +54,7 @@ fn answer_capture<P: Source, C: Source, V: Source>(
     plan: &mut P,
     certificate: &mut C,
     events: &mut V,
-) -> Result<ToldBytes, Refused>
+) -> Result<BytesAnswer, Refused>
     requires plan { HasRoom (P.account plan.old) }
     requires certificate { HasRoom (C.account certificate.old) }
     requires events { HasRoom (V.account events.old) }
@@ -78,35 +69,8 @@ fn answer_capture<P: Source, C: Source, V: Source>(
     ensures in_order { IsWithoutPlan (stream P.account plan.old plan.new)
         → (certificate.new ≡ certificate.old) × (events.new ≡ events.old) }
 {
-    let (plan, certificate, events) = read_files(alloc, plan, certificate, events)?;
+    let (plan, certificate, events) = read_run(alloc, plan, certificate, events)?;
     answer_run(alloc, &plan, &certificate, &events)
-}
-
-/// The plan, its certificate and the events. Each is read only where those before it could be read.
-fn read_files<P: Source, C: Source, V: Source>(
-    alloc: Global,
-    plan: &mut P,
-    certificate: &mut C,
-    events: &mut V,
-) -> Result<(Plan, Certificate, Vec<Event>), Refused>
-    requires plan { HasRoom (P.account plan.old) }
-    requires certificate { HasRoom (C.account certificate.old) }
-    requires events { HasRoom (V.account events.old) }
-    ensures given { let plans = stream P.account plan.old plan.new in
-        let certificates = stream C.account certificate.old certificate.new in
-        IfOk result (λ read. AreGiven plans certificates read.0 read.1) }
-    ensures events { let happenings = stream V.account events.old events.new in
-        IfOk result (λ read. GaveEvents read.0 happenings read.2.items) }
-    ensures unread { let plans = stream P.account plan.old plan.new in
-        let certificates = stream C.account certificate.old certificate.new in
-        let happenings = stream V.account events.old events.new in
-        IfErr result (λ why. AreUnreadAmong why plans certificates happenings) }
-    ensures in_order { IsWithoutPlan (stream P.account plan.old plan.new)
-        → (certificate.new ≡ certificate.old) × (events.new ≡ events.old) }
-{
-    let (plan, certificate) = read_inputs(alloc, plan, certificate)?;
-    let events = given_events(alloc, &plan, events)?;
-    Ok((plan, certificate, events))
 }
 
 /// The answer on a plan, its certificate and events.
@@ -115,13 +79,13 @@ fn answer_run(
     plan: &Plan,
     certificate: &Certificate,
     events: &[Event],
-) -> Result<ToldBytes, Refused>
+) -> Result<BytesAnswer, Refused>
     ensures answers { IfOk result (λ answer. AnswersRun plan.now certificate.now (map event_value events.now) answer.status answer.bytes.items) }
     ensures refused { IfErr result (λ why. why ≡ refused.NoMemory) }
 {
     match check(alloc, plan, certificate) {
-        Ok(checked) => Ok(ToldBytes::whole(captured(alloc, checked, events)?)),
-        Err(error) => Ok(ToldBytes::fault(fault_text(alloc, plan, &error)?)),
+        Ok(checked) => Ok(BytesAnswer::whole(captured(alloc, checked, events)?)),
+        Err(error) => Ok(BytesAnswer::fault(fault_text(alloc, plan, &error)?)),
     }
 }
 
@@ -130,8 +94,7 @@ fn captured(alloc: Global, checked: Checked, events: &[Event]) -> Result<Vec<u8>
     ensures { IfOk result (λ file. IsRunFile checked.entry.0 checked.entry.1 (map event_value events.now) file.items) }
 {
     let plan = checked.plan();
-    let termini = planned_termini(alloc, plan, checked.certificate())?;
-    let mut network = Network::new(alloc, checked, termini)?;
+    let mut network = planned_network(alloc, AcceptedNetwork::of_plan(checked))?;
     let mut file = begin_file(alloc)?;
     for (index, event) in events.iter().enumerate() {
         let departure = departing(alloc, &network, event)?;

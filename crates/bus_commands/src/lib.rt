@@ -10,9 +10,6 @@ mod line;
 mod lines;
 mod playing;
 mod start;
-mod table;
-mod telling;
-mod terminus;
 mod turn;
 
 pub use capture::run_capture;

@@ -2,7 +2,7 @@
 ghost use Rattle.std.specs.Prelude.{◌≡◌, OnOk, string_bytes};
 ghost use Rattle.command_answers.specs.Answers.{stream};
 ghost use Rattle.emulated_node.specs.Nodes.{NodeState};
-ghost use Rattle.emulated_node.specs.Standing.{StandsFor, setting_of};
+ghost use Rattle.emulated_node.specs.Standing.{HasNodeState, setting_of};
 ghost use Rattle.net_json.specs.Stream.{HasRoom};
 ghost use Rattle.bus_commands.specs.Playing.{KeepsRoom, PlaysLine, PlaysLines, Writes};
 
@@ -51,7 +51,7 @@ pub fn play_lines<T: Terminus, I: Source, O: Sink, E: Sink>(
     requires packets { HasRoom (I.account packets.old) }
     requires output { HasRoom (O.account output.old) }
     requires errors { HasRoom (E.account errors.old) }
-    ensures plays { (s : NodeState) → StandsFor T.tid T.records emulated.old s
+    ensures plays { (s : NodeState) → HasNodeState T.tid T.records emulated.old s
         → PlaysLines (setting_of emulated.old) s result (stream I.account packets.old packets.new) (stream O.account output.old output.new)
         (stream E.account errors.old errors.new) }
     ensures noted { KeepsRoom result (stream E.account errors.old errors.new) }
@@ -81,8 +81,8 @@ fn play_line<T: Terminus, I: Source, O: Sink, E: Sink>(
     requires output { HasRoom (O.account output.old) }
     requires errors { HasRoom (E.account errors.old) }
     ensures setting { setting_of emulated.new ≡ setting_of emulated.old }
-    ensures plays { (s : NodeState) → StandsFor T.tid T.records emulated.old s
-        → PlaysLine (StandsFor T.tid T.records emulated.new) (setting_of emulated.old) s result (stream I.account packets.old packets.new)
+    ensures plays { (s : NodeState) → HasNodeState T.tid T.records emulated.old s
+        → PlaysLine (HasNodeState T.tid T.records emulated.new) (setting_of emulated.old) s result (stream I.account packets.old packets.new)
         (stream O.account output.old output.new) (stream E.account errors.old errors.new) }
     ensures read { OnOk result ((I.account packets.new).failures ≡ (I.account packets.old).failures) }
     ensures written { OnOk result ((O.account output.new).failures ≡ (O.account output.old).failures) }

@@ -1,21 +1,21 @@
 //! A planned node to which no packet has come yet.
 ghost use Rattle.std.specs.Prelude.{◌≡◌, ◌<◌, IfOk, length, None};
 ghost use Rattle.emulated_node.specs.Nodes.{NodeState};
-ghost use Rattle.emulated_node.specs.Standing.{StandsFor, setting_of};
+ghost use Rattle.emulated_node.specs.Standing.{HasNodeState, setting_of};
 ghost use Rattle.mctp_control.specs.Devices.{configured_pool, device_value, size_of};
-ghost use Rattle.net_sim.specs.AssignmentRuns.{device_kind, empty, holding, planned_pool, planned_size};
+ghost use Rattle.net_tables.specs.Names.{device_kind};
+ghost use Rattle.net_sim.specs.AssignmentRuns.{empty, holding, planned_pool, planned_size};
 ghost use Rattle.pdr_repository.specs.BlockTermini.{block_tid, block_records};
 ghost use Rattle.bus_commands.specs.Starting.{HoldsLawfully, IsStart, device_at_start};
 
-use crate::table::range_table;
-use crate::terminus::planned_terminus;
+use command_answers::planned_terminus;
 use emulated_node::Emulated;
-use mctp_bridge::DeviceKind;
 use mctp_control::{Device, EidRange};
 use net_check::Checked;
 use net_plan::{Kind, Node};
+use net_tables::lookup::device_kind;
 use pdr_repository::BlockTerminus;
-use plan_exports::planned_entries;
+use plan_exports::{planned_entries, range_table};
 use std::alloc::{AllocError, Global};
 
 /// A node of a checked plan, with its rows and its terminus as they are planned. Its device holds its planned endpoint
@@ -28,7 +28,7 @@ pub fn start<'a>(
 ) -> Result<Emulated<'a, BlockTerminus>, AllocError>
     requires { node < length checked.now.0.nodes.items }
     ensures { IfOk result (λ emulated. (s : NodeState) × IsStart is_configured checked.now.0 checked.now.1 node (setting_of emulated) s
-        × StandsFor block_tid block_records emulated s) }
+        × HasNodeState block_tid block_records emulated s) }
 {
     let plan = checked.plan();
     let table = range_table(alloc, plan, node)?;
@@ -82,14 +82,4 @@ fn range_of(node: &Node) -> Option<EidRange>
 {
     let pool = node.pool?;
     EidRange::of(pool.first, pool.size)
-}
-
-/// The kind of a node as its device has it.
-fn device_kind(kind: Kind) -> DeviceKind
-    ensures { result ≡ device_kind kind }
-{
-    match kind {
-        Kind::Bridge => DeviceKind::Bridge,
-        Kind::Endpoint => DeviceKind::Endpoint,
-    }
 }

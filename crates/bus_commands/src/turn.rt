@@ -3,14 +3,14 @@ ghost use Rattle.std.specs.Prelude.{◌≡◌, ◌<◌, ◌++◌, [], IfOk, leng
 ghost use Rattle.std.specs.List.{flat_map};
 ghost use Rattle.emulated_node.specs.Nodes.{NodeState};
 ghost use Rattle.emulated_node.specs.ReceivedValues.{received_value};
-ghost use Rattle.emulated_node.specs.Standing.{StandsFor, setting_of};
+ghost use Rattle.emulated_node.specs.Standing.{HasNodeState, setting_of};
 ghost use Rattle.bus_commands.specs.Turns.{IsToldOf, Takes, TakesBytes, answer_line, note_line, reason_words, shown_byte};
-ghost use Rattle.plan_texts.specs.Lines.{bus_name_or_dash};
 
 use crate::line::{Said, read_line};
 use emulated_node::{Emulated, Reason, Received};
 use mctp_transport::PacketView;
 use net_plan::Plan;
+use net_tables::lookup::bus_name;
 use pdr_repository::Terminus;
 use std::alloc::{AllocError, Global};
 
@@ -32,9 +32,9 @@ pub fn take_line<T: Terminus>(
     requires plan { (setting_of emulated.old).plan ≡ plan.now }
     requires node { (setting_of emulated.old).node ≡ node }
     ensures setting { setting_of emulated.new ≡ setting_of emulated.old }
-    ensures takes { IfOk result (λ turn. (s : NodeState) → StandsFor T.tid T.records emulated.old s
+    ensures takes { IfOk result (λ turn. (s : NodeState) → HasNodeState T.tid T.records emulated.old s
         → (next : NodeState) × Takes (setting_of emulated.old) s line.now (string_bytes turn.answer) turn.note.items next
-        × StandsFor T.tid T.records emulated.new next) }
+        × HasNodeState T.tid T.records emulated.new next) }
 {
     match read_line(alloc, plan, node, line)? {
         Said::Nothing => Ok(Turn {
@@ -59,9 +59,9 @@ fn take_bytes<T: Terminus>(
     requires plan { (setting_of emulated.old).plan ≡ plan.now }
     requires bus { bus < length plan.now.buses.items }
     ensures setting { setting_of emulated.new ≡ setting_of emulated.old }
-    ensures takes { IfOk result (λ turn. (s : NodeState) → StandsFor T.tid T.records emulated.old s
+    ensures takes { IfOk result (λ turn. (s : NodeState) → HasNodeState T.tid T.records emulated.old s
         → (next : NodeState) × TakesBytes (setting_of emulated.old) s bus bytes.now line.now (string_bytes turn.answer) turn.note.items next
-        × StandsFor T.tid T.records emulated.new next) }
+        × HasNodeState T.tid T.records emulated.new next) }
 {
     match PacketView::read_within(bytes, usize::from(plan.unit)) {
         Ok(packet) => {
@@ -111,18 +111,9 @@ fn answer_lines(
 fn answer_line(alloc: Global, plan: &Plan, bus: usize, packet: &[u8]) -> Result<String, AllocError>
     ensures { IfOk result (λ line. string_bytes line ≡ answer_line plan.now bus packet.now) }
 {
-    let bus = bus_name_or_dash(plan, bus);
+    let bus = bus_name(plan, bus);
     let packet = hex::encode(alloc, packet)?;
     format!(in alloc; "{bus} {packet}\n")
-}
-
-/// The name of the bus at an index, or a dash where there is none.
-fn bus_name_or_dash(plan: &Plan, bus: usize) -> &str
-    ensures { result.now ≡ bus_name_or_dash plan.now bus }
-{
-    plan.buses
-        .get(bus)
-        .map_or("-", |bus| bus.name.text.as_str())
 }
 
 /// Why nothing is sent for a packet, and the code of it, if it has one.
@@ -130,7 +121,7 @@ fn reason_words(why: Reason) -> (&'static str, &'static str)
     ensures { result.0.now ++ result.1.now ≡ reason_words why }
 {
     match why {
-        Reason::Obstacle(obstacle) => ("dropped ", obstacle.code()),
+        Reason::ForwardFault(fault) => ("dropped ", fault.code()),
         Reason::NoPort => ("no port", ""),
         Reason::Unassembled(cause) => ("dropped ", cause.code()),
         Reason::NoRequest => ("no request", ""),

@@ -1,6 +1,6 @@
 -- What the end of `decode` tells of an answer.
-use Rattle.std.proofs.Common.{◌≡◌, ◌≢◌, ◌⊎◌, ℕ, List, Result, Ok, Err, inl, inr, refl, sym, subst}
-use Rattle.std.specs.Prelude.{IfOk, IfErr, OnErr, Option, Some}
+use Rattle.std.proofs.Common.{◌≡◌, ◌≢◌, ℕ, List, Result, Ok, Err, refl, sym, subst}
+use Rattle.std.specs.Prelude.{IfOk, IfErr, Option, Some}
 use Rattle.std.specs.Cow.{cow_str_bytes}
 use Rattle.bus_captures.specs.Captures.{IsCapture}
 use Rattle.bus_captures.specs.Values.{EntryValue}
@@ -9,8 +9,7 @@ use Rattle.bus_captures.specs.declared.capture.End.TheVariants as end
 use Rattle.decoded_texts.specs.Decoding.{IsDecodedBy}
 use Rattle.net_plan.specs.declared.plan.Plan.{Plan}
 use Rattle.byte_commands.specs.Decoding.{IsDecodedSo, DecodesBy, DecodesNamedSo}
-use Rattle.command_answers.specs.Answers.{Stream, GavePlan, IsPlanUnread, BreaksOff}
-use Rattle.command_answers.specs.Told.{IsTold, IsSomeAnswer, Gives}
+use Rattle.command_answers.specs.Answers.{Stream, GavePlan, IsPlanUnread}
 use Rattle.command_answers.specs.declared.answer.Answer.{Answer}
 use Rattle.command_answers.specs.declared.refused.Refused.{Refused}
 use Rattle.command_answers.specs.declared.refused.Refused.TheVariants as refused
@@ -27,17 +26,6 @@ decoded_so plan bytes entries end.Full text ended is told whole broken =
 decoded_so plan bytes entries (end.Broken place why) text ended is told whole broken =
     let other : end.Broken place why ≢ end.Whole = λ e. cc in
     subst (λ (s : Status). IsDecodedSo plan bytes s text) (sym (broken other)) (end.Broken place why, other, (entries, is, told))
-
--- an answer may tell why a capture can't be read, and there may be none
-pub same_gives_or_breaks : (Answers : Status → List ℕ → Type 0) (ended : Status) (output errors : Stream) (Same : Type 0) (answered : Result Answer Refused)
-    → IfOk answered (λ (a : Answer). Answers a.status (cow_str_bytes a.text)) → IfOk answered (λ (a : Answer). IsTold a.status (cow_str_bytes a.text) ended output errors)
-    → OnErr answered Same → ended ≡ status.Unreadable → Same ⊎ (Gives Answers status.Unreadable output ⊎ BreaksOff (IsSomeAnswer Answers) output)
-same_gives_or_breaks Answers ended output errors Same (Ok a) answers (inl (is, written)) same unreadable =
-    let A : Status → Type 0 = λ s. Answers s (cow_str_bytes a.text) in
-    inr (inl (cow_str_bytes a.text, subst A unreadable (subst A (sym is) answers), written))
-same_gives_or_breaks Answers ended output errors Same (Ok a) answers (inr (is, fails, part, line)) same unreadable =
-    inr (inr (record { text = cow_str_bytes a.text; answer = (a.status, answers); fails = fails; beginning = part }))
-same_gives_or_breaks Answers ended output errors Same (Err why) answers told same unreadable = inl same
 
 -- with the plan that a source gave
 pub given_so : (plan : Plan) (plans captures : Stream) (result : Result Answer Refused) → GavePlan plans plan

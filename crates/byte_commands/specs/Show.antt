@@ -4,7 +4,7 @@ use Rattle.hex.specs.Hex.{decode_of}
 use Rattle.hex.specs.declared.error.FromHexError.{FromHexError}
 use Rattle.mctp_transport.specs.declared.packet_error.PacketError.{PacketError}
 use Rattle.mctp_transport.specs.declared.packet_error.PacketError.TheVariants as packet
-use Rattle.mctp_transport.specs.Frames.{Frame, Spelled}
+use Rattle.mctp_transport.specs.PacketValues.{PacketValue, Spelled}
 use Rattle.mctp_transport.specs.Refusals as refusals
 use Rattle.pdr_record.specs.declared.record_error.RecordError.{RecordError}
 use Rattle.pdr_record.specs.Codes as records
@@ -36,7 +36,7 @@ IsNoPacketFor packet.Version bytes =
 
 -- the text tells what the bytes are of the kind, or the code of the cause for which they are none
 abbrev pub IsShown : Status → ShownKind → List ℕ → List ℕ → Type 0
-IsShown status.Yes kind.Packet bytes text = (f : Frame) × Spelled 64 f bytes × (text ≡ packet_bytes f)
+IsShown status.Yes kind.Packet bytes text = (f : PacketValue) × Spelled 64 f bytes × (text ≡ packet_bytes f)
 IsShown status.Yes kind.Record bytes text =
     (r : record_of.RecordValue) × record_of.Spelled r bytes × (text ≡ record_text_bytes r)
 IsShown status.Fault kind.Packet bytes text =

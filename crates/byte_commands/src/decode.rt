@@ -1,12 +1,12 @@
 //! The command `decode`: what became of each entry of a capture, and what its messages say.
-ghost use Rattle.std.specs.Prelude.{◌≡◌, ◌≢◌, ◌⊎◌, IfOk, IfErr, string_bytes, Option, Some};
+ghost use Rattle.std.specs.Prelude.{◌≡◌, ◌≢◌, IfOk, IfErr, string_bytes, Option, Some};
 ghost use Rattle.std.specs.Cow.{cow_str_bytes};
 ghost use Rattle.net_json.specs.Stream.{HasRoom};
 ghost use Rattle.command_answers.specs.declared.refused.Refused.TheVariants as refused;
-ghost use Rattle.command_answers.specs.declared.status.Status.TheVariants.{Yes, Fault, NoMemory, Unreadable};
-ghost use Rattle.command_answers.specs.Answers.{stream, BreaksOff, IsPlanUnread, IsWithoutPlan};
+ghost use Rattle.command_answers.specs.declared.status.Status.TheVariants.{Yes, Unreadable};
+ghost use Rattle.command_answers.specs.Answers.{stream, IsPlanUnread, IsWithoutPlan};
 ghost use Rattle.byte_commands.specs.Decoding.{DecodesBy, DecodesSo, DecodesNamedSo, IsDecodedSo, not_given};
-ghost use Rattle.command_answers.specs.Told.{Gives, IsSomeAnswer, Ends};
+ghost use Rattle.command_answers.specs.Told.{ConcludesOnBoth, ConcludesOnOutput};
 
 use bus_captures::{End, read_capture};
 use command_answers::{Answer, Refused, Status, given_plan, tell};
@@ -26,14 +26,10 @@ pub fn run_decode<C: Source, O: Sink, E: Sink>(
     requires capture { HasRoom (C.account capture.old) }
     requires output { HasRoom (O.account output.old) }
     requires errors { HasRoom (E.account errors.old) }
-    ensures decodes { let captures = stream C.account capture.old capture.new in
-        Ends (DecodesSo captures) (λ why. why ≡ refused.NoMemory) result
-        (stream O.account output.old output.new) (stream E.account errors.old errors.new) }
-    ensures silent { (result ≡ Yes) ⊎ (result ≡ Fault) → errors.new ≡ errors.old }
-    ensures unwritten { let captures = stream C.account capture.old capture.new in
-        let outputs = stream O.account output.old output.new in
-        result ≡ Unreadable → Gives (DecodesSo captures) Unreadable outputs ⊎ BreaksOff (IsSomeAnswer (DecodesSo captures)) outputs }
-    ensures no_memory { result ≡ NoMemory → output.new ≡ output.old }
+    ensures concludes { let captures = stream C.account capture.old capture.new in
+        ConcludesOnOutput (DecodesSo captures) result
+        (stream O.account output.old output.new) (stream E.account errors.old errors.new)
+        (output.new ≡ output.old) (errors.new ≡ errors.old) }
 {
     let answered = answer_decode(alloc, capture);
     tell(alloc, answered, output, errors)
@@ -74,18 +70,11 @@ pub fn run_decode_named<P: Source, C: Source, O: Sink, E: Sink>(
     requires capture { HasRoom (C.account capture.old) }
     requires output { HasRoom (O.account output.old) }
     requires errors { HasRoom (E.account errors.old) }
-    ensures decodes { let plans = stream P.account plan.old plan.new in
+    ensures concludes { let plans = stream P.account plan.old plan.new in
         let captures = stream C.account capture.old capture.new in
-        Ends (DecodesNamedSo plans captures) (λ why. IsPlanUnread why plans) result
-        (stream O.account output.old output.new) (stream E.account errors.old errors.new) }
-    ensures silent { (result ≡ Yes) ⊎ (result ≡ Fault) → errors.new ≡ errors.old }
-    ensures unwritten { let plans = stream P.account plan.old plan.new in
-        let captures = stream C.account capture.old capture.new in
-        let outputs = stream O.account output.old output.new in
-        result ≡ Unreadable → (output.new ≡ output.old)
-        ⊎ Gives (DecodesNamedSo plans captures) Unreadable outputs
-        ⊎ BreaksOff (IsSomeAnswer (DecodesNamedSo plans captures)) outputs }
-    ensures no_memory { result ≡ NoMemory → output.new ≡ output.old }
+        ConcludesOnBoth (DecodesNamedSo plans captures) (λ why. IsPlanUnread why plans) result
+        (stream O.account output.old output.new) (stream E.account errors.old errors.new)
+        (output.new ≡ output.old) (errors.new ≡ errors.old) }
     ensures in_order { IsWithoutPlan (stream P.account plan.old plan.new) → capture.new ≡ capture.old }
 {
     let answered = answer_named(alloc, plan, capture);

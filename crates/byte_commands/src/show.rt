@@ -1,11 +1,10 @@
 //! The command `show`: what bytes are, or why they are nothing.
-ghost use Rattle.std.specs.Prelude.{◌≡◌, ◌⊎◌, IfOk, IfErr};
+ghost use Rattle.std.specs.Prelude.{◌≡◌, IfOk, IfErr};
 ghost use Rattle.std.specs.Cow.{cow_str_bytes};
 ghost use Rattle.net_json.specs.Stream.{HasRoom};
-ghost use Rattle.command_answers.specs.declared.status.Status.TheVariants.{Yes, Fault, Unreadable, NoMemory};
-ghost use Rattle.command_answers.specs.Answers.{stream, BreaksOff};
+ghost use Rattle.command_answers.specs.Answers.{stream};
 ghost use Rattle.byte_commands.specs.Show.{IsDecoded, IsNotShown, IsShown, ShowsSo};
-ghost use Rattle.command_answers.specs.Told.{IsSomeAnswer, Ends};
+ghost use Rattle.command_answers.specs.Told.{Concludes};
 
 use command_answers::{Answer, Refused, Status, tell};
 use hex::FromHexError;
@@ -33,12 +32,9 @@ pub fn run_show<O: Sink, E: Sink>(
 ) -> Status
     requires output { HasRoom (O.account output.old) }
     requires errors { HasRoom (E.account errors.old) }
-    ensures shows { Ends (ShowsSo kind hex.now) (IsNotShown hex.now) result
-        (stream O.account output.old output.new) (stream E.account errors.old errors.new) }
-    ensures silent { (result ≡ Yes) ⊎ (result ≡ Fault) → errors.new ≡ errors.old }
-    ensures unwritten { result ≡ Unreadable → (output.new ≡ output.old)
-        ⊎ BreaksOff (IsSomeAnswer (ShowsSo kind hex.now)) (stream O.account output.old output.new) }
-    ensures no_memory { result ≡ NoMemory → output.new ≡ output.old }
+    ensures concludes { Concludes (ShowsSo kind hex.now) (IsNotShown hex.now) result
+        (stream O.account output.old output.new) (stream E.account errors.old errors.new)
+        (output.new ≡ output.old) (errors.new ≡ errors.old) }
 {
     let answered = answer_show(alloc, kind, hex);
     tell(alloc, answered, output, errors)

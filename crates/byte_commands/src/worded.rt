@@ -1,10 +1,9 @@
 //! Commands that answer on words alone: `describe` and `record`.
-ghost use Rattle.std.specs.Prelude.{◌≡◌, ◌⊎◌, IfOk, IfErr, map, string_bytes};
+ghost use Rattle.std.specs.Prelude.{◌≡◌, IfOk, IfErr, map, string_bytes};
 ghost use Rattle.std.specs.Cow.{cow_str_bytes};
 ghost use Rattle.net_json.specs.Stream.{HasRoom};
-ghost use Rattle.command_answers.specs.declared.status.Status.TheVariants.{Yes, Fault, Unreadable, NoMemory};
-ghost use Rattle.command_answers.specs.Answers.{stream, BreaksOff};
-ghost use Rattle.command_answers.specs.Told.{IsSomeAnswer, Ends};
+ghost use Rattle.command_answers.specs.Answers.{stream};
+ghost use Rattle.command_answers.specs.Told.{Concludes};
 ghost use Rattle.byte_commands.specs.Worded.{AnswersWords, IsUnansweredByWords};
 
 pub mod cleaned;
@@ -36,13 +35,10 @@ pub fn run_worded<O: Sink, E: Sink>(
 ) -> Status
     requires output { HasRoom (O.account output.old) }
     requires errors { HasRoom (E.account errors.old) }
-    ensures tells { let said = map string_bytes words.now in
-        Ends (AnswersWords question said) (IsUnansweredByWords question said) result
-        (stream O.account output.old output.new) (stream E.account errors.old errors.new) }
-    ensures silent { (result ≡ Yes) ⊎ (result ≡ Fault) → errors.new ≡ errors.old }
-    ensures unwritten { result ≡ Unreadable → (output.new ≡ output.old)
-        ⊎ BreaksOff (IsSomeAnswer (AnswersWords question (map string_bytes words.now))) (stream O.account output.old output.new) }
-    ensures no_memory { result ≡ NoMemory → output.new ≡ output.old }
+    ensures concludes { let said = map string_bytes words.now in
+        Concludes (AnswersWords question said) (IsUnansweredByWords question said) result
+        (stream O.account output.old output.new) (stream E.account errors.old errors.new)
+        (output.new ≡ output.old) (errors.new ≡ errors.old) }
 {
     let answered = answer_worded(alloc, question, words);
     tell(alloc, answered, output, errors)

@@ -1,22 +1,20 @@
 -- A plan that was given with its text, or was not.
-use Rattle.std.proofs.Common.{◌≢◌, List, ℕ, inl, refl}
+use Rattle.std.proofs.Common.{◌≤◌, List, length, ℕ, Result, Err, refl}
+use Rattle.std.specs.Io.KnownBytes.{Consumes, IsAtEnd}
 use Rattle.net_json.specs.declared.error.PlanError.{PlanError}
 use Rattle.net_json.specs.declared.error.PlanError.TheVariants as cause_of
 use Rattle.net_json.specs.PlanReading.{plan}
 use Rattle.net_json.specs.PlanText.{IsPlanOf}
+use Rattle.net_json.specs.Refusals.{IsRefused}
+use Rattle.net_json.specs.Unread.{GaveNoPlan}
+use Rattle.net_json.proofs.Refusing.{answer_given}
 use Rattle.net_plan.specs.declared.certificate.Certificate.{Certificate}
 use Rattle.net_plan.specs.declared.plan.Plan.{Plan}
-use Rattle.command_answers.specs.declared.inputs.Unread.{Unread}
-use Rattle.command_answers.specs.declared.inputs.Unread.TheVariants.{NoMemory, Failed, TooLong, Text}
-use Rattle.command_answers.specs.declared.refused.Input.{Input}
 use Rattle.command_answers.specs.declared.refused.Input.TheVariants as input
 use Rattle.command_answers.specs.declared.refused.Refused.{Refused}
-use Rattle.command_answers.specs.declared.refused.Refused.TheVariants as refused
 use Rattle.command_answers.specs.Answers.{Stream, GavePlan, GavePlanText, AreGiven, AreTextsGiven, IsPlanUnread, IsCertificateUnread, AreUnread}
 use Rattle.command_answers.specs.Statuses.{refused_at}
-use Rattle.command_answers.specs.UnreadInputs.{IsNoPlanBy, refused_for}
 use Rattle.command_answers.proofs.Telling as telling
-use Rattle.command_answers.proofs.UnreadInputs.{nothing_given}
 
 pub gave_plan : (plans : Stream) (text : List ℕ) (p : Plan) → GavePlanText plans text p → GavePlan plans p
 gave_plan plans text p h = (h.0, h.1, h.2, h.3, h.4.1)
@@ -29,23 +27,24 @@ pub certificate_unread : (text : List ℕ) (p : Plan) (why : Refused) (plans cer
     → AreUnread why plans certificates
 certificate_unread text p why plans certificates given h = telling.certificate_unread p why plans certificates (gave_plan plans text p given) h
 
-at_cause : (Is : Refused → Type 0) (role : Input) (cause : PlanError) → cause ≢ cause_of.OutOfMemory → Is (refused.Unreadable role cause) → Is (refused_at role cause)
-at_cause Is role cause_of.NotJson known h = h
-at_cause Is role cause_of.WrongKind known h = h
-at_cause Is role cause_of.MissingKey known h = h
-at_cause Is role cause_of.UnknownKey known h = h
-at_cause Is role cause_of.OutOfRange known h = h
-at_cause Is role cause_of.UnknownName known h = h
-at_cause Is role cause_of.BadHex known h = h
-at_cause Is role cause_of.OverLimit known h = h
-at_cause Is role cause_of.Doubled known h = h
-at_cause Is role cause_of.Device known h = h
-at_cause Is role cause_of.OutOfMemory known h = absurd (known refl)
+-- why a text that was given is none of a plan, as a refusal
+no_plan_for : (plans : Stream) (bytes : List ℕ) (cause : PlanError) → IsRefused plan IsPlanOf bytes cause → GaveNoPlan plans.before.bytes plans.after.bytes cause
+    → IsPlanUnread (refused_at input.Plan cause) plans
+no_plan_for plans bytes cause_of.NotJson refused none = none
+no_plan_for plans bytes cause_of.WrongKind refused none = none
+no_plan_for plans bytes cause_of.MissingKey refused none = none
+no_plan_for plans bytes cause_of.UnknownKey refused none = none
+no_plan_for plans bytes cause_of.OutOfRange refused none = none
+no_plan_for plans bytes cause_of.UnknownName refused none = none
+no_plan_for plans bytes cause_of.BadHex refused none = none
+no_plan_for plans bytes cause_of.OverLimit refused none = none
+no_plan_for plans bytes cause_of.Doubled refused none = none
+no_plan_for plans bytes cause_of.Device refused none = absurd refused
+no_plan_for plans bytes cause_of.OutOfMemory refused none = tt
 
--- why there is no plan, as a refusal
-pub no_plan : (plans : Stream) (u : Unread) → IsNoPlanBy plans u → IsPlanUnread (refused_for input.Plan u) plans
-no_plan plans NoMemory h = tt
-no_plan plans Failed h = h
-no_plan plans TooLong h = inl h
-no_plan plans (Text text cause) h =
-    at_cause (λ why. IsPlanUnread why plans) input.Plan cause h.4.2 (nothing_given plan IsPlanOf plans h.0 cause h.1 h.2 h.3 h.4.1 h.4.2)
+-- the source gave a text that is none of a plan
+pub no_plan : (plans : Stream) (bytes : List ℕ) (cause : PlanError) → Consumes plans.before.bytes plans.after.bytes bytes → IsAtEnd plans.after.bytes → length bytes ≤ 16777216
+    → IsRefused plan IsPlanOf bytes cause → IsPlanUnread (refused_at input.Plan cause) plans
+no_plan plans bytes cause took end few refused =
+    let unread : Result (List ℕ) PlanError = Err cause in
+    no_plan_for plans bytes cause refused (answer_given plan IsPlanOf plans.before.bytes plans.after.bytes bytes bytes unread took end few refl refused)

@@ -14,8 +14,10 @@ use Rattle.pdr_repository.specs.ListTermini.{list_records}
 use Rattle.pdr_repository.specs.Records.{Entry, IsLawful}
 use Rattle.net_tables.specs.Repositories.{terminus_of, records_of, places_of, entry_of, record_at, records_by_place, RecordsHaveOrder}
 use Rattle.net_rules.specs.Rules.{Accepts}
-use Rattle.net_rules.specs.MoveRules.{AcceptsMove}
-use Rattle.net_check.proofs.Accepted.{accepted_orders, move_orders}
+use Rattle.net_tables.specs.TwoPlans.{Tables}
+use Rattle.net_runs.specs.Walkers.{walked_at_start}
+use Rattle.net_sim.specs.WalkedStanding.{NetworkValue, StandsForWalked}
+use Rattle.net_check.proofs.Accepted.{accepted_orders}
 use Rattle.net_runs.proofs.ByPlace.{by_place_length, is_lawful}
 
 -- where the first of a list stands, the list is one longer
@@ -138,14 +140,19 @@ lawful_records plan cert n records ordered there is =
     let many = by_place_length (records_of plan n) (places_of cert n) order in
     (omega (arith, ap length is, many, few_records plan n), subst IsLawful (sym is) (is_lawful (records_of plan n) (places_of cert n) order))
 
--- the records of an accepted plan, and of the plan before an accepted move, have one
-pub checked_orders : (plan plan' : Plan) (cert cert' : Certificate) → Accepts plan cert → plan' ≡ plan → cert' ≡ cert → RecordsHaveOrder plan' cert'
-checked_orders plan plan' cert cert' accepted same same_cert =
-    subst (λ (p : Plan). RecordsHaveOrder p cert') (sym same) (subst (λ (k : Certificate). RecordsHaveOrder plan k) (sym same_cert) (accepted_orders plan cert accepted))
+-- so they are under other names of the plan and the certificate
+pub same_order : (plan plan' : Plan) (cert cert' : Certificate) → RecordsHaveOrder plan cert → plan' ≡ plan → cert' ≡ cert → RecordsHaveOrder plan' cert'
+same_order plan plan' cert cert' ordered same same_cert =
+    subst (λ (p : Plan). RecordsHaveOrder p cert') (sym same) (subst (λ (k : Certificate). RecordsHaveOrder plan k) (sym same_cert) ordered)
 
-pub moved_orders : (before after plan' : Plan) (cert cert' : Certificate) → AcceptsMove before after cert → plan' ≡ before → cert' ≡ cert → RecordsHaveOrder plan' cert'
-moved_orders before after plan' cert cert' accepted same same_cert =
-    subst (λ (p : Plan). RecordsHaveOrder p cert') (sym same) (subst (λ (k : Certificate). RecordsHaveOrder before k) (sym same_cert) (move_orders before after cert accepted))
+-- the records of an accepted plan have one
+pub checked_orders : (plan plan' : Plan) (cert cert' : Certificate) → Accepts plan cert → plan' ≡ plan → cert' ≡ cert → RecordsHaveOrder plan' cert'
+checked_orders plan plan' cert cert' accepted same same_cert = same_order plan plan' cert cert' (accepted_orders plan cert accepted) same same_cert
+
+-- a network that stands for the start of what was checked does so under another name of that
+pub starts_in : (checked checked' : Tables × Certificate) (value : NetworkValue) → checked' ≡ checked
+    → StandsForWalked value (walked_at_start checked'.0.plan checked'.1) → StandsForWalked value (walked_at_start checked.0.plan checked.1)
+starts_in checked checked' value same stands = subst (λ (c : Tables × Certificate). StandsForWalked value (walked_at_start c.0.plan c.1)) same stands
 
 pub known_terminus : (plan : Plan) (n : ℕ) (t : PlannedTerminus) → terminus_of plan n ≡ Some t → terminus_of plan n ≢ None
 known_terminus plan n t there none =

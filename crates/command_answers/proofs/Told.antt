@@ -3,13 +3,14 @@ use Rattle.std.proofs.Common.{◌≡◌, ◌≢◌, ◌⊎◌, ℕ, List, Result
 use Rattle.std.specs.Prelude.{IfOk, IfErr, OnErr}
 use Rattle.std.specs.Cow.{cow_str_bytes}
 use Rattle.command_answers.specs.declared.answer.Answer.{Answer}
+use Rattle.command_answers.specs.declared.bytes_answer.BytesAnswer.{BytesAnswer}
 use Rattle.command_answers.specs.declared.refused.Refused.{Refused}
 use Rattle.command_answers.specs.declared.refused.Refused.TheVariants as refused
 use Rattle.command_answers.specs.declared.status.Status.{Status}
 use Rattle.command_answers.specs.declared.status.Status.TheVariants as status
 use Rattle.command_answers.specs.Answers.{Stream, IsReported, Refuses, BreaksOff}
 use Rattle.command_answers.specs.Statuses.{status_of, IsReportedFor}
-use Rattle.command_answers.specs.Told.{IsTold, IsSomeAnswer, Gives, Ends}
+use Rattle.command_answers.specs.Told.{IsTold, IsSomeAnswer, Gives, Ends, Concludes, ConcludesOnBoth, ConcludesOnOutput}
 
 module _ (Ends : Status → Type 0) (errors : Stream) where
   -- a refusal ends a run with status 2, or 3 where memory lacks
@@ -49,45 +50,116 @@ of_memory why s errors is refuses =
     let reported : refuses.reported ≡ refused.NoMemory = subst (λ w. IsReportedFor w refuses.reported) is refuses.for_it in
     (refuses.ends ∙ ap status_of reported, subst (λ w. IsReported w errors) reported refuses.line)
 
-module _ (Answers : Status → List ℕ → Type 0) (ended : Status) (output errors : Stream) where
+-- of answers of any kind, each with the status that is due and a text
+module _ {A : Type 0} (due : A → Status) (text_of : A → List ℕ) (some : (a : A) → due a ≢ status.NoMemory) (Answers : Status → List ℕ → Type 0) (ended : Status)
+    (output errors : Stream) where
   -- what the end of a run says, by the answer or by why there is none
-  pub ends_so : (IsWhy : Refused → Type 0) (answered : Result Answer Refused) → IfOk answered (λ (a : Answer). Answers a.status (cow_str_bytes a.text))
-      → IfErr answered IsWhy → IfOk answered (λ (a : Answer). IsTold a.status (cow_str_bytes a.text) ended output errors)
+  ends_by : (IsWhy : Refused → Type 0) (answered : Result A Refused) → IfOk answered (λ a. Answers (due a) (text_of a))
+      → IfErr answered IsWhy → IfOk answered (λ a. IsTold (due a) (text_of a) ended output errors)
       → IfErr answered (λ why. Refuses why ended errors) → Ends Answers IsWhy ended output errors
-  ends_so IsWhy (Ok a) answers why (inl (is, written)) refuses =
-      subst (λ s. Ends Answers IsWhy s output errors) (sym is) (given a.status a.memory answers)
+  ends_by IsWhy (Ok a) answers why (inl (is, written)) refuses =
+      subst (λ s. Ends Answers IsWhy s output errors) (sym is) (given (due a) (some a) answers)
     where
-      given : (s : Status) → s ≢ status.NoMemory → Answers s (cow_str_bytes a.text) → Ends Answers IsWhy s output errors
-      given status.Yes some answers = (cow_str_bytes a.text, answers, written)
-      given status.Fault some answers = (cow_str_bytes a.text, answers, written)
-      given status.Unreadable some answers = inl (cow_str_bytes a.text, answers, written)
+      given : (s : Status) → s ≢ status.NoMemory → Answers s (text_of a) → Ends Answers IsWhy s output errors
+      given status.Yes some answers = (text_of a, answers, written)
+      given status.Fault some answers = (text_of a, answers, written)
+      given status.Unreadable some answers = inl (text_of a, answers, written)
       given status.NoMemory some answers = absurd (some refl)
-  ends_so IsWhy (Ok a) answers why (inr (is, fails, part, line)) refuses =
+  ends_by IsWhy (Ok a) answers why (inr (is, fails, part, line)) refuses =
       subst (λ s. Ends Answers IsWhy s output errors) (sym is) (inr (refused.Unwritten, refl, inr (refl, fails), line))
-  ends_so IsWhy (Err reason) answers why told refuses = refuses_so (λ s. Ends Answers IsWhy s output errors) errors reason
+  ends_by IsWhy (Err reason) answers why told refuses = refuses_so (λ s. Ends Answers IsWhy s output errors) errors reason
       (λ is line. inr (reason, is, inl why, line)) (λ line. line) ended refuses
 
-  -- an output that failed did so in an answer
-  pub breaks_in_answer : (Same : Type 0) (answered : Result Answer Refused) → IfOk answered (λ (a : Answer). Answers a.status (cow_str_bytes a.text))
-      → IfOk answered (λ (a : Answer). IsTold a.status (cow_str_bytes a.text) ended output errors) → OnErr answered Same
-      → ((text : List ℕ) → Answers status.Unreadable text → ⊥) → ended ≡ status.Unreadable → Same ⊎ BreaksOff (IsSomeAnswer Answers) output
-  breaks_in_answer Same (Ok a) answers (inl (is, written)) same none unreadable =
-      let A : Status → Type 0 = λ s. Answers s (cow_str_bytes a.text) in absurd (none (cow_str_bytes a.text) (subst A unreadable (subst A (sym is) answers)))
-  breaks_in_answer Same (Ok a) answers (inr (is, fails, part, line)) same none unreadable =
-      inr (record { text = cow_str_bytes a.text; answer = (a.status, answers); fails = fails; beginning = part })
-  breaks_in_answer Same (Err why) answers told same none unreadable = inl same
+  -- an answer that ends as what can't be read was given, or the output failed in it
+  gives_or_breaks : (a : A) → Answers (due a) (text_of a) → IsTold (due a) (text_of a) ended output errors → ended ≡ status.Unreadable
+      → Gives Answers status.Unreadable output ⊎ BreaksOff (IsSomeAnswer Answers) output
+  gives_or_breaks a answers (inl (is, written)) unreadable =
+      let P : Status → Type 0 = λ s. Answers s (text_of a) in inl (text_of a, subst P unreadable (subst P (sym is) answers), written)
+  gives_or_breaks a answers (inr (is, fails, part, line)) unreadable =
+      inr (record { text = text_of a; answer = (due a, answers); fails = fails; beginning = part })
 
-  -- so it is where only want of memory is no answer, or the answer tells why an input can't be read
-  pub breaks_or_gives : (answered : Result Answer Refused) → IfOk answered (λ (a : Answer). Answers a.status (cow_str_bytes a.text))
+  -- with no such answer, an output that failed did so in an answer
+  only_breaks : (Same : Type 0) → ((text : List ℕ) → Answers status.Unreadable text → ⊥)
+      → Gives Answers status.Unreadable output ⊎ BreaksOff (IsSomeAnswer Answers) output → Same ⊎ BreaksOff (IsSomeAnswer Answers) output
+  only_breaks Same none (inl (text, answers, written)) = absurd (none text answers)
+  only_breaks Same none (inr breaks) = inr breaks
+
+  breaks_by : (Same : Type 0) (answered : Result A Refused) → IfOk answered (λ a. Answers (due a) (text_of a))
+      → IfOk answered (λ a. IsTold (due a) (text_of a) ended output errors) → OnErr answered Same
+      → ((text : List ℕ) → Answers status.Unreadable text → ⊥) → ended ≡ status.Unreadable → Same ⊎ BreaksOff (IsSomeAnswer Answers) output
+  breaks_by Same (Ok a) answers told same none unreadable = only_breaks Same none (gives_or_breaks a answers told unreadable)
+  breaks_by Same (Err why) answers told same none unreadable = inl same
+
+  -- all that it says
+  concludes_by : (IsWhy : Refused → Type 0) (untouched quiet : Type 0) (answered : Result A Refused) → IfOk answered (λ a. Answers (due a) (text_of a))
+      → IfErr answered IsWhy → IfOk answered (λ a. IsTold (due a) (text_of a) ended output errors)
+      → IfErr answered (λ why. Refuses why ended errors) → OnErr answered untouched → ((ended ≡ status.Yes) ⊎ (ended ≡ status.Fault) → quiet)
+      → (ended ≡ status.NoMemory → untouched) → ((text : List ℕ) → Answers status.Unreadable text → ⊥)
+      → Concludes Answers IsWhy ended output errors untouched quiet
+  concludes_by IsWhy untouched quiet answered answers why told refuses same silent no_memory none = record {
+    tells = ends_by IsWhy answered answers why told refuses;
+    silent = silent;
+    unwritten = breaks_by untouched answered answers told same none;
+    no_memory = no_memory;
+  }
+
+module _ (Answers : Status → List ℕ → Type 0) (ended : Status) (output errors : Stream) where
+  -- of bytes
+  pub concludes_bytes : (IsWhy : Refused → Type 0) (untouched quiet : Type 0) (answered : Result BytesAnswer Refused)
+      → IfOk answered (λ (a : BytesAnswer). Answers a.status a.bytes.items) → IfErr answered IsWhy
+      → IfOk answered (λ (a : BytesAnswer). IsTold a.status a.bytes.items ended output errors) → IfErr answered (λ why. Refuses why ended errors)
+      → OnErr answered untouched → ((ended ≡ status.Yes) ⊎ (ended ≡ status.Fault) → quiet) → (ended ≡ status.NoMemory → untouched)
+      → ((text : List ℕ) → Answers status.Unreadable text → ⊥) → Concludes Answers IsWhy ended output errors untouched quiet
+  concludes_bytes = concludes_by (λ (a : BytesAnswer). a.status) (λ a. a.bytes.items) (λ a. a.memory) Answers ended output errors
+
+  -- and of a text
+  pub concludes : (IsWhy : Refused → Type 0) (untouched quiet : Type 0) (answered : Result Answer Refused)
+      → IfOk answered (λ (a : Answer). Answers a.status (cow_str_bytes a.text)) → IfErr answered IsWhy
+      → IfOk answered (λ (a : Answer). IsTold a.status (cow_str_bytes a.text) ended output errors) → IfErr answered (λ why. Refuses why ended errors)
+      → OnErr answered untouched → ((ended ≡ status.Yes) ⊎ (ended ≡ status.Fault) → quiet) → (ended ≡ status.NoMemory → untouched)
+      → ((text : List ℕ) → Answers status.Unreadable text → ⊥) → Concludes Answers IsWhy ended output errors untouched quiet
+  concludes = concludes_by (λ (a : Answer). a.status) (λ a. cow_str_bytes a.text) (λ a. a.memory) Answers ended output errors
+
+  same_gives_or_breaks : (Same : Type 0) (answered : Result Answer Refused) → IfOk answered (λ (a : Answer). Answers a.status (cow_str_bytes a.text))
+      → IfOk answered (λ (a : Answer). IsTold a.status (cow_str_bytes a.text) ended output errors) → OnErr answered Same → ended ≡ status.Unreadable
+      → Same ⊎ (Gives Answers status.Unreadable output ⊎ BreaksOff (IsSomeAnswer Answers) output)
+  same_gives_or_breaks Same (Ok a) answers told same unreadable =
+      inr (gives_or_breaks (λ (a : Answer). a.status) (λ a. cow_str_bytes a.text) (λ a. a.memory) Answers ended output errors a answers told unreadable)
+  same_gives_or_breaks Same (Err why) answers told same unreadable = inl same
+
+  -- where of some inputs an answer tells why they can't be read
+  pub concludes_on_both : (IsWhy : Refused → Type 0) (untouched quiet : Type 0) (answered : Result Answer Refused)
+      → IfOk answered (λ (a : Answer). Answers a.status (cow_str_bytes a.text)) → IfErr answered IsWhy
+      → IfOk answered (λ (a : Answer). IsTold a.status (cow_str_bytes a.text) ended output errors) → IfErr answered (λ why. Refuses why ended errors)
+      → OnErr answered untouched → ((ended ≡ status.Yes) ⊎ (ended ≡ status.Fault) → quiet) → (ended ≡ status.NoMemory → untouched)
+      → ConcludesOnBoth Answers IsWhy ended output errors untouched quiet
+  concludes_on_both IsWhy untouched quiet answered answers why told refuses same silent no_memory = record {
+    tells = ends_by (λ (a : Answer). a.status) (λ a. cow_str_bytes a.text) (λ a. a.memory) Answers ended output errors IsWhy answered answers why told refuses;
+    silent = silent;
+    unwritten = same_gives_or_breaks untouched answered answers told same;
+    no_memory = no_memory;
+  }
+
+  only_memory_lacks : (answered : Result Answer Refused) → IfOk answered (λ (a : Answer). Answers a.status (cow_str_bytes a.text))
       → IfErr answered (λ why. why ≡ refused.NoMemory) → IfOk answered (λ (a : Answer). IsTold a.status (cow_str_bytes a.text) ended output errors)
       → IfErr answered (λ why. Refuses why ended errors) → ended ≡ status.Unreadable
       → Gives Answers status.Unreadable output ⊎ BreaksOff (IsSomeAnswer Answers) output
-  breaks_or_gives (Ok a) answers lacks (inl (is, written)) refuses unreadable =
-      let A : Status → Type 0 = λ s. Answers s (cow_str_bytes a.text) in inl (cow_str_bytes a.text, subst A unreadable (subst A (sym is) answers), written)
-  breaks_or_gives (Ok a) answers lacks (inr (is, fails, part, line)) refuses unreadable =
-      inr (record { text = cow_str_bytes a.text; answer = (a.status, answers); fails = fails; beginning = part })
-  breaks_or_gives (Err why) answers lacks told refuses unreadable =
+  only_memory_lacks (Ok a) answers lacks told refuses unreadable =
+      gives_or_breaks (λ (a : Answer). a.status) (λ a. cow_str_bytes a.text) (λ a. a.memory) Answers ended output errors a answers told unreadable
+  only_memory_lacks (Err why) answers lacks told refuses unreadable =
       let memory : status.Unreadable ≡ status.NoMemory = sym unreadable ∙ (of_memory why ended errors lacks refuses).0 in absurd (cc)
+
+  -- and where it does of any, and only want of memory leaves none
+  pub concludes_on_output : (untouched quiet : Type 0) (answered : Result Answer Refused) → IfOk answered (λ (a : Answer). Answers a.status (cow_str_bytes a.text))
+      → IfErr answered (λ why. why ≡ refused.NoMemory) → IfOk answered (λ (a : Answer). IsTold a.status (cow_str_bytes a.text) ended output errors)
+      → IfErr answered (λ why. Refuses why ended errors) → ((ended ≡ status.Yes) ⊎ (ended ≡ status.Fault) → quiet) → (ended ≡ status.NoMemory → untouched)
+      → ConcludesOnOutput Answers ended output errors untouched quiet
+  concludes_on_output untouched quiet answered answers lacks told refuses silent no_memory = record {
+    tells = ends_by (λ (a : Answer). a.status) (λ a. cow_str_bytes a.text) (λ a. a.memory) Answers ended output errors (λ why. why ≡ refused.NoMemory) answered answers lacks told refuses;
+    silent = silent;
+    unwritten = only_memory_lacks answered answers lacks told refuses;
+    no_memory = no_memory;
+  }
 
 -- where only want of memory is no answer, what holds of an answer holds under every other status
 pub quiet_told : (P Q : Type 0) (s : Status) (errors : Stream) (answered : Result Answer Refused) → IfErr answered (λ why. why ≡ refused.NoMemory)

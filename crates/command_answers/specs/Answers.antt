@@ -15,7 +15,7 @@ use Rattle.net_json.specs.PlanText.{IsPlanOf}
 use Rattle.net_json.specs.Stream.{Account, HasFailed, AppendsBeginning}
 use Rattle.net_plan.specs.PlanValues.{plan_value}
 use Rattle.net_json.specs.Unread.{GaveNoPlan, GaveNoCertificate}
-use Rattle.net_json.specs.Texts.{Gave, StandsFor}
+use Rattle.net_json.specs.Texts.{Gave, IsJsonTextOf}
 use Rattle.command_answers.specs.declared.refused.Input.{Input}
 use Rattle.command_answers.specs.declared.refused.Input.TheVariants as input
 use Rattle.command_answers.specs.declared.refused.Refused.{Refused}
@@ -63,12 +63,12 @@ SaysWhy IsWhy errors = (why : Refused) × (status_of why ≡ status.Unreadable) 
 -- the source gave the text of the plan
 abbrev pub GavePlan : Stream → Plan → Type 0
 GavePlan stream plan =
-    Gave 16777216 stream.before.bytes stream.after.bytes (λ text. StandsFor IsPlanOf text (plan_value plan))
+    Gave 16777216 stream.before.bytes stream.after.bytes (λ text. IsJsonTextOf IsPlanOf text (plan_value plan))
 
 -- the source gave this text, which is that of the plan
 abbrev pub GavePlanText : Stream → List ℕ → Plan → Type 0
 GavePlanText stream text plan = Gave 16777216 stream.before.bytes stream.after.bytes
-    (λ bytes. (bytes ≡ text) × StandsFor IsPlanOf bytes (plan_value plan))
+    (λ bytes. (bytes ≡ text) × IsJsonTextOf IsPlanOf bytes (plan_value plan))
 
 -- the source gave the text of no plan
 abbrev pub IsWithoutPlan : Stream → Type 0
@@ -78,7 +78,7 @@ IsWithoutPlan stream = (plan : Plan) → ¬ GavePlan stream plan
 abbrev pub GaveCertificate : Plan → Stream → Certificate → Type 0
 GaveCertificate plan stream certificate =
     Gave 16777216 stream.before.bytes stream.after.bytes
-    (λ text. StandsFor (IsCertificateOf (plan_value plan)) text (certificate_value certificate))
+    (λ text. IsJsonTextOf (IsCertificateOf (plan_value plan)) text (certificate_value certificate))
 
 -- Why a source gave nothing, by the error: it failed, it gave too many bytes, it gave no JSON, or JSON at whose first
 -- fault the reader stops. Want of memory is no such cause.

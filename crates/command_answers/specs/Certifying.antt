@@ -6,7 +6,7 @@ use Rattle.net_json.specs.CertificateJson.{certificate_text}
 use Rattle.net_json.specs.CertificateText.{IsCertificateOf}
 use Rattle.net_plan.specs.CertificateValues.{certificate_value}
 use Rattle.net_plan.specs.PlanValues.{node_names, plan_value}
-use Rattle.net_json.specs.Texts.{StandsFor}
+use Rattle.net_json.specs.Texts.{IsJsonTextOf}
 use Rattle.net_plan.specs.WellFormed.{IsWellFormed}
 use Rattle.net_rules.specs.declared.certify_error.CertifyError.{CertifyError}
 use Rattle.net_rules.specs.Certificates.{IsExact, NamesObstacle, HasNoCertificate}
@@ -23,7 +23,7 @@ pub record IsCertifiedBy (plan : Plan) (certificate : Certificate) (text : List 
   pub exact : IsExact plan certificate
   pub well_formed : IsWellFormed (plan_value plan) (certificate_value certificate)
   pub written : text ≡ certificate_text (node_names (plan_value plan).nodes) (certificate_value certificate)
-  pub reads_back : StandsFor (IsCertificateOf (plan_value plan)) text (certificate_value certificate)
+  pub reads_back : IsJsonTextOf (IsCertificateOf (plan_value plan)) text (certificate_value certificate)
   pub short : length text ≤ 2097152
 
 -- The text tells what comes first, in the order of the rules, of what rules certificates of the plan out, and there is

@@ -7,7 +7,7 @@ use Rattle.net_plan.specs.declared.event.Event.{Event}
 use Rattle.net_json.specs.EventText.{AreEventsOf}
 use Rattle.net_plan.specs.EventValues.{event_entry}
 use Rattle.net_plan.specs.PlanValues.{plan_value}
-use Rattle.net_json.specs.Texts.{Gave, StandsFor}
+use Rattle.net_json.specs.Texts.{Gave, IsJsonTextOf}
 use Rattle.net_json.specs.Unread.{GaveNoEvents}
 use Rattle.command_answers.specs.declared.refused.Input.{Input}
 use Rattle.command_answers.specs.declared.refused.Input.TheVariants as input
@@ -21,7 +21,7 @@ use Rattle.net_json.specs.Stream.{TakesMoreThan}
 abbrev pub GaveEvents : Plan → Stream → List Event → Type 0
 GaveEvents plan stream events =
     Gave 16777216 stream.before.bytes stream.after.bytes
-    (λ text. StandsFor (AreEventsOf (plan_value plan)) text (map event_entry events))
+    (λ text. IsJsonTextOf (AreEventsOf (plan_value plan)) text (map event_entry events))
 
 -- why an input, which is the events at the nodes of the plan, can't be read
 abbrev pub AreUnreadEvents : Plan → Input → PlanError → Stream → Type 0

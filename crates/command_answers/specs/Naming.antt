@@ -6,7 +6,7 @@ use Rattle.net_plan.specs.declared.plan.Plan.{Plan}
 use Rattle.std.specs.Char.{is_ascii_digit}
 use Rattle.std.specs.List.{list_all}
 use Rattle.std.specs.Str.Parse.{digits_value}
-use Rattle.mctp_transport.specs.Frames.{IsAssignable}
+use Rattle.mctp_transport.specs.PacketValues.{IsAssignable}
 use Rattle.net_tables.specs.Routing.{Holds}
 
 -- n is the first node of the name

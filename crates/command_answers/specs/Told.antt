@@ -6,7 +6,7 @@ use Rattle.command_answers.specs.declared.refused.Refused.{Refused}
 use Rattle.command_answers.specs.declared.refused.Refused.TheVariants as refused
 use Rattle.command_answers.specs.declared.status.Status.{Status}
 use Rattle.command_answers.specs.declared.status.Status.TheVariants as status
-use Rattle.command_answers.specs.Answers.{Stream, Fails, IsReported, SaysWhy}
+use Rattle.command_answers.specs.Answers.{Stream, Fails, BreaksOff, IsReported, SaysWhy}
 
 -- The output was given the text, and the run ended as is due; or the output failed in the text, and this is reported.
 abbrev pub IsTold : Status → List ℕ → Status → (output errors : Stream) → Type 0
@@ -35,3 +35,29 @@ Ends Answers IsWhy status.Fault output errors = Gives Answers status.Fault outpu
 Ends Answers IsWhy status.Unreadable output errors =
     Gives Answers status.Unreadable output ⊎ SaysWhy (IsUngivenFor IsWhy output) errors
 Ends Answers IsWhy status.NoMemory output errors = IsReported refused.NoMemory errors
+
+-- What the end of a run says of an answer, whichever it is, of the outputs, and of where they are as they were.
+pub record Concludes (Answers : Status → List ℕ → Type 0) (IsWhy : Refused → Type 0) (ended : Status)
+    (output errors : Stream) (untouched quiet : Type 0) : Type 0 where
+  pub tells : Ends Answers IsWhy ended output errors
+  pub silent : (ended ≡ status.Yes) ⊎ (ended ≡ status.Fault) → quiet
+  pub unwritten : ended ≡ status.Unreadable → untouched ⊎ BreaksOff (IsSomeAnswer Answers) output
+  pub no_memory : ended ≡ status.NoMemory → untouched
+
+-- The same where of some inputs that can't be read an answer tells why, and of the others there is none.
+pub record ConcludesOnBoth (Answers : Status → List ℕ → Type 0) (IsWhy : Refused → Type 0) (ended : Status)
+    (output errors : Stream) (untouched quiet : Type 0) : Type 0 where
+  pub tells : Ends Answers IsWhy ended output errors
+  pub silent : (ended ≡ status.Yes) ⊎ (ended ≡ status.Fault) → quiet
+  pub unwritten : ended ≡ status.Unreadable
+      → untouched ⊎ Gives Answers status.Unreadable output ⊎ BreaksOff (IsSomeAnswer Answers) output
+  pub no_memory : ended ≡ status.NoMemory → untouched
+
+-- The same where an answer tells why any input can't be read, and only want of memory leaves none.
+pub record ConcludesOnOutput (Answers : Status → List ℕ → Type 0) (ended : Status) (output errors : Stream)
+    (untouched quiet : Type 0) : Type 0 where
+  pub tells : Ends Answers (λ why. why ≡ refused.NoMemory) ended output errors
+  pub silent : (ended ≡ status.Yes) ⊎ (ended ≡ status.Fault) → quiet
+  pub unwritten : ended ≡ status.Unreadable
+      → Gives Answers status.Unreadable output ⊎ BreaksOff (IsSomeAnswer Answers) output
+  pub no_memory : ended ≡ status.NoMemory → untouched

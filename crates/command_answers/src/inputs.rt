@@ -6,17 +6,18 @@ ghost use Rattle.net_json.specs.CertificateText.{IsCertificateOf};
 ghost use Rattle.net_plan.specs.CertificateValues.{certificate_value};
 ghost use Rattle.net_json.specs.PlanText.{IsPlanOf};
 ghost use Rattle.net_plan.specs.PlanValues.{plan_value};
-ghost use Rattle.net_json.specs.Texts.{StandsFor};
-ghost use Rattle.command_answers.specs.UnreadInputs.{IsNoPlanIn, IsNoPlanBy, IsNoCertificateIn, IsNoCertificateBy, IsTextOf, StandsForNothing, refused_for, unread_of};
+ghost use Rattle.net_json.specs.Texts.{IsJsonTextOf};
+ghost use Rattle.command_answers.specs.UnreadInputs.{IsNoPlanIn, IsNoPlanBy, IsNoCertificateIn, IsNoCertificateBy, IsTextOf, unread_of};
 ghost use Rattle.command_answers.specs.Moves.{IsMoveGiven, IsMoveUnread, ArePlansUnread};
 ghost use Rattle.command_answers.specs.Inputs.{GaveLines, AreLinesUnread, GaveEvents, AreEventsUnread};
 
 use crate::refused::{Input, Refused};
 use net_json::{
-    PlanError, Source, TEXT_LIMIT, TextFault, certificate_of_text, plan_of_text, read_certificate,
+    PlanError, Source, TEXT_LIMIT, TextFault as NoText, plan_of_text, read_certificate,
     read_events, read_plan, read_within,
 };
 use net_plan::{Certificate, Event, Plan};
+use reading_texts::{TextError, TextFault, certificate_or_fault, plan_or_fault};
 use std::alloc::Global;
 
 /// The plan that a source gives.
@@ -34,7 +35,7 @@ pub fn given_plan<P: Source>(alloc: Global, plan: &mut P) -> Result<Plan, Refuse
 }
 
 /// Why a source gave no plan, or no certificate.
-#[derive(Debug, Drop)]
+#[derive(Drop)]
 pub enum Unread {
     /// There was too little memory.
     NoMemory,
@@ -42,8 +43,8 @@ pub enum Unread {
     Failed,
     /// It gave too many bytes.
     TooLong,
-    /// It gave this text to its end.
-    Text { text: Vec<u8>, cause: PlanError },
+    /// It gave this text to its end, in which this is wrong.
+    Text { text: Vec<u8>, fault: TextFault },
 }
 
 /// A plan, and the text that it was read from.
@@ -61,7 +62,6 @@ pub fn plan_or_text<P: Source>(alloc: Global, plan: &mut P) -> Result<PlanText, 
     ensures same { IfOk result (λ read. IsTextOf read.text.items read.plan) }
     ensures unread { let plans = stream P.account plan.old plan.new in
         IfErr result (IsNoPlanBy plans) }
-    ensures none { IfErr result (StandsForNothing IsPlanOf) }
 {
     match read_within(alloc, plan, TEXT_LIMIT) {
         Ok(text) => plan_in(alloc, text),
@@ -78,21 +78,12 @@ pub fn given_plan_text<P: Source>(alloc: Global, plan: &mut P) -> Result<PlanTex
     ensures unread { let plans = stream P.account plan.old plan.new in
         IfErr result (λ refused. IsPlanUnread refused plans) }
 {
-    match plan_or_text(alloc, plan) {
-        Ok(given) => Ok(given),
-        Err(unread) => Err(refused_for(Input::Plan, &unread)),
-    }
-}
-
-/// Why there is no answer, where an input gave nothing.
-fn refused_for(input: Input, unread: &Unread) -> Refused
-    ensures { result ≡ refused_for input unread.now }
-{
-    match unread {
-        Unread::NoMemory => Refused::NoMemory,
-        Unread::Failed => Refused::at_input(input, PlanError::Device),
-        Unread::TooLong => Refused::at_input(input, PlanError::OverLimit),
-        Unread::Text { cause, .. } => Refused::at_input(input, *cause),
+    match read_within(alloc, plan, TEXT_LIMIT) {
+        Ok(text) => match plan_of_text(alloc, &text) {
+            Ok(plan) => Ok(PlanText { text, plan }),
+            Err(cause) => Err(Refused::at_input(Input::Plan, cause)),
+        },
+        Err(fault) => Err(Refused::at_input(Input::Plan, PlanError::from(fault))),
     }
 }
 
@@ -102,10 +93,10 @@ fn plan_in(alloc: Global, text: Vec<u8>) -> Result<PlanText, Unread>
     ensures same { IfOk result (λ read. read.text.items ≡ text.items) }
     ensures unread { IfErr result (IsNoPlanIn text.items) }
 {
-    match plan_of_text(alloc, &text) {
+    match plan_or_fault(alloc, &text) {
         Ok(plan) => Ok(PlanText { text, plan }),
-        Err(PlanError::OutOfMemory) => Err(Unread::NoMemory),
-        Err(cause) => Err(Unread::Text { text, cause }),
+        Err(TextError::OutOfMemory) => Err(Unread::NoMemory),
+        Err(TextError::Faulty(fault)) => Err(Unread::Text { text, fault }),
     }
 }
 
@@ -120,7 +111,6 @@ pub fn certificate_or_text<C: Source>(
         IfOk result (λ read. GaveCertificate plan.now certificates read) }
     ensures unread { let certificates = stream C.account certificate.old certificate.new in
         IfErr result (IsNoCertificateBy plan.now certificates) }
-    ensures none { IfErr result (StandsForNothing (IsCertificateOf (plan_value plan.now))) }
 {
     match read_within(alloc, certificate, TEXT_LIMIT) {
         Ok(text) => certificate_in(alloc, plan, text),
@@ -130,24 +120,24 @@ pub fn certificate_or_text<C: Source>(
 
 /// The certificate of a plan that a text is, or why it is none.
 fn certificate_in(alloc: Global, plan: &Plan, text: Vec<u8>) -> Result<Certificate, Unread>
-    ensures given { IfOk result (λ c. StandsFor (IsCertificateOf (plan_value plan.now)) text.items (certificate_value c)) }
+    ensures given { IfOk result (λ c. IsJsonTextOf (IsCertificateOf (plan_value plan.now)) text.items (certificate_value c)) }
     ensures unread { IfErr result (IsNoCertificateIn plan.now text.items) }
 {
-    match certificate_of_text(alloc, plan, &text) {
+    match certificate_or_fault(alloc, plan, &text) {
         Ok(certificate) => Ok(certificate),
-        Err(PlanError::OutOfMemory) => Err(Unread::NoMemory),
-        Err(cause) => Err(Unread::Text { text, cause }),
+        Err(TextError::OutOfMemory) => Err(Unread::NoMemory),
+        Err(TextError::Faulty(fault)) => Err(Unread::Text { text, fault }),
     }
 }
 
 /// Why there is nothing where there is no text.
-fn without_text(fault: TextFault) -> Unread
+pub fn without_text(fault: NoText) -> Unread
     ensures { result ≡ unread_of fault }
 {
     match fault {
-        TextFault::TooLong => Unread::TooLong,
-        TextFault::Device => Unread::Failed,
-        TextFault::OutOfMemory => Unread::NoMemory,
+        NoText::TooLong => Unread::TooLong,
+        NoText::Device => Unread::Failed,
+        NoText::OutOfMemory => Unread::NoMemory,
     }
 }
 

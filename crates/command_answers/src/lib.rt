@@ -3,6 +3,7 @@
 #![tactic(auto)]
 
 mod answer;
+mod bytes_answer;
 mod certify;
 mod faults;
 mod gathered;
@@ -16,12 +17,13 @@ mod status;
 mod termini;
 
 pub use answer::{Answer, YES, give, print, refuse, tell};
+pub use bytes_answer::{BytesAnswer, tell_bytes};
 pub use certify::certificate_of_plan;
 pub use faults::{fault_answer, fault_text, move_fault_answer};
 pub use gathered::Gathered;
 pub use inputs::{
     PlanText, Unread, certificate_or_text, given_events, given_lines, given_plan, given_plan_text,
-    plan_or_text, read_inputs, read_move, read_plans, read_texts,
+    plan_or_text, read_inputs, read_move, read_plans, read_texts, without_text,
 };
 pub use known::run_known;
 pub use naming::ends::{eid_of_word, named_ends};
@@ -31,4 +33,4 @@ pub use part_size::PartSize;
 pub use refused::{Input, Refused};
 pub use repositories::records_by_place;
 pub use status::Status;
-pub use termini::planned_termini;
+pub use termini::{planned_network, planned_terminus};

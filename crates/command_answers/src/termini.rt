@@ -1,20 +1,40 @@
-//! The termini of a plan, as they are planned.
+//! The termini of a plan, as they are planned, and the network of them.
 ghost use Rattle.std.specs.Prelude.{◌≡◌, ◌++◌, IfOk, OnOk, map, option_map};
 ghost use Rattle.std.specs.Option.{option_to_list};
 ghost use Rattle.pdr_repository.specs.BlockTermini.{block_tid, block_records};
 ghost use Rattle.net_tables.specs.Repositories.{terminus_of, RecordsHaveOrder};
 ghost use Rattle.net_runs.specs.Termini.{terminus_at_start};
+ghost use Rattle.net_check.specs.Accepted.{IsAccepted};
+ghost use Rattle.net_runs.specs.Walkers.{walked_at_start};
 ghost use Rattle.net_sim.specs.Dealing.{resting, planned_termini};
+ghost use Rattle.net_sim.specs.Networks.{network_value, checked_of};
+ghost use Rattle.net_sim.specs.WalkedStanding.{StandsForWalked};
 
 use crate::repositories::records_by_place;
+use net_check::AcceptedNetwork;
 use net_plan::{Certificate, Plan};
+use net_sim::Network;
 use net_tables::lookup::terminus_at;
 use pdr_repository::BlockTerminus;
 use pldm_message::Tid;
 use std::alloc::{AllocError, Global};
 
+/// The network of what was checked, with the termini that are planned, in which nothing has happened yet.
+pub fn planned_network<'a>(
+    alloc: Global,
+    accepted: AcceptedNetwork<'a>,
+) -> Result<Network<'a, BlockTerminus>, AllocError>
+    ensures accepted { IsAccepted accepted.entry.0 accepted.entry.1 }
+    ensures checked { IfOk result (λ network. checked_of network ≡ accepted.entry) }
+    ensures stands { IfOk result (λ network. StandsForWalked (network_value block_tid block_records network)
+        (walked_at_start accepted.entry.0.plan accepted.entry.1)) }
+{
+    let termini = planned_termini(alloc, accepted.plan(), accepted.certificate())?;
+    Network::start(alloc, accepted, termini)
+}
+
 /// The termini of a plan, in the order of its nodes.
-pub fn planned_termini(
+fn planned_termini(
     alloc: Global,
     plan: &Plan,
     certificate: &Certificate,
@@ -46,7 +66,7 @@ fn push_terminus(
 }
 
 /// The terminus of a node as it is planned, if the node has one.
-fn planned_terminus(
+pub fn planned_terminus(
     alloc: Global,
     plan: &Plan,
     certificate: &Certificate,

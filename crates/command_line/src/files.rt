@@ -80,13 +80,13 @@ fn read_opened<R: Files + Input>(file: &mut FileAtPath<'_, R>, buf: &mut [u8]) -
     ensures bytes { let left_in = option_and_then (either R.File.remaining R.Reader.remaining) in
         ReadConsumes (left_in file.old.opened) (left_in file.new.opened) result buf.new }
 {
-    let mut opened = match file.opened.take() {
-        Some(opened) => opened,
-        None => open(file.rt, file.path)?,
-    };
-    let read = opened.read(buf);
-    file.opened = Some(opened);
-    read
+    if file.opened.is_none() {
+        file.opened = Some(open(file.rt, file.path)?);
+    }
+    match &mut file.opened {
+        Some(opened) => opened.read(buf),
+        None => unreachable!(),
+    }
 }
 
 /// Standard input, or the file at a path.

@@ -39,8 +39,8 @@ pub enum Subcommand<'a> {
     },
     /// What does `certifymove` say of the plans in two files, and why?
     ExplainMove {
-        before: &'a str,
-        after: &'a str,
+        old: &'a str,
+        new: &'a str,
     },
     /// How does the plan in a file stand once edits are made that take away what rules certificates out?
     Fix {
@@ -79,31 +79,31 @@ pub enum Subcommand<'a> {
     /// May the nodes of the plan in one file go over, in any order, to the rows of the plan in another, by one
     /// certificate?
     Move {
-        before: &'a str,
-        after: &'a str,
+        old: &'a str,
+        new: &'a str,
         certificate: &'a str,
     },
     /// What is the certificate of such a move, or why has it none?
     CertifyMove {
-        before: &'a str,
-        after: &'a str,
+        old: &'a str,
+        new: &'a str,
     },
     /// What does the change from the plan in one file to the plan in another do?
     Diff {
-        before: &'a str,
-        after: &'a str,
+        old: &'a str,
+        new: &'a str,
     },
     /// By which steps do the nodes get from the rows of one plan to those of another, and into which folder are their
     /// files written?
     Rollout {
-        before: &'a str,
-        after: &'a str,
+        old: &'a str,
+        new: &'a str,
         folder: Option<&'a str>,
     },
     /// What comes of the events in a file while nodes go over from the rows of one plan to those of another?
     SimMove {
-        before: &'a str,
-        after: &'a str,
+        old: &'a str,
+        new: &'a str,
         certificate: &'a str,
         events: &'a str,
     },
@@ -379,39 +379,54 @@ fn option<'a>(alloc: Global, id: &'a str, alone: Option<&'a str>) -> Arg<'a> {
     }
 }
 
+/// A command over files, each of which the argument of its name has, and what else the command has.
+macro_rules! asked {
+    ($arguments:expr, $command:ident($($file:ident),*) $(, $name:ident: $value:expr)*) => {
+        Some(Subcommand::$command {
+            $($file: $arguments.get_str(stringify!($file))?,)*
+            $($name: $value,)*
+        })
+    };
+}
+
 fn chosen<'a>(matches: &ArgMatches<'a>, list: &'a [String]) -> Option<Subcommand<'a>> {
     let (name, arguments) = matches.subcommand()?;
     match name {
         "make" => making(arguments),
-        "rows" => planned(arguments, PlanQuestion::Rows),
-        "check" => certified(arguments, Question::Check),
-        "certify" => planned(arguments, PlanQuestion::Certify),
-        "assign" => certified(arguments, Question::Assign),
-        "sim" => playing(arguments),
-        "expect" => expecting(arguments),
-        "move" => moving(arguments),
-        "certifymove" => certifying_move(arguments),
-        "diff" => differing(arguments),
+        "rows" => asked!(arguments, Planned(plan), question: PlanQuestion::Rows),
+        "check" => asked!(arguments, Certified(plan, certificate), question: Question::Check),
+        "certify" => asked!(arguments, Planned(plan), question: PlanQuestion::Certify),
+        "assign" => asked!(arguments, Certified(plan, certificate), question: Question::Assign),
+        "sim" => asked!(arguments, Sim(plan, certificate, events)),
+        "expect" => asked!(arguments, Expect(plan, certificate, events, lines)),
+        "move" => asked!(arguments, Move(old, new, certificate)),
+        "certifymove" => asked!(arguments, CertifyMove(old, new)),
+        "diff" => asked!(arguments, Diff(old, new)),
         "rollout" => rolling_out(arguments),
-        "simmove" => playing_moves(arguments),
-        "walk" => walking(arguments),
+        "simmove" => asked!(arguments, SimMove(old, new, certificate, events)),
+        "walk" => asked!(arguments, Certified(plan, certificate), question: walked(arguments)?),
         "script" => scripting(arguments),
         "export" => exporting(arguments, list),
-        "reach" => reaching(arguments),
-        "matrix" => certified(arguments, Question::Matrix),
-        "require" => requiring(arguments),
+        "reach" if arguments.get_flag(JSON) =>
+            asked!(arguments, CertifiedJson(plan, certificate), asked: CertifiedJson::Reach),
+        "reach" => asked!(arguments, Certified(plan, certificate), question: Question::Reach),
+        "matrix" => asked!(arguments, Certified(plan, certificate), question: Question::Matrix),
+        "require" => asked!(arguments, Require(plan, certificate, wanted)),
         "trace" => tracing(arguments),
         "draw" => drawing(arguments),
         "explain" => explaining(arguments),
         "faults" => listing(arguments),
-        "fix" => fixing(arguments),
-        "lint" => linting(arguments),
+        "fix" => asked!(arguments, Fix(plan)),
+        "lint" if arguments.get_flag(JSON) =>
+            asked!(arguments, PlannedJson(plan), asked: PlanJson::Lint),
+        "lint" => asked!(arguments, Planned(plan), question: PlanQuestion::Lint),
         "show" => showing(arguments),
-        "decode" => decoding(arguments),
-        "audit" => auditing(arguments),
+        "decode" => asked!(arguments, Decode(capture), plan: arguments.get_str("plan")),
+        "audit" =>
+            asked!(arguments, Audit(plan, certificate, capture), bus: arguments.get_str("bus")),
         "emulate" => emulating(arguments),
-        "capture" => capturing(arguments),
-        "report" => reporting(arguments),
+        "capture" => asked!(arguments, Capture(plan, certificate, events)),
+        "report" => asked!(arguments, Report(plan), certificate: arguments.get_str("certificate")),
         "code" => known(text_of(arguments.get_str("code")?)),
         "schema" => known(schema_of(arguments.get_str("kind")?)),
         "guide" => guiding(arguments),
@@ -420,77 +435,12 @@ fn chosen<'a>(matches: &ArgMatches<'a>, list: &'a [String]) -> Option<Subcommand
     }
 }
 
-fn certified<'a>(arguments: &ArgMatches<'a>, question: Question<'a>) -> Option<Subcommand<'a>> {
-    Some(Subcommand::Certified {
-        question,
-        plan: arguments.get_str("plan")?,
-        certificate: arguments.get_str("certificate")?,
-    })
-}
-
-fn planned<'a>(arguments: &ArgMatches<'a>, question: PlanQuestion<'a>) -> Option<Subcommand<'a>> {
-    Some(Subcommand::Planned {
-        question,
-        plan: arguments.get_str("plan")?,
-    })
-}
-
-fn requiring<'a>(arguments: &ArgMatches<'a>) -> Option<Subcommand<'a>> {
-    Some(Subcommand::Require {
-        plan: arguments.get_str("plan")?,
-        certificate: arguments.get_str("certificate")?,
-        wanted: arguments.get_str("wanted")?,
-    })
-}
-
 fn making<'a>(arguments: &ArgMatches<'a>) -> Option<Subcommand<'a>> {
     let certificate = arguments.get_str("certificate");
     if certificate == Some("-") {
         return None;
     }
-    Some(Subcommand::Make {
-        board: arguments.get_str("board")?,
-        certificate,
-    })
-}
-
-fn playing<'a>(arguments: &ArgMatches<'a>) -> Option<Subcommand<'a>> {
-    Some(Subcommand::Sim {
-        plan: arguments.get_str("plan")?,
-        certificate: arguments.get_str("certificate")?,
-        events: arguments.get_str("events")?,
-    })
-}
-
-fn expecting<'a>(arguments: &ArgMatches<'a>) -> Option<Subcommand<'a>> {
-    Some(Subcommand::Expect {
-        plan: arguments.get_str("plan")?,
-        certificate: arguments.get_str("certificate")?,
-        events: arguments.get_str("events")?,
-        lines: arguments.get_str("lines")?,
-    })
-}
-
-fn moving<'a>(arguments: &ArgMatches<'a>) -> Option<Subcommand<'a>> {
-    Some(Subcommand::Move {
-        before: arguments.get_str("old")?,
-        after: arguments.get_str("new")?,
-        certificate: arguments.get_str("certificate")?,
-    })
-}
-
-fn certifying_move<'a>(arguments: &ArgMatches<'a>) -> Option<Subcommand<'a>> {
-    Some(Subcommand::CertifyMove {
-        before: arguments.get_str("old")?,
-        after: arguments.get_str("new")?,
-    })
-}
-
-fn differing<'a>(arguments: &ArgMatches<'a>) -> Option<Subcommand<'a>> {
-    Some(Subcommand::Diff {
-        before: arguments.get_str("old")?,
-        after: arguments.get_str("new")?,
-    })
+    asked!(arguments, Make(board), certificate: certificate)
 }
 
 fn rolling_out<'a>(arguments: &ArgMatches<'a>) -> Option<Subcommand<'a>> {
@@ -498,26 +448,7 @@ fn rolling_out<'a>(arguments: &ArgMatches<'a>) -> Option<Subcommand<'a>> {
     if folder == Some("-") || folder == Some("") {
         return None;
     }
-    Some(Subcommand::Rollout {
-        before: arguments.get_str("old")?,
-        after: arguments.get_str("new")?,
-        folder,
-    })
-}
-
-fn playing_moves<'a>(arguments: &ArgMatches<'a>) -> Option<Subcommand<'a>> {
-    Some(Subcommand::SimMove {
-        before: arguments.get_str("old")?,
-        after: arguments.get_str("new")?,
-        certificate: arguments.get_str("certificate")?,
-        events: arguments.get_str("events")?,
-    })
-}
-
-fn walking<'a>(arguments: &ArgMatches<'a>) -> Option<Subcommand<'a>> {
-    let node = arguments.get_str("node")?;
-    let part = part_size_of(arguments.get_str("count")?)?;
-    certified(arguments, Question::Walk { node, part })
+    asked!(arguments, Rollout(old, new), folder: folder)
 }
 
 fn exporting<'a>(arguments: &ArgMatches<'a>, words: &'a [String]) -> Option<Subcommand<'a>> {
@@ -525,15 +456,8 @@ fn exporting<'a>(arguments: &ArgMatches<'a>, words: &'a [String]) -> Option<Subc
     if kind != ExportKind::Linux && arguments.get_str(REPEATED).is_some() {
         return None;
     }
-    Some(Subcommand::Export {
-        export: Export {
-            kind,
-            node: arguments.get_str("node")?,
-        },
-        plan: arguments.get_str("plan")?,
-        certificate: arguments.get_str("certificate")?,
-        words,
-    })
+    let node = arguments.get_str("node")?;
+    asked!(arguments, Export(plan, certificate), export: Export { kind, node }, words: words)
 }
 
 /// The form of a node that a word names.
@@ -558,11 +482,7 @@ fn scripting<'a>(arguments: &ArgMatches<'a>) -> Option<Subcommand<'a>> {
         lost: flights(arguments.get_str("lose"))?,
         repeated: flights(arguments.get_str("repeat"))?,
     };
-    Some(Subcommand::Script {
-        script,
-        plan: arguments.get_str("plan")?,
-        certificate: arguments.get_str("certificate")?,
-    })
+    asked!(arguments, Script(plan, certificate), script: script)
 }
 
 /// The flights that an option names.
@@ -573,45 +493,20 @@ fn flights(word: Option<&str>) -> Option<Flights<'_>> {
     }
 }
 
+/// The question of a walk.
+fn walked<'a>(arguments: &ArgMatches<'a>) -> Option<Question<'a>> {
+    let node = arguments.get_str("node")?;
+    let part = part_size_of(arguments.get_str("count")?)?;
+    Some(Question::Walk { node, part })
+}
+
 fn tracing<'a>(arguments: &ArgMatches<'a>) -> Option<Subcommand<'a>> {
     let from = arguments.get_str("from")?;
     let to = arguments.get_str("to")?;
     if arguments.get_flag(JSON) {
-        return certified_json(arguments, CertifiedJson::Trace { from, to });
+        return asked!(arguments, CertifiedJson(plan, certificate), asked: CertifiedJson::Trace { from, to });
     }
-    certified(arguments, Question::Trace { from, to })
-}
-
-fn reaching<'a>(arguments: &ArgMatches<'a>) -> Option<Subcommand<'a>> {
-    if arguments.get_flag(JSON) {
-        return certified_json(arguments, CertifiedJson::Reach);
-    }
-    certified(arguments, Question::Reach)
-}
-
-fn linting<'a>(arguments: &ArgMatches<'a>) -> Option<Subcommand<'a>> {
-    if arguments.get_flag(JSON) {
-        return planned_json(arguments, PlanJson::Lint);
-    }
-    planned(arguments, PlanQuestion::Lint)
-}
-
-fn certified_json<'a>(
-    arguments: &ArgMatches<'a>,
-    asked: CertifiedJson<'a>,
-) -> Option<Subcommand<'a>> {
-    Some(Subcommand::CertifiedJson {
-        asked,
-        plan: arguments.get_str("plan")?,
-        certificate: arguments.get_str("certificate")?,
-    })
-}
-
-fn planned_json<'a>(arguments: &ArgMatches<'a>, asked: PlanJson) -> Option<Subcommand<'a>> {
-    Some(Subcommand::PlannedJson {
-        asked,
-        plan: arguments.get_str("plan")?,
-    })
+    asked!(arguments, Certified(plan, certificate), question: Question::Trace { from, to })
 }
 
 /// A question in JSON about a plan with its certificate, or one about the plan alone where that is all.
@@ -621,8 +516,8 @@ fn json_with_or_without<'a>(
     alone: PlanJson,
 ) -> Option<Subcommand<'a>> {
     match arguments.get_str("certificate") {
-        Some(_) => certified_json(arguments, asked),
-        None => planned_json(arguments, alone),
+        Some(_) => asked!(arguments, CertifiedJson(plan, certificate), asked: asked),
+        None => asked!(arguments, PlannedJson(plan), asked: alone),
     }
 }
 
@@ -633,8 +528,8 @@ fn with_or_without<'a>(
     alone: PlanQuestion<'a>,
 ) -> Option<Subcommand<'a>> {
     match arguments.get_str("certificate") {
-        Some(_) => certified(arguments, question),
-        None => planned(arguments, alone),
+        Some(_) => asked!(arguments, Certified(plan, certificate), question: question),
+        None => asked!(arguments, Planned(plan), question: alone),
     }
 }
 
@@ -657,8 +552,15 @@ fn drawn_rows(word: Option<&str>) -> Option<DrawnRows> {
 }
 
 fn listing<'a>(arguments: &ArgMatches<'a>) -> Option<Subcommand<'a>> {
+    let name = arguments.get_str("plan")?;
     let form = match (arguments.get_flag(JSON), arguments.get_flag(SARIF)) {
-        (false, false) => return listing_lines(arguments),
+        (false, false) => {
+            return with_or_without(
+                arguments,
+                Question::Faults { name },
+                PlanQuestion::Faults { name },
+            );
+        }
         (true, false) => Form::Json,
         (false, true) => Form::Sarif,
         (true, true) => return None,
@@ -670,80 +572,27 @@ fn listing<'a>(arguments: &ArgMatches<'a>) -> Option<Subcommand<'a>> {
     )
 }
 
-fn listing_lines<'a>(arguments: &ArgMatches<'a>) -> Option<Subcommand<'a>> {
-    let name = arguments.get_str("plan")?;
-    with_or_without(
-        arguments,
-        Question::Faults { name },
-        PlanQuestion::Faults { name },
-    )
-}
-
-fn explaining<'a>(arguments: &ArgMatches<'a>) -> Option<Subcommand<'a>> {
-    let plan = arguments.get_str("plan")?;
-    let certificate = arguments.get_str("certificate");
-    if arguments.get_flag(JSON) {
-        return explaining_in_json(arguments);
-    }
-    if arguments.get_str("events").is_some() {
-        return explaining_events(arguments);
-    }
-    match (arguments.get_str("move"), certificate) {
-        (None, certificate) => Some(Subcommand::Explain { plan, certificate }),
-        (Some(after), None) => Some(Subcommand::ExplainMove {
-            before: plan,
-            after,
-        }),
-        (Some(_), Some(_)) => None,
-    }
-}
-
-fn explaining_events<'a>(arguments: &ArgMatches<'a>) -> Option<Subcommand<'a>> {
-    if arguments.get_str("move").is_some() {
-        return None;
-    }
-    Some(Subcommand::ExplainEvents {
-        plan: arguments.get_str("plan")?,
-        certificate: arguments.get_str("certificate")?,
-        events: arguments.get_str("events")?,
-    })
-}
-
 /// Moves and events are explained in lines alone.
-fn explaining_in_json<'a>(arguments: &ArgMatches<'a>) -> Option<Subcommand<'a>> {
-    if arguments.get_str("move").is_some() || arguments.get_str("events").is_some() {
-        return None;
+fn explaining<'a>(arguments: &ArgMatches<'a>) -> Option<Subcommand<'a>> {
+    let in_json = arguments.get_flag(JSON);
+    let certificate = arguments.get_str("certificate");
+    match (arguments.get_str("move"), arguments.get_str("events")) {
+        (None, None) if in_json => {
+            json_with_or_without(arguments, CertifiedJson::Explain, PlanJson::Explain)
+        }
+        (None, None) => asked!(arguments, Explain(plan), certificate: certificate),
+        (None, Some(_)) if !in_json => asked!(arguments, ExplainEvents(plan, certificate, events)),
+        (Some(new), None) if !in_json && certificate.is_none() => Some(Subcommand::ExplainMove {
+            old: arguments.get_str("plan")?,
+            new,
+        }),
+        _ => None,
     }
-    json_with_or_without(arguments, CertifiedJson::Explain, PlanJson::Explain)
-}
-
-fn fixing<'a>(arguments: &ArgMatches<'a>) -> Option<Subcommand<'a>> {
-    Some(Subcommand::Fix {
-        plan: arguments.get_str("plan")?,
-    })
 }
 
 fn showing<'a>(arguments: &ArgMatches<'a>) -> Option<Subcommand<'a>> {
-    Some(Subcommand::Show {
-        kind: kind_of(arguments.get_str("kind")?)?,
-        hex: arguments.get_str("hex")?,
-    })
-}
-
-fn decoding<'a>(arguments: &ArgMatches<'a>) -> Option<Subcommand<'a>> {
-    Some(Subcommand::Decode {
-        capture: arguments.get_str("capture")?,
-        plan: arguments.get_str("plan"),
-    })
-}
-
-fn auditing<'a>(arguments: &ArgMatches<'a>) -> Option<Subcommand<'a>> {
-    Some(Subcommand::Audit {
-        bus: arguments.get_str("bus"),
-        plan: arguments.get_str("plan")?,
-        certificate: arguments.get_str("certificate")?,
-        capture: arguments.get_str("capture")?,
-    })
+    let kind = kind_of(arguments.get_str("kind")?)?;
+    asked!(arguments, Show(hex), kind: kind)
 }
 
 /// Its packets come on standard input, which can't have a plan too.
@@ -760,21 +609,6 @@ fn emulating<'a>(arguments: &ArgMatches<'a>) -> Option<Subcommand<'a>> {
         },
         plan,
         certificate,
-    })
-}
-
-fn capturing<'a>(arguments: &ArgMatches<'a>) -> Option<Subcommand<'a>> {
-    Some(Subcommand::Capture {
-        plan: arguments.get_str("plan")?,
-        certificate: arguments.get_str("certificate")?,
-        events: arguments.get_str("events")?,
-    })
-}
-
-fn reporting<'a>(arguments: &ArgMatches<'a>) -> Option<Subcommand<'a>> {
-    Some(Subcommand::Report {
-        plan: arguments.get_str("plan")?,
-        certificate: arguments.get_str("certificate"),
     })
 }
 

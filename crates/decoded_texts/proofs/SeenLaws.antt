@@ -5,7 +5,7 @@ use Rattle.std.proofs.lemmas.List.{length_push}
 use Rattle.bus_captures.specs.Values.{EntryValue, entry_value}
 use Rattle.bus_captures.specs.declared.capture.Entry.{Entry}
 use Rattle.bus_captures.specs.declared.capture.Direction.{Direction}
-use Rattle.mctp_transport.specs.Frames.{Frame}
+use Rattle.mctp_transport.specs.PacketValues.{PacketValue}
 use Rattle.mctp_transport.specs.Hearing.{Answer}
 use Rattle.mctp_transport.specs.declared.assembler.Assembler.{Assembler}
 use Rattle.heard_captures.specs.Seen.{Seen, Fed, Told}
@@ -13,7 +13,7 @@ use Rattle.heard_captures.specs.Stations.{AreGiven}
 use Rattle.heard_captures.specs.Steps.{HaveSeen, Sees}
 use Rattle.heard_captures.proofs.SeenLaws as heard
 use Rattle.net_plan.specs.declared.plan.Plan.{Plan}
-use Rattle.decoded_texts.specs.Decoding.{AreTold, None, More}
+use Rattle.decoded_texts.specs.Decoding.{AreTold, None, More, unit_by}
 use Rattle.decoded_texts.specs.Messages.{IsSaid}
 use Rattle.decoded_texts.specs.Seen.{IsToldAs, IsSaidOf, told_line, fed_line}
 use Rattle.decoded_texts.specs.Steps.{AddsTold, AddsStep}
@@ -23,11 +23,11 @@ module _ (plan : Option Plan) where
   pub record HasTold (count : ℕ) (entries : List EntryValue) (assemblers : List Assembler) (lines : List ℕ) : Type 0 where
     pub seen : List Seen
     pub many : length seen ≡ count
-    pub have : HaveSeen entries seen assemblers
+    pub have : HaveSeen (unit_by plan) entries seen assemblers
     pub told : AreTold plan seen lines
 
   pub nothing_told : (assemblers : List Assembler) → AreGiven assemblers (λ d. []) → HasTold 0 [] assemblers []
-  nothing_told assemblers given = record { seen = []; many = refl; have = heard.nothing_seen assemblers given; told = None }
+  nothing_told assemblers given = record { seen = []; many = refl; have = heard.nothing_seen (unit_by plan) assemblers given; told = None }
 
   -- the next entry of a list
   pub next_told : (items : List Entry) (i : ℕ) (item : Entry) (old new : List Assembler) (text all : List ℕ) → i < length items → item ≡ get_or items i item
@@ -36,19 +36,19 @@ module _ (plan : Option Plan) where
   next_told items i item old new text all within is before (told, step, joined) = record {
     seen = before.seen ++ step.seen ∷ [];
     many = length_push before.seen step.seen ∙ ap (λ n. n + 1) before.many;
-    have = heard.next_seen items i item before.seen old new step.seen within is before.have step.sees;
+    have = heard.next_seen (unit_by plan) items i item before.seen old new step.seen within is before.have step.sees;
     told = subst (λ t. AreTold plan (before.seen ++ step.seen ∷ []) t) (sym joined)
         (More before.seen text step.seen told before.told (subst (λ n. IsToldAs plan (n + 1) step.seen told) (sym before.many) step.told));
   }
 
   -- what one entry changes, where its lines come
   pub step_if : {T E : Type 0} (old new : List Assembler) (number : ℕ) (e : EntryValue) (s : Seen) (before after : List ℕ) (result : Result T E)
-      → Sees old new e s → OnOk result (AddsTold plan number s before after) → OnOk result (AddsStep old new plan number e before after)
+      → Sees (unit_by plan) old new e s → OnOk result (AddsTold plan number s before after) → OnOk result (AddsStep old new plan number e before after)
   step_if old new number e s before after (Ok t) sees (lines, told, joined) = (lines, record { seen = s; sees = sees; told = told }, joined)
   step_if old new number e s before after (Err x) sees told = told
 
   -- a line of a packet, and behind it what its message says
-  pub fed_if : {T E : Type 0} (number : ℕ) (p : Frame) (answer : Answer) (before between after : List ℕ) (result : Result T E)
+  pub fed_if : {T E : Type 0} (number : ℕ) (p : PacketValue) (answer : Answer) (before between after : List ℕ) (result : Result T E)
       → between ≡ before ++ fed_line plan number p answer → OnOk result ((said : List ℕ) × IsSaidOf answer said × (after ≡ between ++ said))
       → OnOk result (AddsTold plan number (Fed p answer) before after)
   fed_if number p answer before between after (Ok t) line (said, says, joined) =

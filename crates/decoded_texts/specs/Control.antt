@@ -1,7 +1,7 @@
 -- The lines of control messages.
 use Rattle.std.specs.Prelude.{◌≡◌, ◌⊎◌, ℕ, List, ◌++◌, length, codes}
 use Rattle.std.specs.Fmt.{decimal}
-use Rattle.mctp_transport.specs.Frames.{bit}
+use Rattle.mctp_transport.specs.PacketValues.{bit}
 use Rattle.mctp_control.specs.Requests.{RequestValue, SpellsRequest}
 use Rattle.mctp_control.specs.Requests.{CommandValue, SetsEid, GetsEid, AllocatesEids, GetsEntries}
 use Rattle.mctp_control.specs.Responses.{ResponseValue, SpellsResponse}

@@ -34,10 +34,15 @@ end_line count (end.Broken place why) =
     codes "entries " ++ (decimal count ++ (codes " broken " ++ (decimal place
     ++ (codes " " ++ (fault_word why ++ codes "\n")))))
 
+-- the transmission unit of captured packets: that of a plan, or where there is none the baseline's 64
+abbrev pub unit_by : Option Plan → ℕ
+unit_by Option.None = 64
+unit_by (Some plan) = plan.unit
+
 -- the text tells what became of the entries, with the names that a plan has, and how reading them ended
 abbrev pub IsDecodedBy : Option Plan → List EntryValue → End → List ℕ → Type 0
 IsDecodedBy plan entries how text =
-    (seen : List Seen) × (lines : List ℕ) × AreSeen entries seen × AreTold plan seen lines
+    (seen : List Seen) × (lines : List ℕ) × AreSeen (unit_by plan) entries seen × AreTold plan seen lines
     × (text ≡ lines ++ end_line (length entries) how)
 
 -- the same without a plan, and with one

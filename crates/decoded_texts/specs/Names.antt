@@ -2,7 +2,7 @@
 use Rattle.std.specs.Prelude.{ℕ, ◌==◌, List, [], ◌++◌, codes, Option, Some, None}
 use Rattle.std.specs.Prelude.{if◌then◌else◌}
 use Rattle.std.specs.List.{flat_map}
-use Rattle.mctp_transport.specs.Frames.{Frame}
+use Rattle.mctp_transport.specs.PacketValues.{PacketValue}
 use Rattle.net_plan.specs.NodeValues.{name_bytes}
 use Rattle.net_plan.specs.declared.nodes.Node.{Node}
 use Rattle.net_plan.specs.declared.plan.Plan.{Plan}
@@ -16,7 +16,7 @@ abbrev pub end_words : Plan → List ℕ → ℕ → List ℕ
 end_words plan words e = flat_map (holder_words words e) plan.nodes.items
 
 -- who holds the source and the destination of a packet, by a plan; without a plan nothing is told
-abbrev pub names_of : Option Plan → Frame → List ℕ
+abbrev pub names_of : Option Plan → PacketValue → List ℕ
 names_of None p = []
 names_of (Some plan) p =
     end_words plan (codes " from ") p.source ++ end_words plan (codes " to ") p.destination

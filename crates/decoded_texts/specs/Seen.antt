@@ -5,7 +5,7 @@ use Rattle.hex.specs.Hex.{encode_lower}
 use Rattle.bus_captures.specs.declared.capture.Direction.{Direction}
 use Rattle.bus_captures.specs.declared.capture.Direction.TheVariants as direction
 use Rattle.mctp_transport.specs.Causes.{cause_code}
-use Rattle.mctp_transport.specs.Frames.{Frame}
+use Rattle.mctp_transport.specs.PacketValues.{PacketValue}
 use Rattle.mctp_transport.specs.Hearing.{Answer, Whole, Held, Dropped}
 use Rattle.mctp_transport.specs.Refusals as refusals
 use Rattle.heard_captures.specs.Seen.{Seen, Fed, NoPacket, Told, Other}
@@ -25,12 +25,12 @@ way_word (Some direction.Sent) = codes "sent message"
 way_word (Some direction.Received) = codes "received message"
 
 -- a packet as it is shown, and behind it, in the same line, these words
-abbrev pub packet_line : Frame → List ℕ → List ℕ
+abbrev pub packet_line : PacketValue → List ℕ → List ℕ
 packet_line p words =
     codes "packet " ++ (address_words_of p ++ (codes " " ++ (position_words_of p ++ (codes " " ++ (tag_words_of p
     ++ (codes " payload " ++ (encode_lower p.payload ++ (words ++ codes "\n"))))))))
 
-abbrev pub fed_line : Option Plan → ℕ → Frame → Answer → List ℕ
+abbrev pub fed_line : Option Plan → ℕ → PacketValue → Answer → List ℕ
 fed_line plan number p answer =
     decimal number ++ (codes " " ++ (answer_word answer ++ (codes " " ++ packet_line p (names_of plan p))))
 

@@ -5,13 +5,14 @@ use Rattle.mctp_transport.specs.declared.assembler.Assembler.{Assembler}
 use Rattle.heard_captures.specs.Seen.{Seen}
 use Rattle.heard_captures.specs.Steps.{Sees}
 use Rattle.net_plan.specs.declared.plan.Plan.{Plan}
+use Rattle.decoded_texts.specs.Decoding.{unit_by}
 use Rattle.decoded_texts.specs.Seen.{IsToldAs}
 
--- an entry of this number was seen, and its lines are these
+-- an entry of this number was seen within the plan's transmission unit, and its lines are these
 pub record IsStep (old new : List Assembler) (plan : Option Plan) (number : ℕ) (e : EntryValue)
     (lines : List ℕ) : Type 0 where
   pub seen : Seen
-  pub sees : Sees old new e seen
+  pub sees : Sees (unit_by plan) old new e seen
   pub told : IsToldAs plan number seen lines
 
 -- the lines of what was seen were added

@@ -2,8 +2,8 @@
 ghost use Rattle.std.specs.Prelude.{◌≡◌, ◌++◌, IfOk, OnOk, ℕ, List, string_bytes, length, option_map, codes};
 ghost use Rattle.std.specs.Fmt.{decimal};
 ghost use Rattle.bus_captures.specs.Values.{entry_value};
-ghost use Rattle.mctp_transport.specs.Packets.{frame_of};
-ghost use Rattle.heard_captures.specs.Heard.{heard_answer};
+ghost use Rattle.mctp_transport.specs.Heard.{heard_answer};
+ghost use Rattle.mctp_transport.specs.Packets.{packet_value_of};
 ghost use Rattle.heard_captures.specs.Seen.{Fed, Told};
 ghost use Rattle.heard_captures.specs.Sights.{seen_of};
 ghost use Rattle.hex.specs.Hex.{encode_lower};
@@ -13,10 +13,10 @@ ghost use Rattle.decoded_texts.specs.Seen.{answer_word, way_word, fed_line, told
 ghost use Rattle.decoded_texts.specs.Steps.{AddsTold, AddsStep};
 
 use crate::message::message_text;
-use crate::names::{Names, push_names};
+use crate::names::{Names, push_names, unit_by};
 use bus_captures::{Direction, Entry};
-use heard_captures::{Heard, Sight, see};
-use mctp_transport::{Assembler, PacketView};
+use heard_captures::{Sight, see};
+use mctp_transport::{Assembler, Heard, PacketView};
 use std::alloc::{AllocError, Global};
 
 /// Adds the lines of an entry of this number. A packet is given to the assembler of its destination.
@@ -31,7 +31,7 @@ pub fn push_entry(
     requires { length assemblers.old.items ≡ 256 }
     ensures { OnOk result (AddsStep assemblers.old.items assemblers.new.items (option_map (λ n. n.now.plan.now) names.entry) number (entry_value entry.now) (string_bytes text.old) (string_bytes text.new)) }
 {
-    let sight = see(alloc, assemblers, entry)?;
+    let sight = see(alloc, assemblers, unit_by(names), entry)?;
     push_sight(alloc, text, names, number, &sight)
 }
 
@@ -62,7 +62,7 @@ fn push_fed(
     packet: &PacketView,
     heard: &Heard,
 ) -> Result<(), AllocError>
-    ensures { OnOk result (AddsTold (option_map (λ n. n.now.plan.now) names.entry) number (Fed (frame_of packet.now) (heard_answer heard.now)) (string_bytes text.old) (string_bytes text.new)) }
+    ensures { OnOk result (AddsTold (option_map (λ n. n.now.plan.now) names.entry) number (Fed (packet_value_of packet.now) (heard_answer heard.now)) (string_bytes text.old) (string_bytes text.new)) }
 {
     push_fed_line(alloc, text, names, number, packet, heard)?;
     push_said(alloc, text, heard)
@@ -76,7 +76,7 @@ fn push_fed_line(
     packet: &PacketView,
     heard: &Heard,
 ) -> Result<(), AllocError>
-    ensures { OnOk result (string_bytes text.new ≡ string_bytes text.old ++ fed_line (option_map (λ n. n.now.plan.now) names.entry) number (frame_of packet.now) (heard_answer heard.now)) }
+    ensures { OnOk result (string_bytes text.new ≡ string_bytes text.old ++ fed_line (option_map (λ n. n.now.plan.now) names.entry) number (packet_value_of packet.now) (heard_answer heard.now)) }
 {
     push_answer(text, number, heard)?;
     push_addresses(text, packet)?;
@@ -103,7 +103,7 @@ fn push_answer(text: &mut String, number: usize, heard: &Heard) -> Result<(), Al
 
 /// Adds where a packet goes and comes from.
 fn push_addresses(text: &mut String, packet: &PacketView) -> Result<(), AllocError>
-    ensures { OnOk result (string_bytes text.new ≡ string_bytes text.old ++ address_words_of (frame_of packet.now)) }
+    ensures { OnOk result (string_bytes text.new ≡ string_bytes text.old ++ address_words_of (packet_value_of packet.now)) }
 {
     let reserved = packet.header.reserved.value;
     let destination = packet.header.destination.value;
@@ -116,16 +116,16 @@ fn push_addresses(text: &mut String, packet: &PacketView) -> Result<(), AllocErr
 
 /// Adds a packet's position in its message.
 fn push_position(text: &mut String, packet: &PacketView) -> Result<(), AllocError>
-    ensures { OnOk result (string_bytes text.new ≡ string_bytes text.old ++ (codes " " ++ position_words_of (frame_of packet.now))) }
+    ensures { OnOk result (string_bytes text.new ≡ string_bytes text.old ++ (codes " " ++ position_words_of (packet_value_of packet.now))) }
 {
     let som = u8::from(packet.header.som);
     let eom = u8::from(packet.header.eom);
-    let number = packet.header.number.value;
+    let number = packet.header.sequence.value;
     write!(text, " som {som} eom {eom} number {number}")
 }
 
 fn push_tag(text: &mut String, packet: &PacketView) -> Result<(), AllocError>
-    ensures { OnOk result (string_bytes text.new ≡ string_bytes text.old ++ (codes " " ++ (tag_words_of (frame_of packet.now) ++ codes " payload "))) }
+    ensures { OnOk result (string_bytes text.new ≡ string_bytes text.old ++ (codes " " ++ (tag_words_of (packet_value_of packet.now) ++ codes " payload "))) }
 {
     let owner = u8::from(packet.header.owner);
     let tag = packet.header.tag.value;
@@ -133,7 +133,7 @@ fn push_tag(text: &mut String, packet: &PacketView) -> Result<(), AllocError>
 }
 
 fn push_payload(alloc: Global, text: &mut String, packet: &PacketView) -> Result<(), AllocError>
-    ensures { OnOk result (string_bytes text.new ≡ string_bytes text.old ++ encode_lower (frame_of packet.now).payload) }
+    ensures { OnOk result (string_bytes text.new ≡ string_bytes text.old ++ encode_lower (packet_value_of packet.now).payload) }
 {
     let payload = hex::encode(alloc, packet.payload)?;
     text.push_str(&payload)

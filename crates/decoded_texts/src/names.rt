@@ -1,12 +1,14 @@
 //! The names of nodes behind packets.
 ghost use Rattle.std.specs.Prelude.{◌≡◌, ◌++◌, IfOk, OnOk, length, option_map, string_bytes, codes};
 ghost use Rattle.std.specs.List.{flat_map};
-ghost use Rattle.mctp_transport.specs.Packets.{frame_of};
+ghost use Rattle.mctp_transport.specs.PacketValues.{IsUnit};
+ghost use Rattle.mctp_transport.specs.Packets.{packet_value_of};
 ghost use Rattle.net_plan.specs.NodeValues.{name_bytes};
+ghost use Rattle.decoded_texts.specs.Decoding.{unit_by};
 ghost use Rattle.decoded_texts.specs.Names.{holder_words, end_words, names_of};
 ghost use Rattle.decoded_texts.specs.NameTables.{AreEndWords, AreNames};
 
-use mctp_transport::PacketView;
+use mctp_transport::{BASELINE_UNIT, PacketView};
 use net_plan::{Node, Plan};
 use std::alloc::{AllocError, Global};
 
@@ -68,13 +70,24 @@ fn add_holder(text: &mut String, words: &str, eid: u8, node: &Node) -> Result<()
     Ok(())
 }
 
+/// The transmission unit of captured packets: that of the plan, or where there is none the baseline's 64 bytes.
+pub fn unit_by(names: Option<&Names>) -> usize
+    ensures unit { result ≡ unit_by (option_map (λ n. n.now.plan.now) names.entry) }
+    ensures bounds { IsUnit result }
+{
+    match names {
+        None => BASELINE_UNIT,
+        Some(names) => usize::from(names.plan.unit),
+    }
+}
+
 /// Adds the names behind a packet, if there is a plan.
 pub fn push_names(
     text: &mut String,
     names: Option<&Names>,
     packet: &PacketView,
 ) -> Result<(), AllocError>
-    ensures { OnOk result (string_bytes text.new ≡ string_bytes text.old ++ names_of (option_map (λ n. n.now.plan.now) names.entry) (frame_of packet.now)) }
+    ensures { OnOk result (string_bytes text.new ≡ string_bytes text.old ++ names_of (option_map (λ n. n.now.plan.now) names.entry) (packet_value_of packet.now)) }
 {
     let Some(names) = names else {
         return Ok(());

@@ -1,13 +1,15 @@
 //! The lines of PLDM messages.
 ghost use Rattle.std.specs.Prelude.{◌≡◌, ◌≤◌, IfOk, MatchOption, string_bytes, length, drop};
 ghost use Rattle.pldm_message.specs.HeaderValues.{header_value};
-ghost use Rattle.pldm_message.specs.PdrValues.{get_pdr_request, part_request, get_pdr_answer, part};
+ghost use Rattle.pldm_message.specs.PdrValues.{get_pdr_request, part_request, get_pdr_response, part};
 ghost use Rattle.decoded_texts.specs.Platform.{part_request_line, place_words, part_line, part_words, failed_line, header_line, kind_word, IsRecordOrNothing, IsPartText, IsOutcomeText, IsPartRequestText, IsPartAnswerText, IsNoPartRequest, IsNoPartAnswer, IsHeaderText, IsNoHeader};
 
 use mctp_transport::Wire;
 use pdr_record::Record;
 use plan_texts::record_text;
-use pldm_message::{GetPdrAnswer, GetPdrRequest, HEADER_LENGTH, MessageKind, PdrPart, PldmHeader};
+use pldm_message::{
+    GetPdrRequest, GetPdrResponse, HEADER_LENGTH, MessageKind, PdrPart, PldmHeader,
+};
 use std::alloc::{AllocError, Global};
 
 /// The line of the request for a part of a record that the bytes are. None where they are none.
@@ -26,8 +28,8 @@ fn request_text(alloc: Global, request: &GetPdrRequest) -> Result<String, AllocE
 {
     let instance = request.head.instance.value;
     let place = place_words(alloc, request)?;
-    let count = request.count;
-    let change = request.change_number;
+    let count = request.request_count;
+    let change = request.record_change_number;
     format!(in alloc;
         "pldm request instance {instance} get-pdr {place} count {count} change {change}\n"
     )
@@ -37,7 +39,7 @@ fn place_words(alloc: Global, request: &GetPdrRequest) -> Result<String, AllocEr
     ensures { IfOk result (λ words. string_bytes words ≡ place_words (part_request request.now)) }
 {
     let handle = request.record_handle;
-    let transfer = request.transfer_handle;
+    let transfer = request.data_transfer_handle;
     let operation = request.operation.value;
     format!(in alloc; "record {handle} transfer {transfer} operation {operation}")
 }
@@ -47,14 +49,14 @@ pub fn part_answer_text(alloc: Global, message: &[u8]) -> Result<Option<String>,
     ensures { IfOk result (λ found. MatchOption found (IsNoPartAnswer message.now)
         (λ text. IsPartAnswerText message.now (string_bytes text))) }
 {
-    match GetPdrAnswer::read(message) {
+    match GetPdrResponse::read(message) {
         Ok(answer) => Ok(Some(answer_text(alloc, &answer)?)),
         Err(_) => Ok(None),
     }
 }
 
-fn answer_text(alloc: Global, answer: &GetPdrAnswer) -> Result<String, AllocError>
-    ensures { IfOk result (λ text. IsOutcomeText (get_pdr_answer answer.now).head.instance (get_pdr_answer answer.now).outcome (string_bytes text)) }
+fn answer_text(alloc: Global, answer: &GetPdrResponse) -> Result<String, AllocError>
+    ensures { IfOk result (λ text. IsOutcomeText (get_pdr_response answer.now).head.instance (get_pdr_response answer.now).outcome (string_bytes text)) }
 {
     let instance = answer.head.instance.value;
     match &answer.outcome {
@@ -85,8 +87,8 @@ fn part_line(alloc: Global, instance: u8, given: &PdrPart) -> Result<String, All
 fn part_words(alloc: Global, given: &PdrPart) -> Result<String, AllocError>
     ensures { IfOk result (λ words. string_bytes words ≡ part_words (part given.now)) }
 {
-    let next = given.next_record;
-    let transfer = given.next_transfer;
+    let next = given.next_record_handle;
+    let transfer = given.next_data_transfer_handle;
     let flag = given.flag.value;
     format!(in alloc; "next {next} transfer {transfer} flag {flag}")
 }

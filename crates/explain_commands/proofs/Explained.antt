@@ -19,7 +19,8 @@ use Rattle.command_answers.specs.declared.status.Status.TheVariants as status
 use Rattle.command_answers.specs.Answers.{Stream, GavePlanText, GaveCertificate}
 use Rattle.explain_commands.specs.Explaining.{IsExplained, ExplainsSo, IsExplainedThere, IsObstacleText, IsToldWithEdits, AreMoreTold, IsFaultTold, both_words, IsBothExplained, IsExplainedWith, ExplainsWithSo, IsFaultExplained, IsRemedyTold, remedy_text}
 use Rattle.command_answers.specs.UnreadInputs.{IsNoPlanBy, IsNoCertificateBy}
-use Rattle.explain_commands.specs.UnreadTexts.{IsUnreadText, IsUnreadCertificateText}
+use Rattle.command_answers.specs.declared.refused.Input.TheVariants as input
+use Rattle.explain_commands.proofs.UnreadTexts.{IsUnreadAnswer, plan_told, certificate_told}
 use Rattle.command_answers.specs.Certifying.{IsRuledOutBy}
 use Rattle.plan_texts.specs.Lines.{fault_text}
 use Rattle.fault_texts.specs.Places.{IsPlaceTold, obstacle_pointer}
@@ -34,9 +35,9 @@ of_given name plans text plan (Err why) given h = tt
 
 -- the answer where none was given
 pub of_nothing : (name : List ℕ) (plans : Stream) (u : Unread) (result : Result Answer Refused) → IsNoPlanBy plans u
-    → IfOk result (λ (a : Answer). (a.status ≡ status.Unreadable) × ((plans : Stream) → IsNoPlanBy plans u → IsUnreadText plans (cow_str_bytes a.text)))
+    → IfOk result (IsUnreadAnswer input.Plan u)
     → IfOk result (λ (a : Answer). ExplainsSo name plans a.status (cow_str_bytes a.text))
-of_nothing name plans u (Ok a) by h = inr (h.0, h.1 plans by)
+of_nothing name plans u (Ok a) by h = inr (h.0, plan_told plans u _ by h.1)
 of_nothing name plans u (Err why) by h = tt
 
 -- what explains an obstacle, between its place and how many more faults there are
@@ -73,10 +74,9 @@ obstacle_written bytes name text plan obstacle line rest (Err e) out explained w
 module _ (name certified_by text : List ℕ) where
   -- the answer where no certificate was given
   pub of_unread : (plan : Plan) (certificates : Stream) (u : Unread) (result : Result Answer Refused) → IsNoCertificateBy plan certificates u
-      → IfOk result (λ (a : Answer). (a.status ≡ status.Unreadable)
-      × ((certificates : Stream) → IsNoCertificateBy plan certificates u → IsUnreadCertificateText plan certificates (cow_str_bytes a.text)))
+      → IfOk result (IsUnreadAnswer input.Certificate u)
       → IfOk result (λ (a : Answer). IsExplainedWith name certified_by text plan certificates a.status (cow_str_bytes a.text))
-  of_unread plan certificates u (Ok a) by h = inr (h.0, h.1 certificates by)
+  of_unread plan certificates u (Ok a) by h = inr (h.0, certificate_told plan certificates u _ by h.1)
   of_unread plan certificates u (Err why) by h = tt
 
   -- the answer on a certificate that was given
@@ -123,9 +123,9 @@ module _ (name certified_by text : List ℕ) where
 
 -- the answer where the plan was not given
 pub of_neither : (name certified_by : List ℕ) (plans certificates : Stream) (u : Unread) (result : Result Answer Refused) → IsNoPlanBy plans u
-    → IfOk result (λ (a : Answer). (a.status ≡ status.Unreadable) × ((plans : Stream) → IsNoPlanBy plans u → IsUnreadText plans (cow_str_bytes a.text)))
+    → IfOk result (IsUnreadAnswer input.Plan u)
     → IfOk result (λ (a : Answer). ExplainsWithSo name certified_by plans certificates a.status (cow_str_bytes a.text))
-of_neither name certified_by plans certificates u (Ok a) by h = inr (h.0, h.1 plans by)
+of_neither name certified_by plans certificates u (Ok a) by h = inr (h.0, plan_told plans u _ by h.1)
 of_neither name certified_by plans certificates u (Err why) by h = tt
 
 -- the certificate alone is at fault

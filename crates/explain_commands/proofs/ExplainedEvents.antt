@@ -14,15 +14,16 @@ use Rattle.command_answers.specs.Answers.{Stream, GavePlanText, GaveCertificate}
 use Rattle.command_answers.specs.UnreadInputs.{IsNoPlanBy, IsNoCertificateBy}
 use Rattle.explain_commands.specs.Explaining.{IsFaultExplained}
 use Rattle.explain_commands.specs.ExplainingEvents.{AreNoEventsBy, AreEventsExplained, AreAllExplained, IsExplainedWithEvents, ExplainsAllSo}
-use Rattle.explain_commands.specs.UnreadTexts.{IsUnreadText, IsUnreadCertificateText, IsUnreadEventsText}
+use Rattle.command_answers.specs.declared.refused.Input.TheVariants as input
+use Rattle.explain_commands.proofs.UnreadTexts.{IsUnreadAnswer, plan_told, certificate_told, events_told}
 
 -- the answer where no events were given
 pub no_events : (plan : Plan) (cert : Certificate) (happenings : Stream) (u : Unread) (result : Result Answer Refused) → Accepts plan cert → AreNoEventsBy plan happenings u
-    → IfOk result (λ (a : Answer). (a.status ≡ status.Unreadable) × ((happenings : Stream) → AreNoEventsBy plan happenings u → IsUnreadEventsText plan happenings (cow_str_bytes a.text)))
+    → IfOk result (IsUnreadAnswer input.Events u)
     → IfOk result (λ (a : Answer). AreEventsExplained plan cert happenings a.status (cow_str_bytes a.text))
 no_events plan cert happenings u (Ok a) accepted by h =
     let S : Status → Type 0 = λ s. AreEventsExplained plan cert happenings s (cow_str_bytes a.text) in
-    subst S (sym h.0) (accepted, h.1 happenings by)
+    subst S (sym h.0) (accepted, events_told plan happenings u _ by h.1)
 no_events plan cert happenings u (Err why) accepted by h = tt
 
 module _ (name certified_by text : List ℕ) where
@@ -49,9 +50,9 @@ module _ (name certified_by text : List ℕ) where
 
   -- the answer where none was given
   pub without_certificate : (plan : Plan) (certificates happenings : Stream) (u : Unread) (result : Result Answer Refused) → IsNoCertificateBy plan certificates u
-      → IfOk result (λ (a : Answer). (a.status ≡ status.Unreadable) × ((certificates : Stream) → IsNoCertificateBy plan certificates u → IsUnreadCertificateText plan certificates (cow_str_bytes a.text)))
+      → IfOk result (IsUnreadAnswer input.Certificate u)
       → IfOk result (λ (a : Answer). IsExplainedWithEvents name certified_by text plan certificates happenings a.status (cow_str_bytes a.text))
-  without_certificate plan certificates happenings u (Ok a) by h = inr (h.0, h.1 certificates by)
+  without_certificate plan certificates happenings u (Ok a) by h = inr (h.0, certificate_told plan certificates u _ by h.1)
   without_certificate plan certificates happenings u (Err why) by h = tt
 
   -- the answer on a plan that was given
@@ -63,7 +64,7 @@ module _ (name certified_by text : List ℕ) where
 
 -- the answer where none was given
 pub without_plan : (name certified_by : List ℕ) (plans certificates happenings : Stream) (u : Unread) (result : Result Answer Refused) → IsNoPlanBy plans u
-    → IfOk result (λ (a : Answer). (a.status ≡ status.Unreadable) × ((plans : Stream) → IsNoPlanBy plans u → IsUnreadText plans (cow_str_bytes a.text)))
+    → IfOk result (IsUnreadAnswer input.Plan u)
     → IfOk result (λ (a : Answer). ExplainsAllSo name certified_by plans certificates happenings a.status (cow_str_bytes a.text))
-without_plan name certified_by plans certificates happenings u (Ok a) by h = inr (h.0, h.1 plans by)
+without_plan name certified_by plans certificates happenings u (Ok a) by h = inr (h.0, plan_told plans u _ by h.1)
 without_plan name certified_by plans certificates happenings u (Err why) by h = tt

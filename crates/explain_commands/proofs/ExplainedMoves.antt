@@ -20,13 +20,10 @@ use Rattle.plan_texts.specs.Explanations.{told_subjects}
 use Rattle.explain_commands.specs.Explaining.{AreEditsTold, IsCauseTold, IsToldWithEdits}
 use Rattle.explain_commands.specs.ExplainingMoves.{ExplainsMoveSo, IsMoveExplained, IsMoveExplainedWith, IsMoveObstacleText, IsMoveTold}
 use Rattle.explain_commands.specs.MoveRows.{PlanFile}
-use Rattle.explain_commands.specs.UnreadTexts.{IsUnreadText}
+use Rattle.command_answers.specs.declared.refused.Input.TheVariants as input
+use Rattle.explain_commands.proofs.UnreadTexts.{IsUnreadAnswer, plan_told}
 
 -- ---- a run
-
--- what is said where no plan was given
-abbrev pub IsUnreadAnswer : Unread → Answer → Type 0
-IsUnreadAnswer u a = (a.status ≡ status.Unreadable) × ((plans : Stream) → IsNoPlanBy plans u → IsUnreadText plans (cow_str_bytes a.text))
 
 -- the answer where the plan before was given
 pub of_before : (name new_name text : List ℕ) (befores afters : Stream) (plan : Plan) (result : Result Answer Refused) → GavePlanText befores text plan
@@ -37,8 +34,8 @@ of_before name new_name text befores afters plan (Err why) given h = tt
 
 -- the answer where it was not
 pub without_before : (name new_name : List ℕ) (befores afters : Stream) (u : Unread) (result : Result Answer Refused) → IsNoPlanBy befores u
-    → IfOk result (IsUnreadAnswer u) → IfOk result (λ (a : Answer). ExplainsMoveSo name new_name befores afters a.status (cow_str_bytes a.text))
-without_before name new_name befores afters u (Ok a) by h = inr (h.0, h.1 befores by)
+    → IfOk result (IsUnreadAnswer input.Plan u) → IfOk result (λ (a : Answer). ExplainsMoveSo name new_name befores afters a.status (cow_str_bytes a.text))
+without_before name new_name befores afters u (Ok a) by h = inr (h.0, plan_told befores u _ by h.1)
 without_before name new_name befores afters u (Err why) by h = tt
 
 -- the answer where the plan after was given too
@@ -50,8 +47,8 @@ of_after before name text afters plan (Err why) given h = tt
 
 -- the answer where it was not
 pub without_after : (before : PlanFile) (name : List ℕ) (afters : Stream) (u : Unread) (result : Result Answer Refused) → IsNoPlanBy afters u
-    → IfOk result (IsUnreadAnswer u) → IfOk result (λ (a : Answer). IsMoveExplainedWith before name afters a.status (cow_str_bytes a.text))
-without_after before name afters u (Ok a) by h = inr (h.0, h.1 afters by)
+    → IfOk result (IsUnreadAnswer input.Plan u) → IfOk result (λ (a : Answer). IsMoveExplainedWith before name afters a.status (cow_str_bytes a.text))
+without_after before name afters u (Ok a) by h = inr (h.0, plan_told afters u _ by h.1)
 without_after before name afters u (Err why) by h = tt
 
 -- ---- texts

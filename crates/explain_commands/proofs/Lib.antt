@@ -1,4 +1,4 @@
-mod UnreadTexts
+pub mod UnreadTexts
 mod Explained
 mod ExplainedEvents
 mod Mended

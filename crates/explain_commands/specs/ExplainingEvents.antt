@@ -6,6 +6,7 @@ use Rattle.net_plan.specs.declared.certificate.Certificate.{Certificate}
 use Rattle.net_plan.specs.declared.event.Event.{Event}
 use Rattle.net_plan.specs.declared.plan.Plan.{Plan}
 use Rattle.net_plan.specs.PlanValues.{plan_value, node_names}
+use Rattle.net_pointers.specs.Asks.{events_text}
 use Rattle.net_rules.specs.Rules.{Accepts}
 use Rattle.command_answers.specs.declared.inputs.Unread.{Unread}
 use Rattle.command_answers.specs.declared.status.Status.{Status}
@@ -18,13 +19,13 @@ use Rattle.explain_commands.specs.UnreadTexts.{IsUnreadText, IsUnreadCertificate
 
 -- why bytes are no events at the plan's nodes
 abbrev pub AreNoEventsIn : Plan → List ℕ → Unread → Type 0
-AreNoEventsIn p bytes unread =
-    IsUnreadAs (events (node_names (plan_value p).nodes)) (AreEventsOf (plan_value p)) bytes unread
+AreNoEventsIn p bytes unread = let nodes = node_names (plan_value p).nodes in
+    IsUnreadAs (events_text nodes) (events nodes) (AreEventsOf (plan_value p)) bytes unread
 
 -- why a source gave no events
 abbrev pub AreNoEventsBy : Plan → Stream → Unread → Type 0
-AreNoEventsBy p happenings unread =
-    IsUnreadBy (events (node_names (plan_value p).nodes)) (AreEventsOf (plan_value p)) happenings unread
+AreNoEventsBy p happenings unread = let nodes = node_names (plan_value p).nodes in
+    IsUnreadBy (events_text nodes) (events nodes) (AreEventsOf (plan_value p)) happenings unread
 
 -- The plan and the certificate meet every rule, and a run that says so of the source of events ends so: yes, and what
 -- sums the plan up, where it gave events; or why it gave none.

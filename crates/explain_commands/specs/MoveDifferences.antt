@@ -10,7 +10,7 @@ use Rattle.explain_commands.specs.declared.explain.moved.differences.NodePart.{N
 use Rattle.explain_commands.specs.declared.explain.moved.differences.NodePart.TheVariants as part
 use Rattle.explain_commands.specs.declared.explain.moved.differences.Unlike.{Unlike}
 use Rattle.explain_commands.specs.declared.explain.moved.differences.Unlike.TheVariants as unlike
-use Rattle.plan_texts.specs.Lines.{name_or_dash}
+use Rattle.net_tables.specs.Names.{node_name}
 use Rattle.fault_texts.specs.Places.{IsPlaceTold, part_pointer}
 use Rattle.explain_commands.specs.MoveRows.{PlanFile}
 
@@ -82,7 +82,7 @@ unlike_words plan unlike.Unit = codes "unit"
 unlike_words plan unlike.Buses = codes "number of buses"
 unlike_words plan (unlike.Bus i) = codes "bus " ++ decimal i
 unlike_words plan unlike.Nodes = codes "number of nodes"
-unlike_words plan (unlike.Part n part) = part_key part ++ (codes " of " ++ name_or_dash plan n)
+unlike_words plan (unlike.Part n part) = part_key part ++ (codes " of " ++ node_name plan n)
 
 -- that it is not the same, and what is to hold
 abbrev pub unlike_text : Plan → Unlike → List ℕ

@@ -14,9 +14,9 @@ use Rattle.net_rules.specs.Certificates.{HasNoCertificate}
 use Rattle.net_rules.specs.Rules.{Accepts}
 use Rattle.command_answers.specs.declared.inputs.PlanText.{PlanText}
 use Rattle.plan_texts.specs.Explanations.{row_for}
-use Rattle.plan_texts.specs.Lines.{name_or_dash, number_or_dash}
+use Rattle.net_tables.specs.Names.{node_name}
+use Rattle.plan_texts.specs.Lines.{number_or_dash}
 use Rattle.plan_texts.specs.Pieces.{row_of}
-use Rattle.plan_texts.specs.declared.pieces.Entry.{Entry}
 use Rattle.fault_texts.specs.Places.{IsPlaceTold, part_pointer, way_pointer}
 
 -- A plan that was read: the name of its file, its text, and the plan.
@@ -49,7 +49,7 @@ table_word New = codes "New"
 abbrev pub row_words : Plan → Option Row → List ℕ
 row_words plan None = codes "-"
 row_words plan (Some row) = codes "first " ++ (decimal row.first.value ++ (codes " size " ++ (decimal row.size
-    ++ (codes " via " ++ (name_or_dash plan row.next ++ (codes " port " ++ decimal row.port))))))
+    ++ (codes " via " ++ (node_name plan row.next ++ (codes " port " ++ decimal row.port))))))
 
 -- the row of a node at an index
 abbrev pub row_at : Plan → ℕ → Option ℕ → Option Row
@@ -58,7 +58,7 @@ row_at plan n index = row_of plan (record { node = n; index = index })
 -- whose row it is, and what it says
 abbrev pub row_line : Side → Plan → ℕ → Option ℕ → List ℕ
 row_line side plan n index = table_word side ++ (codes " row " ++ (number_or_dash index
-    ++ (codes " of " ++ (name_or_dash plan n ++ (codes ": " ++ (row_words plan (row_at plan n index) ++ codes "\n"))))))
+    ++ (codes " of " ++ (node_name plan n ++ (codes ": " ++ (row_words plan (row_at plan n index) ++ codes "\n"))))))
 
 -- The lines tell where a row of the file's plan stands in its text, and what it says.
 pub record IsRowTold (file : PlanFile) (side : Side) (n : ℕ) (index : Option ℕ) (lines : List ℕ) : Type 0 where
@@ -123,7 +123,7 @@ next_of plan n index = option_map (λ row. row.next) (row_at plan n index)
 
 -- a node has no row for e
 abbrev pub lack_line : Side → Plan → ℕ → ℕ → List ℕ
-lack_line side plan n e = table_word side ++ (codes " rows of " ++ (name_or_dash plan n
+lack_line side plan n e = table_word side ++ (codes " rows of " ++ (node_name plan n
     ++ (codes ": none is for endpoint ID " ++ (decimal e ++ codes ".\n"))))
 
 -- of the first row for e that a node has in the file's plan: where it has none, that is told, and where its rows stand

@@ -1,25 +1,36 @@
 -- What `explain` says where a file can't be read.
-use Rattle.std.specs.Prelude.{◌≡◌, ◌⊎◌, ℕ, List, ◌++◌, codes, Option}
+use Rattle.std.specs.Prelude.{◌≡◌, ◌⊎◌, ℕ, List, ◌++◌, codes, Option, string_bytes}
 use Rattle.net_json.specs.declared.error.PlanError.{PlanError}
 use Rattle.net_json.specs.declared.error.PlanError.TheVariants as error_of
 use Rattle.net_plan.specs.declared.plan.Plan.{Plan}
-use Rattle.net_json.specs.PlanReading.{plan}
 use Rattle.net_plan.specs.PlanValues.{plan_value, node_names}
 use Rattle.net_json.specs.Stream.{TakesMoreThan}
 use Rattle.net_json.specs.Texts.{Gave}
 use Rattle.net_json.specs.Unread.{GaveNoPlan, GaveNoCertificate, GaveNoEvents}
+use Rattle.net_pointers.specs.Asks.{plan_text, certificate_text, events_text}
+use Rattle.net_pointers.specs.TextTroubles.{cause_of}
+use Rattle.command_answers.specs.declared.inputs.Unread.{Unread}
+use Rattle.command_answers.specs.declared.inputs.Unread.TheVariants as why
 use Rattle.command_answers.specs.declared.refused.Input.{Input}
 use Rattle.command_answers.specs.declared.refused.Input.TheVariants as input
 use Rattle.command_answers.specs.Answers.{Stream, Fails, GaveNothing}
 use Rattle.command_answers.specs.Statuses.{role_of}
 use Rattle.reading_texts.specs.ReadingLines.{unread_line}
-use Rattle.reading_texts.specs.TroubleLines.{IsPlanTextTold, IsCertificateTextTold, IsEventsTextTold}
+use Rattle.reading_texts.specs.TroubleLines.{IsTextTold}
 
 abbrev pub failed_line : List ℕ
 failed_line = codes "The file can't be opened or read.\n"
 
 abbrev pub long_line : List ℕ
 long_line = codes "The text is longer than 16777216 bytes.\n"
+
+-- what is written of why a source gave nothing to read for an input
+abbrev pub IsWrittenOf : Input → Unread → List ℕ → Type 0
+IsWrittenOf role why.NoMemory text = ⊥
+IsWrittenOf role why.Failed text = text ≡ unread_line (role_of role) error_of.Device ++ failed_line
+IsWrittenOf role why.TooLong text = text ≡ unread_line (role_of role) error_of.OverLimit ++ long_line
+IsWrittenOf role (why.Text bytes fault) text =
+    text ≡ unread_line (role_of role) (cause_of fault.trouble) ++ string_bytes fault.lines
 
 -- the line tells of a source that gave no text to its end: it failed, or gave too many bytes
 abbrev pub IsNoTextTold : Stream → PlanError → List ℕ → Type 0
@@ -45,16 +56,16 @@ pub record IsTextOfUnread (role : Input) (GaveNone : Option (List ℕ) → Optio
 
 -- the text tells why the plan can't be read, and where its text has its first fault
 abbrev pub IsUnreadText : Stream → List ℕ → Type 0
-IsUnreadText plans text = IsTextOfUnread input.Plan GaveNoPlan IsPlanTextTold plans text
+IsUnreadText plans text = IsTextOfUnread input.Plan GaveNoPlan (IsTextTold plan_text) plans text
 
 -- the same of the certificate of a plan
 abbrev pub IsUnreadCertificateText : Plan → Stream → List ℕ → Type 0
 IsUnreadCertificateText plan certificates text =
     IsTextOfUnread input.Certificate (GaveNoCertificate (plan_value plan))
-    (IsCertificateTextTold (node_names (plan_value plan).nodes)) certificates text
+    (IsTextTold (certificate_text (node_names (plan_value plan).nodes))) certificates text
 
 -- the same of events at the nodes of a plan
 abbrev pub IsUnreadEventsText : Plan → Stream → List ℕ → Type 0
 IsUnreadEventsText plan happenings text =
     IsTextOfUnread input.Events (GaveNoEvents (plan_value plan))
-    (IsEventsTextTold (node_names (plan_value plan).nodes)) happenings text
+    (IsTextTold (events_text (node_names (plan_value plan).nodes))) happenings text

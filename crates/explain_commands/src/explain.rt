@@ -1,13 +1,13 @@
 //! The command `explain`: what `certify` answers of a plan, and why.
-ghost use Rattle.std.specs.Prelude.{◌≡◌, ◌≢◌, ◌⊎◌, IfOk, IfErr, option_map, string_bytes};
+ghost use Rattle.std.specs.Prelude.{◌≡◌, ◌≢◌, IfOk, IfErr, option_map, string_bytes};
 ghost use Rattle.std.specs.Cow.{cow_str_bytes};
 ghost use Rattle.net_rules.specs.Certificates.{NamesObstacle, RulesOutCertificates};
 ghost use Rattle.net_json.specs.Stream.{HasRoom};
-ghost use Rattle.command_answers.specs.declared.status.Status.TheVariants.{Yes, Fault, Unreadable, NoMemory};
+ghost use Rattle.command_answers.specs.declared.status.Status.TheVariants.{NoMemory};
 ghost use Rattle.command_answers.specs.declared.refused.Refused.TheVariants as refused;
-ghost use Rattle.command_answers.specs.Answers.{stream, BreaksOff};
+ghost use Rattle.command_answers.specs.Answers.{stream};
 ghost use Rattle.explain_commands.specs.Explaining.{AreEditsTold, AreMoreTold, IsExplainedThere, IsObstacleText, IsToldWithEdits, IsSummedUp, IsExplained, ExplainsSo, others_of};
-ghost use Rattle.command_answers.specs.Told.{Gives, IsSomeAnswer, Ends};
+ghost use Rattle.command_answers.specs.Told.{ConcludesOnOutput};
 ghost use Rattle.command_answers.specs.UnreadInputs.{IsTextOf};
 
 pub mod certified;
@@ -15,7 +15,7 @@ pub mod events;
 pub mod moved;
 pub mod unread;
 
-use command_answers::{Answer, PlanText, Refused, Status, YES, plan_or_text, tell};
+use command_answers::{Answer, Input, PlanText, Refused, Status, YES, plan_or_text, tell};
 use fault_texts::{more_line, obstacle_place};
 use net_check::{CertifyError, certify, faults};
 use net_explained::{most_hops, tried_edits};
@@ -23,7 +23,7 @@ use net_json::{Sink, Source};
 use net_plan::{Certificate, Plan};
 use plan_texts::{edit_lines, obstacle_line, obstacle_lines, summary_lines};
 use std::alloc::{AllocError, Global};
-use unread::unread_plan;
+use unread::unread_answer;
 
 /// Says on `output` what `certify` says of a plan, `yes` in place of the certificate, and explains it. Where the plan can't
 /// be read, it says so there too, and where the text's first fault is. The name is that of the plan's file.
@@ -37,15 +37,11 @@ pub fn run_explain<P: Source, O: Sink, E: Sink>(
     requires plan { HasRoom (P.account plan.old) }
     requires output { HasRoom (O.account output.old) }
     requires errors { HasRoom (E.account errors.old) }
-    ensures explains { let plans = stream P.account plan.old plan.new in
-        Ends (ExplainsSo name.now plans) (λ why. why ≡ refused.NoMemory) result
-        (stream O.account output.old output.new) (stream E.account errors.old errors.new) }
-    ensures silent { (result ≡ Yes) ⊎ (result ≡ Fault) → errors.new ≡ errors.old }
+    ensures concludes { let plans = stream P.account plan.old plan.new in
+        ConcludesOnOutput (ExplainsSo name.now plans) result
+        (stream O.account output.old output.new) (stream E.account errors.old errors.new)
+        (output.new ≡ output.old) (errors.new ≡ errors.old) }
     ensures quiet { result ≢ NoMemory → (O.account output.new).failures ≡ (O.account output.old).failures → errors.new ≡ errors.old }
-    ensures unwritten { let plans = stream P.account plan.old plan.new in
-        let outputs = stream O.account output.old output.new in
-        result ≡ Unreadable → Gives (ExplainsSo name.now plans) Unreadable outputs ⊎ BreaksOff (IsSomeAnswer (ExplainsSo name.now plans)) outputs }
-    ensures no_memory { result ≡ NoMemory → output.new ≡ output.old }
 {
     let answered = answer_explain(alloc, name, plan);
     tell(alloc, answered, output, errors)
@@ -59,7 +55,7 @@ fn answer_explain<P: Source>(alloc: Global, name: &str, plan: &mut P) -> Result<
 {
     match plan_or_text(alloc, plan) {
         Ok(given) => explained_plan(alloc, name, &given),
-        Err(unread) => unread_plan(alloc, &unread),
+        Err(unread) => unread_answer(alloc, Input::Plan, &unread),
     }
 }
 

@@ -9,8 +9,8 @@ ghost use Rattle.explain_commands.specs.Fixing.{AreBothTold, AreLinesTold, EndsF
 ghost use Rattle.plan_fixes.specs.Fixes.{IsLeftOf};
 ghost use Rattle.command_answers.specs.UnreadInputs.{IsTextOf};
 
-use crate::explain::unread::unread_plan;
-use command_answers::{Answer, PlanText, Refused, Status, plan_or_text, refuse, tell};
+use crate::explain::unread::unread_answer;
+use command_answers::{Answer, Input, PlanText, Refused, Status, plan_or_text, refuse, tell};
 use net_json::{Sink, Source, write_whole};
 use net_plan::Plan;
 use net_rules::CertifyError;
@@ -46,6 +46,7 @@ pub fn run_fix<P: Source, O: Sink, E: Sink>(
     }
 }
 
+#[tactic(auto, using(crate::proofs::UnreadTexts::plan_told))]
 fn answer_fix<P: Source>(alloc: Global, plan: &mut P) -> Result<Mended, Refused>
     requires { HasRoom (P.account plan.old) }
     ensures answers { let plans = stream P.account plan.old plan.new in
@@ -55,7 +56,7 @@ fn answer_fix<P: Source>(alloc: Global, plan: &mut P) -> Result<Mended, Refused>
     match plan_or_text(alloc, plan) {
         Ok(given) => Ok(mended_plan(alloc, given)?),
         Err(unread) => Ok(Mended {
-            answer: unread_plan(alloc, &unread)?,
+            answer: unread_answer(alloc, Input::Plan, &unread)?,
             lines: String::new(alloc),
         }),
     }

@@ -10,7 +10,7 @@ use Rattle.command_answers.specs.Answers.{IsErrorText, IsFaultText}
 use Rattle.command_answers.specs.declared.refused.Refused.{Refused}
 use Rattle.command_answers.specs.declared.refused.Refused.TheVariants as refused
 use Rattle.export_commands.specs.declared.exports.Export.{Export}
-use Rattle.export_commands.specs.declared.telling.Exported.{Exported}
+use Rattle.command_answers.specs.declared.bytes_answer.BytesAnswer.{BytesAnswer}
 use Rattle.export_commands.specs.Exporting.{AnswersAt, AnswersExportOn, IsSubject, IsUnexportedOn}
 use Rattle.plan_exports.specs.declared.links.Link.{Link}
 
@@ -20,12 +20,12 @@ first_told plan cert (check_error.Fault fault) text first told = (fault, first, 
 first_told plan cert check_error.OutOfMemory text first told = absurd told
 
 module _ (export : Export) (links : List Link) (plan : Plan) (cert : Certificate) where
-  pub answered_on : (n : ℕ) → IsSubject export links plan n → (result : Result Exported Refused)
-      → IfOk result (λ (a : Exported). AnswersAt export.kind links plan cert n a.status a.bytes.items)
-      → IfOk result (λ (a : Exported). AnswersExportOn export links plan cert a.status a.bytes.items)
+  pub answered_on : (n : ℕ) → IsSubject export links plan n → (result : Result BytesAnswer Refused)
+      → IfOk result (λ (a : BytesAnswer). AnswersAt export.kind links plan cert n a.status a.bytes.items)
+      → IfOk result (λ (a : BytesAnswer). AnswersExportOn export links plan cert a.status a.bytes.items)
   answered_on n subject (Ok a) answers = (n, subject, answers)
   answered_on n subject (Err why) answers = tt
 
-  pub unanswered_on : (result : Result Exported Refused) → IfErr result (λ why. why ≡ refused.NoMemory) → IfErr result (IsUnexportedOn export links plan)
+  pub unanswered_on : (result : Result BytesAnswer Refused) → IfErr result (λ why. why ≡ refused.NoMemory) → IfErr result (IsUnexportedOn export links plan)
   unanswered_on (Ok a) lacks = tt
   unanswered_on (Err why) lacks = subst (IsUnexportedOn export links plan) (sym lacks) tt

@@ -1,6 +1,6 @@
 -- What the rules of an accepted plan say of the rows and the endpoint ID of a node.
 use Rattle.std.proofs.Common.{◌≡◌, ℕ, Some, None}
-use Rattle.mctp_transport.specs.Frames.{IsAssignable}
+use Rattle.mctp_transport.specs.PacketValues.{IsAssignable}
 use Rattle.net_plan.specs.declared.certificate.Certificate.{Certificate}
 use Rattle.net_plan.specs.declared.plan.Plan.{Plan}
 use Rattle.net_rules.specs.declared.rule.Rule.TheVariants.{C02, C04, C05, C06}

@@ -1,4 +1,3 @@
 pub mod Answered
 pub mod Lawful
 pub mod Subjects
-pub mod ToldBytes

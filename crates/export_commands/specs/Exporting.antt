@@ -1,5 +1,5 @@
 -- What answers `export`.
-use Rattle.std.specs.Prelude.{◌≡◌, ◌≢◌, ◌⊎◌, ℕ, List, All, Option, Some, None, slice_get, option_map, string_bytes, ⊤}
+use Rattle.std.specs.Prelude.{◌≡◌, ◌≢◌, ◌⊎◌, ℕ, List, All, Option, Some, None, option_map, ⊤}
 use Rattle.command_answers.specs.Answers.{Stream, AreGiven, AreUnread, IsFaultText}
 use Rattle.command_answers.specs.Naming.{IsFirstNamed}
 use Rattle.command_answers.specs.Statuses.{HasCause}
@@ -10,9 +10,9 @@ use Rattle.export_commands.specs.declared.exports.Export.{Export}
 use Rattle.export_commands.specs.declared.exports.ExportKind.{ExportKind}
 use Rattle.export_commands.specs.declared.exports.ExportKind.TheVariants as kind
 use Rattle.net_plan.specs.declared.certificate.Certificate.{Certificate}
-use Rattle.net_plan.specs.declared.nodes.Bus.{Bus}
 use Rattle.net_plan.specs.declared.plan.Plan.{Plan}
 use Rattle.net_rules.specs.Rules.{Accepts}
+use Rattle.net_tables.specs.Names.{name_of_bus}
 use Rattle.net_tables.specs.Repositories.{records_by_place, terminus_of}
 use Rattle.net_tables.specs.Routing.{IsBridge, eid_of}
 use Rattle.plan_exports.specs.CSources.{IsCSource, TerminusFacts}
@@ -41,13 +41,9 @@ HasForm kind.C plan n = ⊤
 HasForm kind.Entries plan n = IsBridge plan n
 HasForm kind.Records plan n = terminus_of plan n ≢ None
 
--- a bus's name; none beyond the plan
-abbrev pub bus_name : Plan → ℕ → Option (List ℕ)
-bus_name plan b = option_map (λ (bus : Bus). string_bytes bus.name.text) (slice_get plan.buses.items b)
-
 -- a bus of the plan has the name
 unfoldable pub HasBus : Plan → List ℕ → Type 0
-HasBus plan name = (b : ℕ) × (bus_name plan b ≡ Some name)
+HasBus plan name = (b : ℕ) × (name_of_bus plan b ≡ Some name)
 
 -- n is the first node of the export's name and has what the form is of, and each link's bus is one of the plan's
 pub record IsSubject (export : Export) (links : List Link) (plan : Plan) (n : ℕ) : Type 0 where

@@ -1,6 +1,6 @@
 //! What a node of a checked plan is in each form.
-ghost use Rattle.std.specs.Prelude.{◌≡◌, ◌≢◌, ◌↔◌, ℕ, Some, IfOk, IsTrue, MatchBool, MatchOption, All, string_bytes};
-ghost use Rattle.export_commands.specs.Exporting.{HasBus, bus_name, HasForm, IsExported, terminus_at};
+ghost use Rattle.std.specs.Prelude.{◌≡◌, ◌↔◌, ℕ, Some, IfOk, IsTrue, All, string_bytes};
+ghost use Rattle.export_commands.specs.Exporting.{HasBus, HasForm, IsExported, terminus_at};
 ghost use Rattle.net_tables.specs.Repositories.{records_by_place};
 ghost use Rattle.net_tables.specs.Routing.{IsBridge, eid_of};
 ghost use Rattle.plan_exports.specs.CSources.{IsCSource};
@@ -11,8 +11,8 @@ ghost use Rattle.plan_exports.specs.TableAnswers.{AreEntryLines};
 use crate::exports::ExportKind;
 use command_answers::records_by_place;
 use net_check::Checked;
-use net_plan::{Bus, Plan};
-use net_tables::lookup::{eid_at, terminus_at};
+use net_plan::Plan;
+use net_tables::lookup::{bus_named, eid_at, terminus_at};
 use plan_exports::{CTerminus, Link, c_source, entry_lines, joined_records, linux_script};
 use std::alloc::{AllocError, Global};
 
@@ -95,22 +95,4 @@ fn has_bus(plan: &Plan, name: &str) -> bool
     ensures { IsTrue result ↔ HasBus plan.now name.now }
 {
     bus_named(plan, name).is_some()
-}
-
-/// The index of the first bus of the name.
-fn bus_named(plan: &Plan, name: &str) -> Option<usize>
-    ensures { MatchOption result ((b : ℕ) → bus_name plan.now b ≢ Some name.now) (λ b. bus_name plan.now b ≡ Some name.now) }
-{
-    for (index, bus) in plan.buses.iter().enumerate() {
-        if is_named(bus, name) {
-            return Some(index);
-        }
-    }
-    None
-}
-
-fn is_named(bus: &Bus, name: &str) -> bool
-    ensures { MatchBool result (string_bytes bus.now.name.text ≡ name.now) (string_bytes bus.now.name.text ≢ name.now) }
-{
-    bus.name.text.as_str() == name
 }

@@ -1,15 +1,15 @@
 //! The command `export` over the files that it reads and the streams that it writes.
-ghost use Rattle.std.specs.Prelude.{◌≡◌, ◌⊎◌, ◌↔◌, IfOk, IfErr, IsTrue, MatchOption};
-ghost use Rattle.command_answers.specs.Answers.{stream, IsWithoutPlan, BreaksOff};
-ghost use Rattle.command_answers.specs.Told.{IsSomeAnswer, Ends};
+ghost use Rattle.std.specs.Prelude.{◌≡◌, ◌↔◌, IfOk, IfErr, IsTrue, MatchOption};
+ghost use Rattle.command_answers.specs.Answers.{stream, IsWithoutPlan};
+ghost use Rattle.command_answers.specs.Told.{Concludes};
 ghost use Rattle.command_answers.specs.declared.refused.Refused.TheVariants as refused;
-ghost use Rattle.command_answers.specs.declared.status.Status.TheVariants.{Yes, Fault, Unreadable, NoMemory};
 ghost use Rattle.export_commands.specs.Exporting.{AnswersAt, AnswersExportOn, AnswersExportSo, HasForm, IsNamedIn, IsSubject, IsUnexportedOn, IsUnexportedFor};
 ghost use Rattle.net_json.specs.Stream.{HasRoom};
 
 use crate::exported::{exported, knows_buses};
-use crate::telling::{Exported, tell_bytes};
-use command_answers::{Refused, Status, fault_text, first_named, read_inputs};
+use command_answers::{
+    BytesAnswer, Refused, Status, fault_text, first_named, read_inputs, tell_bytes,
+};
 use net_check::check;
 use net_json::{Sink, Source};
 use net_plan::{Certificate, Plan};
@@ -53,16 +53,11 @@ pub fn run_export<P: Source, C: Source, O: Sink, E: Sink>(
     requires certificate { HasRoom (C.account certificate.old) }
     requires output { HasRoom (O.account output.old) }
     requires errors { HasRoom (E.account errors.old) }
-    ensures tells { let plans = stream P.account plan.old plan.new in
+    ensures concludes { let plans = stream P.account plan.old plan.new in
         let certificates = stream C.account certificate.old certificate.new in
-        Ends (AnswersExportSo export.now links.now plans certificates) (IsUnexportedFor export.now links.now plans certificates) result
-        (stream O.account output.old output.new) (stream E.account errors.old errors.new) }
-    ensures silent { (result ≡ Yes) ⊎ (result ≡ Fault) → errors.new ≡ errors.old }
-    ensures unwritten { let plans = stream P.account plan.old plan.new in
-        let certificates = stream C.account certificate.old certificate.new in
-        result ≡ Unreadable → (output.new ≡ output.old)
-        ⊎ BreaksOff (IsSomeAnswer (AnswersExportSo export.now links.now plans certificates)) (stream O.account output.old output.new) }
-    ensures no_memory { result ≡ NoMemory → output.new ≡ output.old }
+        Concludes (AnswersExportSo export.now links.now plans certificates) (IsUnexportedFor export.now links.now plans certificates) result
+        (stream O.account output.old output.new) (stream E.account errors.old errors.new)
+        (output.new ≡ output.old) (errors.new ≡ errors.old) }
     ensures in_order { IsWithoutPlan (stream P.account plan.old plan.new) → certificate.new ≡ certificate.old }
 {
     let answered = answer_export(alloc, export, links, plan, certificate);
@@ -75,7 +70,7 @@ fn answer_export<P: Source, C: Source>(
     links: &[Link],
     plan: &mut P,
     certificate: &mut C,
-) -> Result<Exported, Refused>
+) -> Result<BytesAnswer, Refused>
     requires plan { HasRoom (P.account plan.old) }
     requires certificate { HasRoom (C.account certificate.old) }
     ensures answers { let plans = stream P.account plan.old plan.new in
@@ -97,7 +92,7 @@ fn answer_of_both(
     links: &[Link],
     plan: &Plan,
     certificate: &Certificate,
-) -> Result<Exported, Refused>
+) -> Result<BytesAnswer, Refused>
     ensures answers { IfOk result (λ answer. AnswersExportOn export.now links.now plan.now certificate.now answer.status answer.bytes.items) }
     ensures unanswered { IfErr result (IsUnexportedOn export.now links.now plan.now) }
 {
@@ -115,14 +110,14 @@ fn answer_at(
     plan: &Plan,
     certificate: &Certificate,
     node: usize,
-) -> Result<Exported, Refused>
+) -> Result<BytesAnswer, Refused>
     requires { HasForm kind plan.now node }
     ensures answers { IfOk result (λ answer. AnswersAt kind links.now plan.now certificate.now node answer.status answer.bytes.items) }
     ensures unanswered { IfErr result (λ why. why ≡ refused.NoMemory) }
 {
     match check(alloc, plan, certificate) {
-        Ok(checked) => Ok(Exported::whole(exported(alloc, &checked, kind, links, node)?)),
-        Err(error) => Ok(Exported::fault(fault_text(alloc, plan, &error)?)),
+        Ok(checked) => Ok(BytesAnswer::whole(exported(alloc, &checked, kind, links, node)?)),
+        Err(error) => Ok(BytesAnswer::fault(fault_text(alloc, plan, &error)?)),
     }
 }
 

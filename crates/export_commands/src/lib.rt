@@ -3,6 +3,5 @@
 
 mod exported;
 mod exports;
-mod telling;
 
 pub use exports::{Export, ExportKind, run_export};

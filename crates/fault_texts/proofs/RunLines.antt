@@ -1,7 +1,5 @@
 -- Lines of runs, one after the other.
-use Rattle.std.proofs.Common.{◌≡◌, ◌++◌, ◌+◌, ◌<◌, ℕ, List, [], ◌∷◌, Result, Ok, Err, length, take, sym, ◌∙◌, ap, subst}
-use Rattle.std.specs.Prelude.{IfOk, get_or}
-use Rattle.std.proofs.lemmas.List.{take_more}
+use Rattle.std.proofs.Common.{◌≡◌, ◌++◌, ◌+◌, ◌<◌, ℕ, List, [], ◌∷◌, Ok, sym, ◌∙◌, ap, subst}
 use Rattle.net_plan.specs.declared.plan.Plan.{Plan}
 use Rattle.net_rules.specs.declared.fault_run.FaultRun.{FaultRun}
 use Rattle.fault_texts.specs.FaultListLines.{AreRunLines, IsRunLine}

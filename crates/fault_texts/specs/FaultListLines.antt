@@ -7,7 +7,8 @@ use Rattle.net_rules.specs.declared.fault_run.EidSpan.{EidSpan}
 use Rattle.net_rules.specs.declared.fault_run.FaultRun.{FaultRun}
 use Rattle.net_plan.specs.declared.plan.Plan.{Plan}
 use Rattle.net_rules.specs.Rules.{code_of}
-use Rattle.plan_texts.specs.Lines.{name_or_dash, number_or_dash, obstacle_words}
+use Rattle.net_tables.specs.Names.{node_name}
+use Rattle.plan_texts.specs.Lines.{number_or_dash, obstacle_words}
 use Rattle.fault_texts.specs.Places.{IsAtTold, obstacle_pointer, site_pointer}
 
 -- two endpoint IDs and what lies between them, or the one that both are
@@ -22,7 +23,7 @@ eids_text (Some eids) = span_text eids.first.value eids.last.value
 
 -- the rule's code, the node's name, the entry, the endpoint IDs, and the place
 abbrev pub run_text : Plan → FaultRun → List ℕ → List ℕ
-run_text plan run at = codes "fault " ++ (code_of run.rule ++ (codes " node " ++ (name_or_dash plan run.node
+run_text plan run at = codes "fault " ++ (code_of run.rule ++ (codes " node " ++ (node_name plan run.node
     ++ (codes " entry " ++ (number_or_dash run.entry
     ++ (codes " eid " ++ (eids_text run.eids ++ (at ++ codes "\n"))))))))
 

@@ -17,7 +17,6 @@ use Rattle.net_rules.specs.declared.rule.Rule.TheVariants.{C09, C10, C11, C12, C
 use Rattle.plan_texts.specs.Explanations.{row_for}
 use Rattle.reading_texts.specs.ReadingLines.{pointer_text}
 use Rattle.reading_texts.specs.TroubleLines.{IsOffsetOf}
-use Rattle.plan_texts.specs.declared.pieces.Entry.{Entry}
 
 -- ---- JSON pointers into the text of a plan
 

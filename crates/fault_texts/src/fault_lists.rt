@@ -9,7 +9,8 @@ use json::{Scratch, Value};
 use net_json::json_of;
 use net_plan::Plan;
 use net_rules::{CertifyError, EidSpan, FaultRun};
-use plan_texts::{name_or_dash, number_text, obstacle_words};
+use net_tables::lookup::node_name;
+use plan_texts::{number_text, obstacle_words};
 use std::alloc::{AllocError, Global};
 
 /// The faults of the plan in a text, each run in a line of its own, and how many lines these are. The text has a name, which
@@ -113,7 +114,7 @@ pub fn run_line(alloc: Global, plan: &Plan, run: &FaultRun, at: &str) -> Result<
     ensures { IfOk result (λ line. string_bytes line ≡ run_text plan.now run.now at.now) }
 {
     let rule = run.rule.code();
-    let name = name_or_dash(plan, run.node);
+    let name = node_name(plan, run.node);
     let entry = number_text(alloc, run.entry)?;
     let eids = eids_text(alloc, run.eids)?;
     format!(in alloc; "fault {rule} node {name} entry {entry} eid {eids}{at}\n")

@@ -2,3 +2,4 @@ mod OneMore
 mod Named
 mod NotMemory
 mod Sources
+mod UnreadSaid

@@ -5,7 +5,6 @@ use Rattle.serde_json.specs.Data.{Data, null, string, object, member, no_members
 use Rattle.net_json.specs.Finding.{Step, key}
 use Rattle.net_explained.specs.declared.edit.Change.{Change}
 use Rattle.net_explained.specs.declared.edit.Change.TheVariants as change
-use Rattle.net_explained.specs.declared.edit.Edit.{Edit}
 use Rattle.net_explained.specs.declared.trial.Tried.{Tried}
 use Rattle.net_plan.specs.NodeValues.{name_bytes}
 use Rattle.net_plan.specs.declared.nodes.Pool.{Pool}
@@ -14,8 +13,9 @@ use Rattle.net_plan.specs.declared.plan.Plan.{Plan}
 use Rattle.net_rules.specs.declared.certify_error.CertifyError.{CertifyError}
 use Rattle.net_tables.specs.Routing.{rows_of}
 use Rattle.fault_texts.specs.Places.{part_pointer, record_pointer, row_pointer}
-use Rattle.plan_texts.specs.EditLines.{edit_text, kind_word}
-use Rattle.plan_texts.specs.Lines.{name_or_dash, obstacle_words}
+use Rattle.net_tables.specs.Names.{kind_word, node_name}
+use Rattle.plan_texts.specs.EditLines.{edit_text}
+use Rattle.plan_texts.specs.Lines.{obstacle_words}
 use Rattle.json_commands.specs.Notes.{lines_data}
 use Rattle.json_commands.specs.Places.{json_pointer, number_data}
 
@@ -45,7 +45,7 @@ edit_pointer plan n (change.Next j next) = part_of_record n j (codes "next")
 edit_pointer plan n (change.Bytes j bytes) = part_of_record n j (codes "bytes")
 
 abbrev pub owner_data : Plan → Option ℕ → Data
-owner_data plan (Some owner) = string (name_or_dash plan owner)
+owner_data plan (Some owner) = string (node_name plan owner)
 owner_data plan None = null
 
 abbrev pub pool_data : Option Pool → Data
@@ -55,7 +55,7 @@ pool_data None = null
 
 abbrev pub row_data : Plan → Row → Data
 row_data plan row = object (member (codes "first") (number_data row.first.value)
-    (member (codes "next") (string (name_or_dash plan row.next)) (member (codes "port") (number_data row.port)
+    (member (codes "next") (string (node_name plan row.next)) (member (codes "port") (number_data row.port)
     (member (codes "size") (number_data row.size) no_members))))
 
 -- what is to stand there, as the text of a plan has it; null where a row is removed

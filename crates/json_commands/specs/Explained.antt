@@ -17,7 +17,7 @@ use Rattle.net_rules.specs.declared.fault.Fault.{Fault}
 use Rattle.net_rules.specs.declared.fault_run.FaultRun.{FaultRun}
 use Rattle.net_rules.specs.Certificates.{HasNoCertificate, IsExact, NamesObstacle}
 use Rattle.net_rules.specs.FaultLists.{AreFaults}
-use Rattle.net_rules.specs.Faults.{IsFirstFault, site_of}
+use Rattle.net_rules.specs.Faults.{site_of}
 use Rattle.net_rules.specs.Rules.{Accepts}
 use Rattle.command_answers.specs.declared.status.Status.{Status}
 use Rattle.command_answers.specs.declared.status.Status.TheVariants as status

@@ -5,7 +5,7 @@ use Rattle.mctp_transport.specs.declared.address.Eid.{Eid}
 use Rattle.serde_json.specs.Data.{Data, null, string, array, object, member, no_members}
 use Rattle.serde_json.specs.View.{items_of}
 use Rattle.net_plan.specs.declared.plan.Plan.{Plan}
-use Rattle.plan_texts.specs.Lines.{name_or_dash}
+use Rattle.net_tables.specs.Names.{node_name}
 use Rattle.json_commands.specs.declared.form.Form.{Form}
 use Rattle.json_commands.specs.declared.form.Form.TheVariants.{Json, Sarif}
 use Rattle.json_commands.specs.declared.notes.Subject.{Subject}
@@ -27,7 +27,7 @@ IsMessageOf text message = (text ≡ message ++ codes "\n") ⊎ (text ≡ messag
 
 abbrev pub node_data : Plan → ℕ → Data
 node_data plan n = object (member (codes "index") (number_data n)
-    (member (codes "name") (string (name_or_dash plan n)) no_members))
+    (member (codes "name") (string (node_name plan n)) no_members))
 
 -- the list of the nodes at these indices
 abbrev pub AreNodesTold : Plan → List ℕ → Data → Type 0

@@ -17,7 +17,6 @@ use Rattle.net_rules.specs.RecordChains.{chain_entry_of}
 use Rattle.net_rules.specs.Rules.{code_of}
 use Rattle.plan_texts.specs.Explanations.{around, row_for}
 use Rattle.plan_texts.specs.Lines.{obstacle_text}
-use Rattle.plan_texts.specs.declared.pieces.Entry.{Entry}
 use Rattle.fault_texts.specs.FaultListLines.{run_text}
 use Rattle.fault_texts.specs.Places.{obstacle_pointer, part_pointer, record_pointer, row_pointer}
 use Rattle.fault_texts.specs.Places.{site_pointer, way_pointer}

@@ -1,6 +1,6 @@
 -- What `trace` answers.
 use Rattle.std.specs.Prelude.{◌≡◌, ◌≤◌, ℕ, List, codes, length, Some}
-use Rattle.mctp_bridge.specs.Decisions.{obstacle_code}
+use Rattle.mctp_bridge.specs.Decisions.{forward_fault_code}
 use Rattle.mctp_transport.specs.declared.address.Eid.{Eid}
 use Rattle.serde_json.specs.Data.{Data, null, string, object, member, no_members}
 use Rattle.net_plan.specs.declared.certificate.Certificate.{Certificate}
@@ -31,7 +31,7 @@ IsStepTold name text plan eid step d = (place : Data)
 -- why a way stops, or null where the packet arrives
 abbrev pub stop_data : End → Data
 stop_data Arrives = null
-stop_data (Stops why) = string (obstacle_code why)
+stop_data (Stops why) = string (forward_fault_code why)
 
 abbrev pub way_data : Plan → ℕ → Data → ℕ → End → Data
 way_data plan e steps last end = object (member (codes "eid") (number_data e)

@@ -3,26 +3,23 @@ use Rattle.std.specs.Prelude.{◌≡◌, ℕ, ◌+◌, List, [], ◌∷◌, code
 use Rattle.serde_json.specs.Data.{Data}
 use Rattle.net_json.specs.Finding.{Step, key, index, located}
 use Rattle.net_plan.specs.declared.plan.Plan.{Plan}
-use Rattle.net_plan.specs.PlanValues.{plan_value, node_names}
-use Rattle.net_pointers.specs.CertificateTroubles.{list_key}
+use Rattle.net_pointers.specs.Asks.{list_key, name_key}
 use Rattle.net_pointers.specs.Offsets.{LeadsToKey}
-use Rattle.net_pointers.specs.TextTroubles.{IsToldOfPlanText, IsToldOfCertificateText}
-use Rattle.net_pointers.specs.declared.certificates.CertificateTrouble.{CertificateTrouble}
-use Rattle.net_pointers.specs.declared.certificates.CertificateTrouble.TheVariants as of_certificate
+use Rattle.net_pointers.specs.TextTroubles.{cause_of}
 use Rattle.net_pointers.specs.declared.doubled.DoubledKey.{DoubledKey}
-use Rattle.net_pointers.specs.declared.plans.PlanTrouble.{PlanTrouble}
-use Rattle.net_pointers.specs.declared.plans.PlanTrouble.TheVariants as of_plan
+use Rattle.net_pointers.specs.declared.order.NameList.{NameList}
+use Rattle.net_pointers.specs.declared.order.Trouble.{Trouble}
+use Rattle.net_pointers.specs.declared.order.Trouble.TheVariants as wrong
 use Rattle.net_pointers.specs.declared.syntax.JsonFault.{JsonFault}
 use Rattle.net_pointers.specs.declared.syntax.JsonFault.TheVariants.{NotUtf8, Unreadable}
-use Rattle.net_pointers.specs.declared.events.EventsTrouble.{EventsTrouble}
-use Rattle.net_pointers.specs.declared.events.EventsTrouble.TheVariants as of_events
 use Rattle.net_pointers.specs.declared.texts.TextTrouble.{TextTrouble}
 use Rattle.net_pointers.specs.declared.texts.TextTrouble.TheVariants as trouble
 use Rattle.command_answers.specs.declared.inputs.Unread.{Unread}
 use Rattle.command_answers.specs.declared.inputs.Unread.TheVariants as unread
+use Rattle.command_answers.specs.declared.refused.Input.{Input}
 use Rattle.command_answers.specs.declared.status.Status.TheVariants as status
 use Rattle.command_answers.specs.Answers.{Stream}
-use Rattle.explain_commands.specs.UnreadTexts.{IsUnreadText, IsUnreadCertificateText}
+use Rattle.explain_commands.specs.UnreadTexts.{IsUnreadText, IsUnreadCertificateText, IsWrittenOf}
 use Rattle.reading_texts.specs.ReadingLines.{unread_code}
 use Rattle.json_commands.specs.declared.form.Form.{Form}
 use Rattle.json_commands.specs.Lists.{empty_data, one_data}
@@ -35,7 +32,7 @@ abbrev pub code_of : Unread → List ℕ
 code_of unread.NoMemory = codes "no memory"
 code_of unread.Failed = codes "file"
 code_of unread.TooLong = codes "J08"
-code_of (unread.Text text cause) = unread_code cause
+code_of (unread.Text text fault) = unread_code (cause_of fault.trouble)
 
 -- ---- places
 
@@ -49,9 +46,9 @@ abbrev pub ArePointersPlaced : Form → (name text : List ℕ) → List Step →
 ArePointersPlaced form name text pointer other place related =
     IsPlaceTold form name text pointer place × IsPlaceListTold form name text other related
 
--- what an entry of a list says at a key
-abbrev pub entry_pointer : List ℕ → ℕ → List ℕ → List Step
-entry_pointer list i k = key list ∷ index i ∷ key k ∷ []
+-- the name of an entry of a list
+abbrev pub entry_pointer : NameList → ℕ → List Step
+entry_pointer list i = key (list_key list) ∷ index i ∷ key (name_key list) ∷ []
 
 abbrev pub range_pointer : ℕ → ℕ → List Step
 range_pointer entry range = key (codes "ranks") ∷ index entry ∷ key (codes "ranges") ∷ index range ∷ []
@@ -63,37 +60,19 @@ AreKeysPlaced form name text k place related = (first again : ℕ)
     × (place ≡ spot_data form name text (Some again) None)
     × (related ≡ one_data (spot_data form name text (Some first) None))
 
-abbrev pub ArePlanPlaces : Form → (name text : List ℕ) → PlanTrouble → (place related : Data) → Type 0
-ArePlanPlaces form name text (of_plan.Value found) place related =
+-- where what is wrong with a text that is JSON stands, and where the other stands that is involved
+abbrev pub AreTroublePlaces : Form → (name text : List ℕ) → Trouble → (place related : Data) → Type 0
+AreTroublePlaces form name text (wrong.Value found) place related =
     ArePointersPlaced form name text (located found).pointer None place related
-ArePlanPlaces form name text (of_plan.DoubledBus twins) place related =
-    ArePointersPlaced form name text (entry_pointer (codes "buses") twins.second (codes "name"))
-    (Some (entry_pointer (codes "buses") twins.first (codes "name"))) place related
-ArePlanPlaces form name text (of_plan.DoubledKey doubled) place related =
-    AreKeysPlaced form name text doubled place related
-ArePlanPlaces form name text (of_plan.UnknownName found) place related =
-    ArePointersPlaced form name text (located found).pointer None place related
-
-abbrev pub AreCertificatePlaces : Form → (name text : List ℕ) → CertificateTrouble → (place related : Data) → Type 0
-AreCertificatePlaces form name text (of_certificate.Value found) place related =
-    ArePointersPlaced form name text (located found).pointer None place related
-AreCertificatePlaces form name text (of_certificate.DoubledNode list twins) place related =
-    ArePointersPlaced form name text (entry_pointer (list_key list) twins.second (codes "node"))
-    (Some (entry_pointer (list_key list) twins.first (codes "node"))) place related
-AreCertificatePlaces form name text (of_certificate.Overlap o) place related =
+AreTroublePlaces form name text (wrong.DoubledName list twins) place related =
+    ArePointersPlaced form name text (entry_pointer list twins.second) (Some (entry_pointer list twins.first))
+    place related
+AreTroublePlaces form name text (wrong.Overlap o) place related =
     ArePointersPlaced form name text (range_pointer o.entry (o.range + 1)) (Some (range_pointer o.entry o.range))
     place related
-AreCertificatePlaces form name text (of_certificate.DoubledKey doubled) place related =
+AreTroublePlaces form name text (wrong.DoubledKey doubled) place related =
     AreKeysPlaced form name text doubled place related
-AreCertificatePlaces form name text (of_certificate.UnknownName found) place related =
-    ArePointersPlaced form name text (located found).pointer None place related
-
-abbrev pub AreEventsPlaces : Form → (name text : List ℕ) → EventsTrouble → (place related : Data) → Type 0
-AreEventsPlaces form name text (of_events.Value found) place related =
-    ArePointersPlaced form name text (located found).pointer None place related
-AreEventsPlaces form name text (of_events.DoubledKey doubled) place related =
-    AreKeysPlaced form name text doubled place related
-AreEventsPlaces form name text (of_events.UnknownName found) place related =
+AreTroublePlaces form name text (wrong.UnknownName found) place related =
     ArePointersPlaced form name text (located found).pointer None place related
 
 -- where a text stops being JSON
@@ -106,19 +85,15 @@ abbrev pub ArePlaces : Form → (name text : List ℕ) → TextTrouble → (plac
 ArePlaces form name text (trouble.TooLong count) place related = AreNowhere form name place related
 ArePlaces form name text (trouble.NotJson fault) place related =
     (place ≡ spot_data form name text (Some (offset_of fault)) None) × (related ≡ empty_data)
-ArePlaces form name text (trouble.Plan found) place related = ArePlanPlaces form name text found place related
-ArePlaces form name text (trouble.Certificate found) place related =
-    AreCertificatePlaces form name text found place related
-ArePlaces form name text (trouble.Events found) place related = AreEventsPlaces form name text found place related
+ArePlaces form name text (trouble.Wrong t) place related = AreTroublePlaces form name text t place related
 
--- where the trouble of the text that was given stands, if one was given
-abbrev pub AreUnreadPlaces : (List ℕ → Option TextTrouble → Type 0) → Form → List ℕ → Unread
-    → (place related : Data) → Type 0
-AreUnreadPlaces IsToldOf form name unread.NoMemory place related = ⊥
-AreUnreadPlaces IsToldOf form name unread.Failed place related = AreNowhere form name place related
-AreUnreadPlaces IsToldOf form name unread.TooLong place related = AreNowhere form name place related
-AreUnreadPlaces IsToldOf form name (unread.Text text cause) place related = (found : TextTrouble)
-    × IsToldOf text.items (Some found) × ArePlaces form name text.items found place related
+-- where what is wrong with the text that was given stands, if one was given
+abbrev pub AreUnreadPlaces : Form → List ℕ → Unread → (place related : Data) → Type 0
+AreUnreadPlaces form name unread.NoMemory place related = ⊥
+AreUnreadPlaces form name unread.Failed place related = AreNowhere form name place related
+AreUnreadPlaces form name unread.TooLong place related = AreNowhere form name place related
+AreUnreadPlaces form name (unread.Text text fault) place related =
+    ArePlaces form name text.items fault.trouble place related
 
 -- ---- notes
 
@@ -131,18 +106,23 @@ IsUnreadSaid form command code place related words d =
     (note : Data) × IsNote form (unread_subject code) empty_data place related words note
     × IsReport form command status.Unreadable (one_data note) d
 
--- The value tells why the source gave no plan: by the lines of `explain`, with its code, and where the text that it
--- gave has its first fault.
-abbrev pub IsPlanUnreadSaid : Form → (command name : List ℕ) → Stream → Unread → Data → Type 0
-IsPlanUnreadSaid form command name plans why d = (words : List ℕ) × (place related : Data)
-    × IsUnreadText plans words × AreUnreadPlaces IsToldOfPlanText form name why place related
+-- The value tells why a source gave nothing to read for an input: by the lines of `explain`, with its code, and where
+-- the text that it gave has its first fault. The name is that of its file.
+abbrev pub IsInputUnreadSaid : Form → (command name : List ℕ) → Input → Unread → Data → Type 0
+IsInputUnreadSaid form command name role why d = (words : List ℕ) × (place related : Data)
+    × IsWrittenOf role why words × AreUnreadPlaces form name why place related
     × IsUnreadSaid form command (code_of why) place related words d
 
--- the same of the certificate of a plan; the name is that of the certificate's file
+-- the same of a source that gave no plan
+abbrev pub IsPlanUnreadSaid : Form → (command name : List ℕ) → Stream → Unread → Data → Type 0
+IsPlanUnreadSaid form command name plans why d = (words : List ℕ) × (place related : Data)
+    × IsUnreadText plans words × AreUnreadPlaces form name why place related
+    × IsUnreadSaid form command (code_of why) place related words d
+
+-- the same of the certificate of a plan
 abbrev pub IsCertificateUnreadSaid : Form → (command name : List ℕ) → Plan → Stream → Unread → Data → Type 0
 IsCertificateUnreadSaid form command name plan certificates why d = (words : List ℕ) × (place related : Data)
-    × IsUnreadCertificateText plan certificates words
-    × AreUnreadPlaces (IsToldOfCertificateText (node_names (plan_value plan).nodes)) form name why place related
+    × IsUnreadCertificateText plan certificates words × AreUnreadPlaces form name why place related
     × IsUnreadSaid form command (code_of why) place related words d
 
 -- the value tells that nothing in the plan of this name has a name that is asked for

@@ -1,13 +1,13 @@
 //! Commands that read a plan and its certificate, and answer in JSON.
-ghost use Rattle.std.specs.Prelude.{◌≡◌, ◌≢◌, ◌⊎◌, true, false, IfOk, IfErr};
+ghost use Rattle.std.specs.Prelude.{◌≡◌, ◌≢◌, true, false, IfOk, IfErr};
 ghost use Rattle.std.specs.Cow.{cow_str_bytes};
 ghost use Rattle.serde_json.specs.View.{view};
 ghost use Rattle.net_check.specs.Errors.{NamesFirstFault};
 ghost use Rattle.net_json.specs.Stream.{HasRoom};
 ghost use Rattle.command_answers.specs.declared.refused.Refused.TheVariants as refused;
 ghost use Rattle.command_answers.specs.declared.status.Status.TheVariants as status;
-ghost use Rattle.command_answers.specs.Answers.{stream, IsWithoutPlan, BreaksOff};
-ghost use Rattle.command_answers.specs.Told.{Gives, IsSomeAnswer, Ends};
+ghost use Rattle.command_answers.specs.Answers.{stream, IsWithoutPlan};
+ghost use Rattle.command_answers.specs.Told.{ConcludesOnOutput};
 ghost use Rattle.command_answers.specs.UnreadInputs.{IsTextOf};
 ghost use Rattle.command_answers.specs.Naming.{NameTheEnds};
 ghost use Rattle.json_commands.specs.Certified.{AnswersInJson, AreBothSaid, AreCheckedSaid, AreSourcesSaid, IsCertificateSaid, IsFaultAlone, IsFaultSaid, IsFirstFaultSaid, IsNamedIn, IsWaySaid, command_of, form_of};
@@ -20,9 +20,9 @@ use crate::reached::reached;
 use crate::reports::report;
 use crate::said::{Said, answer_of};
 use crate::traced::traced;
-use crate::unread::{unknown_name, unread_certificate, unread_plan};
+use crate::unread::{unknown_name, unread_input};
 use command_answers::{
-    Answer, PlanText, Refused, Status, certificate_or_text, named_ends, plan_or_text, tell,
+    Answer, Input, PlanText, Refused, Status, certificate_or_text, named_ends, plan_or_text, tell,
 };
 use net_check::{CertifyError, CheckError, Checked, Fault, check};
 use net_json::{Sink, Source};
@@ -60,18 +60,12 @@ pub fn run_certified_json<P: Source, C: Source, O: Sink, E: Sink>(
     requires certificate { HasRoom (C.account certificate.old) }
     requires output { HasRoom (O.account output.old) }
     requires errors { HasRoom (E.account errors.old) }
-    ensures says { let plans = stream P.account plan.old plan.new in
+    ensures concludes { let plans = stream P.account plan.old plan.new in
         let certificates = stream C.account certificate.old certificate.new in
-        Ends (AnswersInJson asked.now name.now certified_by.now plans certificates) (λ why. why ≡ refused.NoMemory) result
-        (stream O.account output.old output.new) (stream E.account errors.old errors.new) }
-    ensures silent { (result ≡ status.Yes) ⊎ (result ≡ status.Fault) → errors.new ≡ errors.old }
+        ConcludesOnOutput (AnswersInJson asked.now name.now certified_by.now plans certificates) result
+        (stream O.account output.old output.new) (stream E.account errors.old errors.new)
+        (output.new ≡ output.old) (errors.new ≡ errors.old) }
     ensures quiet { result ≢ status.NoMemory → (O.account output.new).failures ≡ (O.account output.old).failures → errors.new ≡ errors.old }
-    ensures unwritten { let plans = stream P.account plan.old plan.new in
-        let certificates = stream C.account certificate.old certificate.new in
-        let outputs = stream O.account output.old output.new in
-        result ≡ status.Unreadable → Gives (AnswersInJson asked.now name.now certified_by.now plans certificates) status.Unreadable outputs
-        ⊎ BreaksOff (IsSomeAnswer (AnswersInJson asked.now name.now certified_by.now plans certificates)) outputs }
-    ensures no_memory { result ≡ status.NoMemory → output.new ≡ output.old }
     ensures in_order { IsWithoutPlan (stream P.account plan.old plan.new) → certificate.new ≡ certificate.old }
 {
     let answered = answer_certified(alloc, asked, name, certified_by, plan, certificate);
@@ -118,7 +112,7 @@ fn said_of_sources<P: Source, C: Source>(
         Ok(given) => said_of_certificate(alloc, asked, name, certified_by, &given, certificate),
         Err(unread) => {
             let (form, command) = (form_of(asked), command_of(asked));
-            Ok(unread_plan(alloc, form, command, name, &unread)?)
+            Ok(unread_input(alloc, form, command, name, Input::Plan, &unread)?)
         }
     }
 }
@@ -141,8 +135,8 @@ fn said_of_certificate<C: Source>(
         Ok(certificate) => Ok(said_of_both(alloc, asked, name, given, &certificate)?),
         Err(unread) => {
             let (form, command) = (form_of(asked), command_of(asked));
-            let plan = &given.plan;
-            Ok(unread_certificate(alloc, form, command, certified_by, plan, &unread)?)
+            let input = Input::Certificate;
+            Ok(unread_input(alloc, form, command, certified_by, input, &unread)?)
         }
     }
 }

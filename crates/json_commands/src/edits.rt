@@ -1,7 +1,6 @@
 //! Edits that were tried, as operations of a JSON patch (RFC 6902).
 ghost use Rattle.std.specs.Prelude.{◌≡◌, IfOk, map, string_bytes, ⊤};
 ghost use Rattle.net_json.specs.Finding.{step_value};
-ghost use Rattle.plan_texts.specs.EditLines.{kind_word};
 ghost use Rattle.serde_json.specs.View.{view};
 ghost use Rattle.json_commands.specs.Edits.{changed_data, edit_data, edit_pointer, left_data, op_of, owner_data, part_of_record, pool_data, row_data};
 ghost use Rattle.json_commands.specs.Lists.{IsListTold};
@@ -14,10 +13,10 @@ use fault_texts::{part_pointer, record_pointer, row_pointer};
 use mctp_transport::Eid;
 use net_explained::{Change, Edit, Tried};
 use net_json::PointerStep;
-use net_plan::{Kind, Plan, Pool, Row};
+use net_plan::{Plan, Pool, Row};
 use net_rules::CertifyError;
-use net_tables::lookup::rows_at;
-use plan_texts::{edit_line, name_or_dash, obstacle_words};
+use net_tables::lookup::{kind_word, node_name, rows_at};
+use plan_texts::{edit_line, obstacle_words};
 use serde_json::{Value, json};
 use std::alloc::{AllocError, Global};
 
@@ -142,20 +141,11 @@ fn changed_value(alloc: Global, plan: &Plan, change: &Change) -> Result<Value, A
     }
 }
 
-fn kind_word(kind: Kind) -> &'static str
-    ensures { result.now ≡ kind_word kind }
-{
-    match kind {
-        Kind::Bridge => "bridge",
-        Kind::Endpoint => "endpoint",
-    }
-}
-
 fn owner_value(alloc: Global, plan: &Plan, owner: Option<usize>) -> Result<Value, AllocError>
     ensures { IfOk result (λ value. view value ≡ owner_data plan.now owner) }
 {
     match owner {
-        Some(owner) => Value::try_from_str(alloc, name_or_dash(plan, owner)),
+        Some(owner) => Value::try_from_str(alloc, node_name(plan, owner)),
         None => Ok(Value::Null),
     }
 }
@@ -172,6 +162,6 @@ fn pool_value(alloc: Global, pool: Option<Pool>) -> Result<Value, AllocError>
 fn row_value(alloc: Global, plan: &Plan, row: &Row) -> Result<Value, AllocError>
     ensures { IfOk result (λ value. view value ≡ row_data plan.now row.now) }
 {
-    let next = name_or_dash(plan, row.next);
+    let next = node_name(plan, row.next);
     json!(in alloc; {"first": row.first.value, "next": next, "port": row.port, "size": row.size})
 }

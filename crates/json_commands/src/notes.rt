@@ -9,7 +9,7 @@ use crate::sentences::{lines_value, message_of};
 use crate::spots::number_or_null;
 use mctp_transport::Eid;
 use net_plan::Plan;
-use plan_texts::name_or_dash;
+use net_tables::lookup::node_name;
 use serde_json::{Value, json};
 use std::alloc::{AllocError, Global};
 
@@ -98,7 +98,7 @@ impl<'p> Listed for NodeWriter<'p> {
 pub fn node_value(alloc: Global, plan: &Plan, node: usize) -> Result<Value, AllocError>
     ensures { IfOk result (λ value. view value ≡ node_data plan.now node) }
 {
-    json!(in alloc; {"index": node, "name": name_or_dash(plan, node)})
+    json!(in alloc; {"index": node, "name": node_name(plan, node)})
 }
 
 /// A result (SARIF 2.1.0, section 3.27).

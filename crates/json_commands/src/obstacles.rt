@@ -22,7 +22,7 @@ use net_explained::{Cause, find_cause};
 use net_json::PointerStep;
 use net_plan::Plan;
 use net_rules::{CertifyError, Fault, FaultRun};
-use plan_texts::{index_for, obstacle_line};
+use plan_texts::{around, index_for, obstacle_line};
 use serde_json::Value;
 use std::alloc::{AllocError, Global};
 
@@ -127,17 +127,6 @@ fn nodes_of(alloc: Global, obstacle: &CertifyError) -> Result<Vec<usize>, AllocE
         CertifyError::Loop(_, nodes) => around(nodes).to_vec(alloc),
         CertifyError::BadChain(node, _) => [*node].to_vec(alloc),
         CertifyError::OutOfMemory => Ok(Vec::new(alloc)),
-    }
-}
-
-/// The nodes of a loop, each once: its list ends with the first node again.
-fn around(nodes: &[usize]) -> &[usize]
-    ensures { result.now ≡ around nodes.now }
-{
-    if nodes.is_empty() {
-        nodes
-    } else {
-        &nodes[..nodes.len() - 1]
     }
 }
 

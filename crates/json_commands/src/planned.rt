@@ -1,12 +1,12 @@
 //! Commands that read a plan alone, and answer in JSON.
-ghost use Rattle.std.specs.Prelude.{◌≡◌, ◌≢◌, ◌⊎◌, IfOk, IfErr};
+ghost use Rattle.std.specs.Prelude.{◌≡◌, ◌≢◌, IfOk, IfErr};
 ghost use Rattle.std.specs.Cow.{cow_str_bytes};
 ghost use Rattle.serde_json.specs.View.{view};
 ghost use Rattle.net_json.specs.Stream.{HasRoom};
 ghost use Rattle.command_answers.specs.declared.refused.Refused.TheVariants as refused;
 ghost use Rattle.command_answers.specs.declared.status.Status.TheVariants as status;
-ghost use Rattle.command_answers.specs.Answers.{stream, BreaksOff};
-ghost use Rattle.command_answers.specs.Told.{Gives, IsSomeAnswer, Ends};
+ghost use Rattle.command_answers.specs.Answers.{stream};
+ghost use Rattle.command_answers.specs.Told.{ConcludesOnOutput};
 ghost use Rattle.command_answers.specs.UnreadInputs.{IsTextOf};
 ghost use Rattle.json_commands.specs.Planned.{IsPlanSaid, IsSaidOfSource, SaysInJson, command_of, form_of};
 
@@ -15,8 +15,8 @@ use crate::faults::faults_of_plan;
 use crate::form::Form;
 use crate::linted::findings_of_plan;
 use crate::said::{Said, answer_of};
-use crate::unread::unread_plan;
-use command_answers::{Answer, PlanText, Refused, Status, plan_or_text, tell};
+use crate::unread::unread_input;
+use command_answers::{Answer, Input, PlanText, Refused, Status, plan_or_text, tell};
 use net_json::{Sink, Source};
 use std::alloc::{AllocError, Global};
 
@@ -44,16 +44,11 @@ pub fn run_planned_json<P: Source, O: Sink, E: Sink>(
     requires plan { HasRoom (P.account plan.old) }
     requires output { HasRoom (O.account output.old) }
     requires errors { HasRoom (E.account errors.old) }
-    ensures says { let plans = stream P.account plan.old plan.new in
-        Ends (SaysInJson asked name.now plans) (λ why. why ≡ refused.NoMemory) result
-        (stream O.account output.old output.new) (stream E.account errors.old errors.new) }
-    ensures silent { (result ≡ status.Yes) ⊎ (result ≡ status.Fault) → errors.new ≡ errors.old }
+    ensures concludes { let plans = stream P.account plan.old plan.new in
+        ConcludesOnOutput (SaysInJson asked name.now plans) result
+        (stream O.account output.old output.new) (stream E.account errors.old errors.new)
+        (output.new ≡ output.old) (errors.new ≡ errors.old) }
     ensures quiet { result ≢ status.NoMemory → (O.account output.new).failures ≡ (O.account output.old).failures → errors.new ≡ errors.old }
-    ensures unwritten { let plans = stream P.account plan.old plan.new in
-        let outputs = stream O.account output.old output.new in
-        result ≡ status.Unreadable → Gives (SaysInJson asked name.now plans) status.Unreadable outputs
-        ⊎ BreaksOff (IsSomeAnswer (SaysInJson asked name.now plans)) outputs }
-    ensures no_memory { result ≡ status.NoMemory → output.new ≡ output.old }
 {
     let answered = answer_planned(alloc, asked, name, plan);
     tell(alloc, answered, output, errors)
@@ -89,7 +84,7 @@ fn said_of_source<P: Source>(
         Ok(given) => Ok(said_of_plan(alloc, asked, name, &given)?),
         Err(unread) => {
             let (form, command) = (form_of(asked), command_of(asked));
-            Ok(unread_plan(alloc, form, command, name, &unread)?)
+            Ok(unread_input(alloc, form, command, name, Input::Plan, &unread)?)
         }
     }
 }

@@ -1,19 +1,11 @@
 //! What is told where there is no plan or no certificate, or where nothing has a name.
 ghost use Rattle.std.specs.Prelude.{◌≡◌, ◌+◌, IfOk, IsUtf8, Some, map, option_map};
 ghost use Rattle.json.specs.Value.{value_view};
-ghost use Rattle.net_json.specs.CertificateText.{IsCertificateOf};
 ghost use Rattle.net_json.specs.Finding.{step_value};
-ghost use Rattle.net_json.specs.PlanText.{IsPlanOf};
-ghost use Rattle.net_plan.specs.PlanValues.{node_names, plan_value};
 ghost use Rattle.net_pointers.specs.Offsets.{IsTextOf};
-ghost use Rattle.net_pointers.specs.declared.texts.TextTrouble.{TextTrouble};
-ghost use Rattle.net_pointers.specs.TextTroubles.{IsToldOfCertificateText, IsToldOfPlanText};
-ghost use Rattle.reading_texts.specs.ReadingLines.{unread_code};
 ghost use Rattle.serde_json.specs.View.{view};
 ghost use Rattle.command_answers.specs.declared.status.Status.TheVariants as status;
-ghost use Rattle.command_answers.specs.Answers.{Stream};
-ghost use Rattle.command_answers.specs.UnreadInputs.{IsNoCertificateBy, IsNoPlanBy, StandsForNothing};
-ghost use Rattle.json_commands.specs.Unread.{AreCertificatePlaces, AreEventsPlaces, AreKeysPlaced, AreNowhere, ArePlaces, ArePlanPlaces, ArePointersPlaced, AreUnreadPlaces, IsCertificateUnreadSaid, IsPlanUnreadSaid, IsUnknownSaid, IsUnreadSaid, code_of, entry_pointer, offset_of, range_pointer};
+ghost use Rattle.json_commands.specs.Unread.{AreKeysPlaced, AreNowhere, ArePlaces, ArePointersPlaced, AreTroublePlaces, AreUnreadPlaces, IsInputUnreadSaid, IsUnknownSaid, IsUnreadSaid, code_of, entry_pointer, offset_of, range_pointer};
 
 use crate::form::Form;
 use crate::lists::{empty_list, list_of_one};
@@ -22,15 +14,15 @@ use crate::places::{Placing, place_of};
 use crate::reports::report;
 use crate::said::Said;
 use crate::spots::spot_of;
-use command_answers::{Status, Unread};
-use explain_commands::{certificate_text, plan_text};
+use command_answers::{Input, Status, Unread};
+use explain_commands::unread_text;
 use json::{Scratch, Value as Tree};
-use net_json::{PlanError, PointerStep, json_of};
-use net_plan::Plan;
+use net_json::{PointerStep, json_of};
 use net_pointers::{
-    CertificateTrouble, DoubledKey, EventsTrouble, JsonFault, Overlap, PlanTrouble, TextTrouble,
-    TwoIndices, certificate_text_trouble, list_key, offset_of_key, plan_text_trouble,
+    DoubledKey, JsonFault, NameList, Overlap, TextTrouble, Trouble, TwoIndices, list_key, name_key,
+    offset_of_key,
 };
+use reading_texts::unread_code;
 use serde_json::Value;
 use std::alloc::{AllocError, Global};
 
@@ -41,39 +33,19 @@ struct Places {
     related: Value,
 }
 
-/// What a command answers where a source gave no plan.
-pub fn unread_plan(
+/// What a command answers where a source gave nothing to read for an input. The name is that of its file.
+pub fn unread_input(
     alloc: Global,
     form: Form,
     command: &str,
     name: &str,
+    input: Input,
     unread: &Unread,
 ) -> Result<Said, AllocError>
-    requires { StandsForNothing IsPlanOf unread.now }
-    ensures { IfOk result (λ said. (said.status ≡ status.Unreadable)
-        × ((plans : Stream) → IsNoPlanBy plans unread.now → IsPlanUnreadSaid form command.now name.now plans unread.now (view said.value))) }
+    ensures { IfOk result (λ said. (said.status ≡ status.Unreadable) × IsInputUnreadSaid form command.now name.now input unread.now (view said.value)) }
 {
-    let words = plan_text(alloc, unread)?;
-    let places = plan_places(alloc, form, name, unread)?;
-    Ok(unread_said(alloc, form, command, code_of(unread), places, &words)?)
-}
-
-/// What a command answers where a source gave no certificate of a plan. The name is that of the certificate's file.
-pub fn unread_certificate(
-    alloc: Global,
-    form: Form,
-    command: &str,
-    certified_by: &str,
-    plan: &Plan,
-    unread: &Unread,
-) -> Result<Said, AllocError>
-    requires { StandsForNothing (IsCertificateOf (plan_value plan.now)) unread.now }
-    ensures { IfOk result (λ said. (said.status ≡ status.Unreadable)
-        × ((certificates : Stream) → IsNoCertificateBy plan.now certificates unread.now
-        → IsCertificateUnreadSaid form command.now certified_by.now plan.now certificates unread.now (view said.value))) }
-{
-    let words = certificate_text(alloc, plan, unread)?;
-    let places = certificate_places(alloc, form, certified_by, plan, unread)?;
+    let words = unread_text(alloc, input, unread)?;
+    let places = unread_places(alloc, form, name, unread)?;
     Ok(unread_said(alloc, form, command, code_of(unread), places, &words)?)
 }
 
@@ -134,25 +106,7 @@ fn code_of(unread: &Unread) -> &'static str
         Unread::NoMemory => "no memory",
         Unread::Failed => "file",
         Unread::TooLong => "J08",
-        Unread::Text { cause, .. } => code_of_cause(*cause),
-    }
-}
-
-fn code_of_cause(cause: PlanError) -> &'static str
-    ensures { result.now ≡ unread_code cause }
-{
-    match cause {
-        PlanError::NotJson => "J01",
-        PlanError::WrongKind => "J02",
-        PlanError::MissingKey => "J03",
-        PlanError::UnknownKey => "J04",
-        PlanError::OutOfRange => "J05",
-        PlanError::UnknownName => "J06",
-        PlanError::BadHex => "J07",
-        PlanError::OverLimit => "J08",
-        PlanError::Doubled => "J09",
-        PlanError::Device => "file",
-        PlanError::OutOfMemory => "no memory",
+        Unread::Text { fault, .. } => unread_code(fault.trouble.cause()),
     }
 }
 
@@ -167,67 +121,26 @@ fn nowhere(alloc: Global, form: Form, name: &str) -> Result<Places, AllocError>
     Ok(Places { place, related })
 }
 
-fn plan_places(alloc: Global, form: Form, name: &str, unread: &Unread) -> Result<Places, AllocError>
-    requires { StandsForNothing IsPlanOf unread.now }
-    ensures { IfOk result (λ places. AreUnreadPlaces IsToldOfPlanText form name.now unread.now (view places.place) (view places.related)) }
-{
-    match unread {
-        Unread::Text { text, .. } => Ok(plan_text_places(alloc, form, name, text)?),
-        Unread::Failed | Unread::TooLong => Ok(nowhere(alloc, form, name)?),
-        Unread::NoMemory => Err(AllocError),
-    }
-}
-
-/// Where the first fault of the text of a plan stands. A text that is a plan has none.
-fn plan_text_places(
+/// Where the text of a source has its first fault, if it gave one.
+fn unread_places(
     alloc: Global,
     form: Form,
     name: &str,
-    text: &[u8],
-) -> Result<Places, AllocError>
-    ensures { IfOk result (λ places. (found : TextTrouble) × IsToldOfPlanText text.now (Some found) × ArePlaces form name.now text.now found (view places.place) (view places.related)) }
-{
-    match plan_text_trouble(alloc, text)? {
-        Some(trouble) => Ok(trouble_places(alloc, form, name, text, &trouble)?),
-        None => Err(AllocError),
-    }
-}
-
-fn certificate_places(
-    alloc: Global,
-    form: Form,
-    name: &str,
-    plan: &Plan,
     unread: &Unread,
 ) -> Result<Places, AllocError>
-    requires { StandsForNothing (IsCertificateOf (plan_value plan.now)) unread.now }
-    ensures { IfOk result (λ places. AreUnreadPlaces (IsToldOfCertificateText (node_names (plan_value plan.now).nodes)) form name.now unread.now (view places.place) (view places.related)) }
+    ensures { IfOk result (λ places. AreUnreadPlaces form name.now unread.now (view places.place) (view places.related)) }
 {
     match unread {
-        Unread::Text { text, .. } => { Ok(certificate_text_places(alloc, form, name, plan, text)?) }
+        Unread::Text { text, fault } => {
+            Ok(text_places(alloc, form, name, text, &fault.trouble)?)
+        }
         Unread::Failed | Unread::TooLong => Ok(nowhere(alloc, form, name)?),
         Unread::NoMemory => Err(AllocError),
-    }
-}
-
-/// The same of the text of a certificate.
-fn certificate_text_places(
-    alloc: Global,
-    form: Form,
-    name: &str,
-    plan: &Plan,
-    text: &[u8],
-) -> Result<Places, AllocError>
-    ensures { IfOk result (λ places. (found : TextTrouble) × IsToldOfCertificateText (node_names (plan_value plan.now).nodes) text.now (Some found) × ArePlaces form name.now text.now found (view places.place) (view places.related)) }
-{
-    match certificate_text_trouble(alloc, plan, text)? {
-        Some(trouble) => Ok(trouble_places(alloc, form, name, text, &trouble)?),
-        None => Err(AllocError),
     }
 }
 
 /// Where in a text its trouble is.
-fn trouble_places(
+fn text_places(
     alloc: Global,
     form: Form,
     name: &str,
@@ -243,11 +156,7 @@ fn trouble_places(
             let related = empty_list(alloc);
             Ok(Places { place, related })
         }
-        TextTrouble::Plan(found) => Ok(plan_trouble_places(alloc, form, name, text, found)?),
-        TextTrouble::Certificate(found) => {
-            Ok(certificate_trouble_places(alloc, form, name, text, found)?)
-        }
-        TextTrouble::Events(found) => Ok(events_trouble_places(alloc, form, name, text, found)?),
+        TextTrouble::Wrong(trouble) => Ok(trouble_places(alloc, form, name, text, trouble)?),
     }
 }
 
@@ -260,49 +169,25 @@ fn offset_of(fault: JsonFault) -> usize
     }
 }
 
-fn plan_trouble_places(
+/// Where in a text that is JSON its trouble is.
+fn trouble_places(
     alloc: Global,
     form: Form,
     name: &str,
     text: &[u8],
-    trouble: &PlanTrouble,
+    trouble: &Trouble,
 ) -> Result<Places, AllocError>
-    ensures { IfOk result (λ places. ArePlanPlaces form name.now text.now trouble.now (view places.place) (view places.related)) }
+    ensures { IfOk result (λ places. AreTroublePlaces form name.now text.now trouble.now (view places.place) (view places.related)) }
 {
     match trouble {
-        PlanTrouble::Value(found) | PlanTrouble::UnknownName(found) => {
+        Trouble::Value(found) | Trouble::UnknownName(found) => {
             Ok(pointer_places(alloc, form, name, text, &found.pointer, None)?)
         }
-        PlanTrouble::DoubledBus(twins) => {
-            Ok(twin_places(alloc, form, name, text, "buses", *twins, "name")?)
+        Trouble::DoubledName(list, indices) => {
+            Ok(twin_places(alloc, form, name, text, *list, *indices)?)
         }
-        PlanTrouble::DoubledKey(doubled) => Ok(key_places(alloc, form, name, text, doubled)?),
-    }
-}
-
-fn certificate_trouble_places(
-    alloc: Global,
-    form: Form,
-    name: &str,
-    text: &[u8],
-    trouble: &CertificateTrouble,
-) -> Result<Places, AllocError>
-    ensures { IfOk result (λ places. AreCertificatePlaces form name.now text.now trouble.now (view places.place) (view places.related)) }
-{
-    match trouble {
-        CertificateTrouble::Value(found) | CertificateTrouble::UnknownName(found) => {
-            Ok(pointer_places(alloc, form, name, text, &found.pointer, None)?)
-        }
-        CertificateTrouble::DoubledNode(list, twins) => {
-            let key = list_key(*list);
-            Ok(twin_places(alloc, form, name, text, key, *twins, "node")?)
-        }
-        CertificateTrouble::Overlap(overlap) => {
-            Ok(overlap_places(alloc, form, name, text, *overlap)?)
-        }
-        CertificateTrouble::DoubledKey(doubled) => Ok(key_places(
-            alloc, form, name, text, doubled,
-        )?),
+        Trouble::Overlap(overlap) => Ok(overlap_places(alloc, form, name, text, *overlap)?),
+        Trouble::DoubledKey(doubled) => Ok(key_places(alloc, form, name, text, doubled)?),
     }
 }
 
@@ -312,14 +197,13 @@ fn twin_places(
     form: Form,
     name: &str,
     text: &[u8],
-    list: &'static str,
+    list: NameList,
     twins: TwoIndices,
-    key: &'static str,
 ) -> Result<Places, AllocError>
-    ensures { IfOk result (λ places. ArePointersPlaced form name.now text.now (entry_pointer list.now twins.second key.now) (Some (entry_pointer list.now twins.first key.now)) (view places.place) (view places.related)) }
+    ensures { IfOk result (λ places. ArePointersPlaced form name.now text.now (entry_pointer list twins.second) (Some (entry_pointer list twins.first)) (view places.place) (view places.related)) }
 {
-    let first = entry_pointer(alloc, list, twins.first, key)?;
-    let second = entry_pointer(alloc, list, twins.second, key)?;
+    let first = entry_pointer(alloc, list, twins.first)?;
+    let second = entry_pointer(alloc, list, twins.second)?;
     Ok(pointer_places(alloc, form, name, text, &second, Some(&first))?)
 }
 
@@ -355,23 +239,6 @@ fn range_places(
     let first = range_pointer(alloc, entry, range)?;
     let second = range_pointer(alloc, entry, next)?;
     Ok(pointer_places(alloc, form, name, text, &second, Some(&first))?)
-}
-
-fn events_trouble_places(
-    alloc: Global,
-    form: Form,
-    name: &str,
-    text: &[u8],
-    trouble: &EventsTrouble,
-) -> Result<Places, AllocError>
-    ensures { IfOk result (λ places. AreEventsPlaces form name.now text.now trouble.now (view places.place) (view places.related)) }
-{
-    match trouble {
-        EventsTrouble::Value(found) | EventsTrouble::UnknownName(found) => {
-            Ok(pointer_places(alloc, form, name, text, &found.pointer, None)?)
-        }
-        EventsTrouble::DoubledKey(doubled) => Ok(key_places(alloc, form, name, text, doubled)?),
-    }
 }
 
 /// Where pointers lead.
@@ -458,19 +325,18 @@ fn keys_in(
     }
 }
 
-/// The pointer to what an entry of a list says at a key.
+/// The pointer to the name of an entry of a list.
 fn entry_pointer(
     alloc: Global,
-    list: &'static str,
+    list: NameList,
     entry: usize,
-    key: &'static str,
 ) -> Result<Vec<PointerStep>, AllocError>
-    ensures { IfOk result (λ pointer. map step_value pointer.items ≡ entry_pointer list.now entry key.now) }
+    ensures { IfOk result (λ pointer. map step_value pointer.items ≡ entry_pointer list entry) }
 {
     [
-        PointerStep::Key(list),
+        PointerStep::Key(list_key(list)),
         PointerStep::Index(entry),
-        PointerStep::Key(key),
+        PointerStep::Key(name_key(list)),
     ]
     .to_vec(alloc)
 }

@@ -29,6 +29,35 @@ use std::env;
 use std::io::IsTerminal;
 use std::process::ExitCode;
 
+/// Runs a command over the files at these paths and the standard streams. Behind its name stands what else it is asked.
+macro_rules! over {
+    ($rt:expr, $run:ident($($asked:expr),*), $($path:expr),*) => {
+        $run(
+            $rt.alloc(),
+            $($asked,)*
+            $(&mut file($rt, $path),)*
+            &mut Counted::new($rt.stdout()),
+            &mut Counted::new($rt.stderr()),
+        )
+    };
+}
+
+/// The same, and standard error tells the path of each file that can't be opened or read, and the system's reason.
+macro_rules! over_told {
+    ($rt:expr, $run:ident($($asked:expr),*), $($file:ident = $path:expr),*) => {{
+        $(let mut $file = file($rt, $path);)*
+        let status = $run(
+            $rt.alloc(),
+            $($asked,)*
+            $(&mut $file,)*
+            &mut Counted::new($rt.stdout()),
+            &mut Counted::new($rt.stderr()),
+        );
+        $($file.inner().tell_failure($rt.alloc(), &mut Counted::new($rt.stderr()));)*
+        status
+    }};
+}
+
 fn main(rt: HostRuntime) -> ExitCode {
     ExitCode::from(run(&rt).number())
 }
@@ -68,34 +97,20 @@ fn run_command<'a>(rt: &'a HostRuntime, command: Subcommand<'a>) -> Status {
             certificate,
         } => certified(rt, &question, plan, certificate),
         Subcommand::Planned { question, plan } => planned(rt, &question, plan),
-        Subcommand::Explain {
-            plan,
-            certificate: Some(certificate),
-        } => explain_certified(rt, plan, certificate),
-        Subcommand::Explain {
-            plan,
-            certificate: None,
-        } => explain(rt, plan),
+        Subcommand::Explain { plan, certificate } => explain(rt, plan, certificate),
         Subcommand::ExplainEvents {
             plan,
             certificate,
             events,
         } => explain_events(rt, plan, certificate, events),
-        Subcommand::ExplainMove { before, after } => explain_move(rt, before, after),
+        Subcommand::ExplainMove { old, new } => explain_move(rt, old, new),
         Subcommand::Fix { plan } => fix(rt, plan),
         Subcommand::Require {
             plan,
             certificate,
             wanted,
         } => require(rt, plan, certificate, wanted),
-        Subcommand::Make {
-            board,
-            certificate: None,
-        } => make(rt, board),
-        Subcommand::Make {
-            board,
-            certificate: Some(certificate),
-        } => make_certified(rt, board, certificate),
+        Subcommand::Make { board, certificate } => make(rt, board, certificate),
         Subcommand::Sim {
             plan,
             certificate,
@@ -113,28 +128,19 @@ fn run_command<'a>(rt: &'a HostRuntime, command: Subcommand<'a>) -> Status {
             certificate,
         } => write_script(rt, &script, plan, certificate),
         Subcommand::Move {
-            before,
-            after,
+            old,
+            new,
             certificate,
-        } => check_move(rt, before, after, certificate),
-        Subcommand::CertifyMove { before, after } => certify_move(rt, before, after),
-        Subcommand::Diff { before, after } => tell_changes(rt, before, after),
-        Subcommand::Rollout {
-            before,
-            after,
-            folder: None,
-        } => roll_out(rt, before, after),
-        Subcommand::Rollout {
-            before,
-            after,
-            folder: Some(folder),
-        } => roll_out_into(rt, before, after, folder),
+        } => check_move(rt, old, new, certificate),
+        Subcommand::CertifyMove { old, new } => certify_move(rt, old, new),
+        Subcommand::Diff { old, new } => tell_changes(rt, old, new),
+        Subcommand::Rollout { old, new, folder } => roll_out(rt, old, new, folder),
         Subcommand::SimMove {
-            before,
-            after,
+            old,
+            new,
             certificate,
             events,
-        } => play_move(rt, [before, after, certificate, events]),
+        } => play_move(rt, [old, new, certificate, events]),
         Subcommand::Export {
             export,
             plan,
@@ -144,14 +150,7 @@ fn run_command<'a>(rt: &'a HostRuntime, command: Subcommand<'a>) -> Status {
         Subcommand::Known { text } => tell(rt, text),
         Subcommand::Worded { question, words } => say(rt, question, words),
         Subcommand::Show { kind, hex } => show(rt, kind, hex),
-        Subcommand::Decode {
-            capture,
-            plan: None,
-        } => decode(rt, capture),
-        Subcommand::Decode {
-            capture,
-            plan: Some(plan),
-        } => decode_named(rt, plan, capture),
+        Subcommand::Decode { capture, plan } => decode(rt, capture, plan),
         Subcommand::Audit {
             bus,
             plan,
@@ -168,14 +167,7 @@ fn run_command<'a>(rt: &'a HostRuntime, command: Subcommand<'a>) -> Status {
             certificate,
             events,
         } => capture_run(rt, plan, certificate, events),
-        Subcommand::Report {
-            plan,
-            certificate: None,
-        } => report(rt, plan),
-        Subcommand::Report {
-            plan,
-            certificate: Some(certificate),
-        } => report_certified(rt, plan, certificate),
+        Subcommand::Report { plan, certificate } => report(rt, plan, certificate),
         Subcommand::PlannedJson { asked, plan } => planned_in_json(rt, asked, plan),
         Subcommand::CertifiedJson {
             asked,
@@ -203,18 +195,7 @@ fn certified<'a>(
     plan: &'a str,
     certificate: &'a str,
 ) -> Status {
-    let mut plan_file = file(rt, plan);
-    let mut certificate = file(rt, certificate);
-    let mut output = Counted::new(rt.stdout());
-    let mut errors = Counted::new(rt.stderr());
-    let status = run_certified(
-        rt.alloc(),
-        question,
-        &mut plan_file,
-        &mut certificate,
-        &mut output,
-        &mut errors,
-    );
+    let status = over!(rt, run_certified(question), plan, certificate);
     if status == Status::Unreadable && rt.stderr().is_terminal() {
         tell_nodes(rt, question, plan);
     }
@@ -232,10 +213,7 @@ fn tell_nodes<'a>(rt: &'a HostRuntime, question: &Question<'a>, plan: &'a str) {
 
 /// Answers a question about a plan.
 fn planned<'a>(rt: &'a HostRuntime, question: &PlanQuestion<'a>, plan: &'a str) -> Status {
-    let mut plan = file(rt, plan);
-    let mut output = Counted::new(rt.stdout());
-    let mut errors = Counted::new(rt.stderr());
-    run_planned(rt.alloc(), question, &mut plan, &mut output, &mut errors)
+    over!(rt, run_planned(question), plan)
 }
 
 /// Tells which wishes for ways a plan doesn't meet.
@@ -245,23 +223,14 @@ fn require<'a>(
     certificate: &'a str,
     wanted: &'a str,
 ) -> Status {
-    let mut plan = file(rt, plan);
-    let mut certificate = file(rt, certificate);
-    let mut wanted = file(rt, wanted);
-    let mut output = Counted::new(rt.stdout());
-    let mut errors = Counted::new(rt.stderr());
-    run_require(
-        rt.alloc(),
-        &mut plan,
-        &mut certificate,
-        &mut wanted,
-        &mut output,
-        &mut errors,
-    )
+    over!(rt, run_require(), plan, certificate, wanted)
 }
 
-/// Makes a plan of a board.
-fn make<'a>(rt: &'a HostRuntime, board: &'a str) -> Status {
+/// Makes a plan of a board, and its certificate where a file for it is given.
+fn make<'a>(rt: &'a HostRuntime, board: &'a str, certificate: Option<&'a str>) -> Status {
+    if let Some(path) = certificate {
+        return make_certified(rt, board, path);
+    }
     let files = FilesBeside::new(rt, board);
     let mut board = file(rt, board);
     let mut output = Counted::new(rt.stdout());
@@ -294,38 +263,12 @@ fn make_certified<'a>(rt: &'a HostRuntime, board: &'a str, path: &'a str) -> Sta
 
 /// Plays events in the network of a plan.
 fn play<'a>(rt: &'a HostRuntime, plan: &'a str, certificate: &'a str, events: &'a str) -> Status {
-    let mut plan = file(rt, plan);
-    let mut certificate = file(rt, certificate);
-    let mut events = file(rt, events);
-    let mut output = Counted::new(rt.stdout());
-    let mut errors = Counted::new(rt.stderr());
-    simulate(
-        rt.alloc(),
-        &mut plan,
-        &mut certificate,
-        &mut events,
-        &mut output,
-        &mut errors,
-    )
+    over!(rt, simulate(), plan, certificate, events)
 }
 
 /// Compares what `sim` prints with lines. The files are the plan, the certificate, the events and the lines.
 fn expect<'a>(rt: &'a HostRuntime, [plan, certificate, events, lines]: [&'a str; 4]) -> Status {
-    let mut plan = file(rt, plan);
-    let mut certificate = file(rt, certificate);
-    let mut events = file(rt, events);
-    let mut lines = file(rt, lines);
-    let mut output = Counted::new(rt.stdout());
-    let mut errors = Counted::new(rt.stderr());
-    run_expect(
-        rt.alloc(),
-        &mut plan,
-        &mut certificate,
-        &mut events,
-        &mut lines,
-        &mut output,
-        &mut errors,
-    )
+    over!(rt, run_expect(), plan, certificate, events, lines)
 }
 
 /// Makes the events of a walk over the network of a plan.
@@ -335,28 +278,8 @@ fn write_script<'a>(
     plan: &'a str,
     certificate: &'a str,
 ) -> Status {
-    let mut plan_file = file(rt, plan);
-    let mut certificate = file(rt, certificate);
-    let mut output = Counted::new(rt.stdout());
-    let mut errors = Counted::new(rt.stderr());
-    let status = run_script(
-        rt.alloc(),
-        script,
-        &mut plan_file,
-        &mut certificate,
-        &mut output,
-        &mut errors,
-    );
-    if status == Status::Unreadable && plan != "-" && rt.stderr().is_terminal() {
-        let mut plan = file(rt, plan);
-        hint_node(
-            rt.alloc(),
-            script.node,
-            &mut plan,
-            &mut Counted::new(rt.stderr()),
-        );
-    }
-    status
+    let status = over!(rt, run_script(script), plan, certificate);
+    with_hint(rt, status, script.node, plan)
 }
 
 /// Writes what a node of a plan is in some form. The words have the links of the buses.
@@ -373,26 +296,16 @@ fn export_node<'a>(
         Ok(links) => links,
         Err(refused) => return refuse(alloc, refused, &mut errors),
     };
-    let mut plan_file = file(rt, plan);
-    let mut certificate = file(rt, certificate);
-    let mut output = Counted::new(rt.stdout());
-    let status = run_export(
-        alloc,
-        export,
-        &links,
-        &mut plan_file,
-        &mut certificate,
-        &mut output,
-        &mut errors,
-    );
+    let status = over!(rt, run_export(export, &links), plan, certificate);
+    with_hint(rt, status, export.node, plan)
+}
+
+/// Says at a terminal whether the plan has a node of the name, where a command ended in an input that can't be read.
+/// Standard input can't be read once more.
+fn with_hint<'a>(rt: &'a HostRuntime, status: Status, node: &str, plan: &'a str) -> Status {
     if status == Status::Unreadable && plan != "-" && rt.stderr().is_terminal() {
-        let mut plan = file(rt, plan);
-        hint_node(
-            alloc,
-            export.node,
-            &mut plan,
-            &mut Counted::new(rt.stderr()),
-        );
+        let mut errors = Counted::new(rt.stderr());
+        hint_node(rt.alloc(), node, &mut file(rt, plan), &mut errors);
     }
     status
 }
@@ -404,64 +317,30 @@ fn check_move<'a>(
     after: &'a str,
     certificate: &'a str,
 ) -> Status {
-    let mut before = file(rt, before);
-    let mut after = file(rt, after);
-    let mut certificate = file(rt, certificate);
-    let mut output = Counted::new(rt.stdout());
-    let mut errors = Counted::new(rt.stderr());
-    run_move(
-        rt.alloc(),
-        &mut before,
-        &mut after,
-        &mut certificate,
-        &mut output,
-        &mut errors,
-    )
+    over!(rt, run_move(), before, after, certificate)
 }
 
 /// Makes the certificate of a move from one plan to another.
 fn certify_move<'a>(rt: &'a HostRuntime, before: &'a str, after: &'a str) -> Status {
-    let mut before = file(rt, before);
-    let mut after = file(rt, after);
-    let mut output = Counted::new(rt.stdout());
-    let mut errors = Counted::new(rt.stderr());
-    run_certify_move(
-        rt.alloc(),
-        &mut before,
-        &mut after,
-        &mut output,
-        &mut errors,
-    )
+    over!(rt, run_certify_move(), before, after)
 }
 
 /// Tells what the change from one plan to another does.
 fn tell_changes<'a>(rt: &'a HostRuntime, before: &'a str, after: &'a str) -> Status {
-    let mut before = file(rt, before);
-    let mut after = file(rt, after);
-    let mut output = Counted::new(rt.stdout());
-    let mut errors = Counted::new(rt.stderr());
-    run_diff(
-        rt.alloc(),
-        &mut before,
-        &mut after,
-        &mut output,
-        &mut errors,
-    )
+    over!(rt, run_diff(), before, after)
 }
 
-/// Tells the steps from the rows of one plan to those of another.
-fn roll_out<'a>(rt: &'a HostRuntime, before: &'a str, after: &'a str) -> Status {
-    let mut before = file(rt, before);
-    let mut after = file(rt, after);
-    let mut output = Counted::new(rt.stdout());
-    let mut errors = Counted::new(rt.stderr());
-    run_rollout(
-        rt.alloc(),
-        &mut before,
-        &mut after,
-        &mut output,
-        &mut errors,
-    )
+/// Tells the steps from the rows of one plan to those of another, and writes their files where a folder is given.
+fn roll_out<'a>(
+    rt: &'a HostRuntime,
+    before: &'a str,
+    after: &'a str,
+    folder: Option<&'a str>,
+) -> Status {
+    match folder {
+        None => over!(rt, run_rollout(), before, after),
+        Some(folder) => roll_out_into(rt, before, after, folder),
+    }
 }
 
 /// The same, and writes the files of the steps into a folder. Where that fails, standard error tells the path and the
@@ -496,21 +375,7 @@ fn play_move<'a>(
     rt: &'a HostRuntime,
     [before, after, certificate, events]: [&'a str; 4],
 ) -> Status {
-    let mut before = file(rt, before);
-    let mut after = file(rt, after);
-    let mut certificate = file(rt, certificate);
-    let mut events = file(rt, events);
-    let mut output = Counted::new(rt.stdout());
-    let mut errors = Counted::new(rt.stderr());
-    simulate_move(
-        rt.alloc(),
-        &mut before,
-        &mut after,
-        &mut certificate,
-        &mut events,
-        &mut output,
-        &mut errors,
-    )
+    over!(rt, simulate_move(), before, after, certificate, events)
 }
 
 /// Prints a text of the program itself.
@@ -534,27 +399,12 @@ fn show(rt: &HostRuntime, kind: ShownKind, hex: &str) -> Status {
     run_show(rt.alloc(), kind, hex, &mut output, &mut errors)
 }
 
-/// Tells what became of each entry of a capture.
-fn decode<'a>(rt: &'a HostRuntime, capture: &'a str) -> Status {
-    let mut capture = file(rt, capture);
-    let mut output = Counted::new(rt.stdout());
-    let mut errors = Counted::new(rt.stderr());
-    run_decode(rt.alloc(), &mut capture, &mut output, &mut errors)
-}
-
-/// The same with the names of a plan.
-fn decode_named<'a>(rt: &'a HostRuntime, plan: &'a str, capture: &'a str) -> Status {
-    let mut plan = file(rt, plan);
-    let mut capture = file(rt, capture);
-    let mut output = Counted::new(rt.stdout());
-    let mut errors = Counted::new(rt.stderr());
-    run_decode_named(
-        rt.alloc(),
-        &mut plan,
-        &mut capture,
-        &mut output,
-        &mut errors,
-    )
+/// Tells what became of each entry of a capture, with the names of a plan where there is one.
+fn decode<'a>(rt: &'a HostRuntime, capture: &'a str, plan: Option<&'a str>) -> Status {
+    match plan {
+        None => over!(rt, run_decode(), capture),
+        Some(plan) => over!(rt, run_decode_named(), plan, capture),
+    }
 }
 
 /// Tells what the devices of a capture said, beside a plan. The files are the plan, the certificate and the capture.
@@ -563,20 +413,7 @@ fn audit<'a>(
     bus: Option<&'a str>,
     [plan, certificate, capture]: [&'a str; 3],
 ) -> Status {
-    let mut plan = file(rt, plan);
-    let mut certificate = file(rt, certificate);
-    let mut capture = file(rt, capture);
-    let mut output = Counted::new(rt.stdout());
-    let mut errors = Counted::new(rt.stderr());
-    run_audit(
-        rt.alloc(),
-        bus,
-        &mut plan,
-        &mut certificate,
-        &mut capture,
-        &mut output,
-        &mut errors,
-    )
+    over!(rt, run_audit(bus), plan, certificate, capture)
 }
 
 /// Answers the packets on standard input as a node of a plan does.
@@ -586,30 +423,16 @@ fn emulate<'a>(
     plan: &'a str,
     certificate: &'a str,
 ) -> Status {
-    let mut plan_file = file(rt, plan);
-    let mut certificate = file(rt, certificate);
-    let mut packets = Counted::new(rt.stdin());
-    let mut output = Counted::new(rt.stdout());
-    let mut errors = Counted::new(rt.stderr());
     let status = run_emulate(
         rt.alloc(),
         emulation,
-        &mut plan_file,
-        &mut certificate,
-        &mut packets,
-        &mut output,
-        &mut errors,
+        &mut file(rt, plan),
+        &mut file(rt, certificate),
+        &mut Counted::new(rt.stdin()),
+        &mut Counted::new(rt.stdout()),
+        &mut Counted::new(rt.stderr()),
     );
-    if status == Status::Unreadable && rt.stderr().is_terminal() {
-        let mut plan = file(rt, plan);
-        hint_node(
-            rt.alloc(),
-            emulation.node,
-            &mut plan,
-            &mut Counted::new(rt.stderr()),
-        );
-    }
-    status
+    with_hint(rt, status, emulation.node, plan)
 }
 
 /// Plays events in the network of a plan, and writes a capture file of its packets.
@@ -619,56 +442,21 @@ fn capture_run<'a>(
     certificate: &'a str,
     events: &'a str,
 ) -> Status {
-    let mut plan = file(rt, plan);
-    let mut certificate = file(rt, certificate);
-    let mut events = file(rt, events);
-    let mut output = Counted::new(rt.stdout());
-    let mut errors = Counted::new(rt.stderr());
-    run_capture(
-        rt.alloc(),
-        &mut plan,
-        &mut certificate,
-        &mut events,
-        &mut output,
-        &mut errors,
-    )
+    over!(rt, run_capture(), plan, certificate, events)
 }
 
-/// Writes the page about a plan.
-fn report<'a>(rt: &'a HostRuntime, name: &'a str) -> Status {
-    let mut plan = file(rt, name);
-    let mut output = Counted::new(rt.stdout());
-    let mut errors = Counted::new(rt.stderr());
-    run_report(rt.alloc(), name, &mut plan, &mut output, &mut errors)
-}
-
-/// Writes the page about a plan with its certificate.
-fn report_certified<'a>(rt: &'a HostRuntime, name: &'a str, certificate: &'a str) -> Status {
-    let mut plan = file(rt, name);
-    let mut certificate = file(rt, certificate);
-    let mut output = Counted::new(rt.stdout());
-    let mut errors = Counted::new(rt.stderr());
-    run_report_certified(
-        rt.alloc(),
-        name,
-        &mut plan,
-        &mut certificate,
-        &mut output,
-        &mut errors,
-    )
+/// Writes the page about a plan, with its certificate where there is one.
+fn report<'a>(rt: &'a HostRuntime, name: &'a str, certificate: Option<&'a str>) -> Status {
+    match certificate {
+        None => over!(rt, run_report(name), name),
+        Some(certificate) => over!(rt, run_report_certified(name), name, certificate),
+    }
 }
 
 /// Answers a question about a plan in JSON. Where its file can't be opened or read, standard error tells the path and the
 /// system's reason.
 fn planned_in_json<'a>(rt: &'a HostRuntime, asked: PlanJson, name: &'a str) -> Status {
-    let alloc = rt.alloc();
-    let mut plan = file(rt, name);
-    let mut output = Counted::new(rt.stdout());
-    let mut errors = Counted::new(rt.stderr());
-    let status = run_planned_json(alloc, asked, name, &mut plan, &mut output, &mut errors);
-    plan.inner()
-        .tell_failure(alloc, &mut Counted::new(rt.stderr()));
-    status
+    over_told!(rt, run_planned_json(asked, name), plan = name)
 }
 
 /// The same of a plan with its certificate.
@@ -678,134 +466,57 @@ fn certified_in_json<'a>(
     name: &'a str,
     certified_by: &'a str,
 ) -> Status {
-    let alloc = rt.alloc();
-    let mut plan = file(rt, name);
-    let mut certificate = file(rt, certified_by);
-    let mut output = Counted::new(rt.stdout());
-    let mut errors = Counted::new(rt.stderr());
-    let status = run_certified_json(
-        alloc,
-        asked,
-        name,
-        certified_by,
-        &mut plan,
-        &mut certificate,
-        &mut output,
-        &mut errors,
-    );
-    plan.inner()
-        .tell_failure(alloc, &mut Counted::new(rt.stderr()));
-    certificate
-        .inner()
-        .tell_failure(alloc, &mut Counted::new(rt.stderr()));
-    status
+    over_told!(
+        rt,
+        run_certified_json(asked, name, certified_by),
+        plan = name,
+        certificate = certified_by
+    )
 }
 
-/// Explains a plan. Where its file can't be opened or read, standard error tells the path and the system's reason.
-fn explain<'a>(rt: &'a HostRuntime, name: &'a str) -> Status {
-    let alloc = rt.alloc();
-    let mut plan = file(rt, name);
-    let mut output = Counted::new(rt.stdout());
-    let mut errors = Counted::new(rt.stderr());
-    let status = run_explain(alloc, name, &mut plan, &mut output, &mut errors);
-    plan.inner()
-        .tell_failure(alloc, &mut Counted::new(rt.stderr()));
-    status
+/// Explains a plan, with its certificate where there is one. Where a file can't be opened or read, standard error tells the
+/// path and the system's reason.
+fn explain<'a>(rt: &'a HostRuntime, name: &'a str, certificate: Option<&'a str>) -> Status {
+    match certificate {
+        None => over_told!(rt, run_explain(name), plan = name),
+        Some(certified_by) => over_told!(
+            rt,
+            run_explain_certified(name, certified_by),
+            plan = name,
+            certificate = certified_by
+        ),
+    }
 }
 
 /// Prints a plan with edits made, until a certificate fits it. Of a file that can't be opened or read it says the same.
 fn fix<'a>(rt: &'a HostRuntime, name: &'a str) -> Status {
-    let alloc = rt.alloc();
-    let mut plan = file(rt, name);
-    let mut output = Counted::new(rt.stdout());
-    let mut errors = Counted::new(rt.stderr());
-    let status = run_fix(alloc, &mut plan, &mut output, &mut errors);
-    plan.inner()
-        .tell_failure(alloc, &mut Counted::new(rt.stderr()));
-    status
+    over_told!(rt, run_fix(), plan = name)
 }
 
-/// The same of a plan with its certificate.
-fn explain_certified<'a>(rt: &'a HostRuntime, name: &'a str, certified_by: &'a str) -> Status {
-    let alloc = rt.alloc();
-    let mut plan = file(rt, name);
-    let mut certificate = file(rt, certified_by);
-    let mut output = Counted::new(rt.stdout());
-    let mut errors = Counted::new(rt.stderr());
-    let status = run_explain_certified(
-        alloc,
-        name,
-        certified_by,
-        &mut plan,
-        &mut certificate,
-        &mut output,
-        &mut errors,
-    );
-    plan.inner()
-        .tell_failure(alloc, &mut Counted::new(rt.stderr()));
-    certificate
-        .inner()
-        .tell_failure(alloc, &mut Counted::new(rt.stderr()));
-    status
-}
-
-/// The same of a plan with its certificate and events.
+/// Explains a plan with its certificate and events. Of a file that can't be opened or read it says the same.
 fn explain_events<'a>(
     rt: &'a HostRuntime,
     name: &'a str,
     certified_by: &'a str,
     events: &'a str,
 ) -> Status {
-    let alloc = rt.alloc();
-    let mut plan = file(rt, name);
-    let mut certificate = file(rt, certified_by);
-    let mut events = file(rt, events);
-    let mut output = Counted::new(rt.stdout());
-    let mut errors = Counted::new(rt.stderr());
-    let status = run_explain_events(
-        alloc,
-        name,
-        certified_by,
-        &mut plan,
-        &mut certificate,
-        &mut events,
-        &mut output,
-        &mut errors,
-    );
-    plan.inner()
-        .tell_failure(alloc, &mut Counted::new(rt.stderr()));
-    certificate
-        .inner()
-        .tell_failure(alloc, &mut Counted::new(rt.stderr()));
-    events
-        .inner()
-        .tell_failure(alloc, &mut Counted::new(rt.stderr()));
-    status
+    over_told!(
+        rt,
+        run_explain_events(name, certified_by),
+        plan = name,
+        certificate = certified_by,
+        events = events
+    )
 }
 
 /// The same of a move from one plan to another.
 fn explain_move<'a>(rt: &'a HostRuntime, name: &'a str, new_name: &'a str) -> Status {
-    let alloc = rt.alloc();
-    let mut before = file(rt, name);
-    let mut after = file(rt, new_name);
-    let mut output = Counted::new(rt.stdout());
-    let mut errors = Counted::new(rt.stderr());
-    let status = run_explain_move(
-        alloc,
-        name,
-        new_name,
-        &mut before,
-        &mut after,
-        &mut output,
-        &mut errors,
-    );
-    before
-        .inner()
-        .tell_failure(alloc, &mut Counted::new(rt.stderr()));
-    after
-        .inner()
-        .tell_failure(alloc, &mut Counted::new(rt.stderr()));
-    status
+    over_told!(
+        rt,
+        run_explain_move(name, new_name),
+        before = name,
+        after = new_name
+    )
 }
 
 /// The file at a path, which is opened once it is read.

@@ -1,12 +1,8 @@
 -- Files that hold their bytes, one after another.
-use Rattle.std.proofs.Common.{◌≡◌, ℕ, List, [], ◌∷◌, ◌++◌, Some, slice_get, string_bytes, subst, inl, inr}
-use Rattle.std.proofs.lemmas.Option.{none-some}
+use Rattle.std.proofs.Common.{◌≡◌, ℕ, List, [], ◌∷◌, ◌++◌, Some, string_bytes, subst, inl, inr}
 use Rattle.mctp_transport.proofs.FirstIndexes.{get_cases}
 use Rattle.board.specs.declared.board.RecordFile.{RecordFile}
 use Rattle.plan_commands.specs.Making.{AreHeld}
-
-pub none_held : (Holds : List ℕ → List ℕ → Type 0) → AreHeld Holds []
-none_held Holds i file at = absurd (none-some file at)
 
 -- one file more
 pub held_more : (Holds : List ℕ → List ℕ → Type 0) (files : List RecordFile) (file : RecordFile) → AreHeld Holds files

@@ -1,6 +1,6 @@
 -- What the end of `require` tells of an answer.
-use Rattle.std.proofs.Common.{◌≡◌, ◌⊎◌, ℕ, List, length, ◌≤◌, Result, Ok, Err, inl, inr, sym, subst}
-use Rattle.std.specs.Prelude.{IfOk, IfErr, OnErr}
+use Rattle.std.proofs.Common.{◌≡◌, ℕ, List, length, ◌≤◌, Result, Ok, Err, inl, inr, sym, subst}
+use Rattle.std.specs.Prelude.{IfOk, IfErr}
 use Rattle.std.specs.Cow.{cow_str_bytes}
 use Rattle.std.specs.Io.KnownBytes.{Consumes, IsAtEnd}
 use Rattle.net_plan.specs.declared.certificate.Certificate.{Certificate}
@@ -9,26 +9,9 @@ use Rattle.net_rules.specs.Rules.{Accepts}
 use Rattle.command_answers.specs.declared.answer.Answer.{Answer}
 use Rattle.command_answers.specs.declared.refused.Refused.{Refused}
 use Rattle.command_answers.specs.declared.refused.Refused.TheVariants as refused
-use Rattle.command_answers.specs.declared.status.Status.{Status}
 use Rattle.command_answers.specs.declared.status.Status.TheVariants as status
-use Rattle.command_answers.specs.Answers.{Stream, AreGiven, AreUnread, IsFaultText, BreaksOff}
+use Rattle.command_answers.specs.Answers.{Stream, AreGiven, AreUnread, IsFaultText}
 use Rattle.plan_commands.specs.Requiring.{IsRequiredOn, RequiresOn, IsWithoutWanted, RequiresOf, RequiresSo}
-use Rattle.command_answers.specs.Told.{IsTold, IsSomeAnswer, Gives}
-
--- ---- standard output
-
--- an answer may tell why an input can't be read, and there may be none
-pub same_gives_or_breaks : (Answers : Status → List ℕ → Type 0) (ended : Status) (output errors : Stream) (Same : Type 0) (answered : Result Answer Refused)
-    → IfOk answered (λ (a : Answer). Answers a.status (cow_str_bytes a.text)) → IfOk answered (λ (a : Answer). IsTold a.status (cow_str_bytes a.text) ended output errors)
-    → OnErr answered Same → ended ≡ status.Unreadable → Same ⊎ (Gives Answers status.Unreadable output ⊎ BreaksOff (IsSomeAnswer Answers) output)
-same_gives_or_breaks Answers ended output errors Same (Ok a) answers (inl (is, written)) same unreadable =
-    let A : Status → Type 0 = λ s. Answers s (cow_str_bytes a.text) in
-    inr (inl (cow_str_bytes a.text, subst A unreadable (subst A (sym is) answers), written))
-same_gives_or_breaks Answers ended output errors Same (Ok a) answers (inr (is, fails, part, line)) same unreadable =
-    inr (inr (record { text = cow_str_bytes a.text; answer = (a.status, answers); fails = fails; beginning = part }))
-same_gives_or_breaks Answers ended output errors Same (Err why) answers told same unreadable = inl same
-
--- ---- of what was given
 
 module _ (plan : Plan) (cert : Certificate) where
   pub given_so : (plans certificates wanted : Stream) (result : Result Answer Refused) → AreGiven plans certificates plan cert

@@ -4,7 +4,7 @@ use Rattle.net_plan.specs.declared.plan.Plan.{Plan}
 use Rattle.net_plan.specs.declared.certificate.Certificate.{Certificate}
 use Rattle.net_sim.specs.Assignments.{AssignmentValue, IsAssignmentOf}
 use Rattle.net_sim.specs.AssignmentRuns.{CanBeCarriedOut, IsAcceptedThroughout, AssignsAll}
-use Rattle.plan_texts.specs.AssignmentLines.{assignment_lines}
+use Rattle.run_texts.specs.AssignmentLines.{assignment_lines}
 
 -- the plan has the request's bus and its node, so that no dash stands for a name
 abbrev pub IsNamed : Plan → AssignmentValue → Type 0

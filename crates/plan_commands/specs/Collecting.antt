@@ -1,10 +1,10 @@
 -- A walk of the program over a terminus, one exchange after another.
 use Rattle.std.specs.Prelude.{◌≡◌, ◌≢◌, ◌⊎◌, ◌+◌, ◌<◌, ℕ, List, length, Result, MatchResult}
-use Rattle.pdr_repository.specs.declared.walk_fault.Step.{Step}
-use Rattle.pdr_repository.specs.declared.walk_fault.Step.TheVariants.{Done}
+use Rattle.pdr_repository.specs.declared.walk_fault.WalkProgress.{WalkProgress}
+use Rattle.pdr_repository.specs.declared.walk_fault.WalkProgress.TheVariants.{Done}
 use Rattle.pdr_repository.specs.Records.{Entry, bytes_by_place}
 use Rattle.pdr_repository.specs.Walks.{Exchange, Walk, IsFinished, exchanges}
-use Rattle.pdr_repository.specs.Walkers.{WalkState, StandsFor}
+use Rattle.pdr_repository.specs.Walkers.{WalkState, HasTakenIn}
 use Rattle.command_answers.specs.declared.refused.Refused.{Refused}
 use Rattle.command_answers.specs.declared.refused.Refused.TheVariants.{TooMuch, NoMemory}
 use Rattle.plan_commands.specs.Walking.{bytes_of}
@@ -13,14 +13,14 @@ use Rattle.plan_commands.specs.Walking.{bytes_of}
 -- limits.
 pub record IsUnderWay (records : List Entry) (count : ℕ) (w : WalkState) (xs : List Exchange) : Type 0 where
   pub walk : Walk records count xs
-  pub stands : StandsFor w xs
+  pub stands : HasTakenIn w xs
   pub same_count : w.count ≡ count
   pub max_records : w.max_records ≡ 4096
   pub max_bytes : w.max_bytes ≡ 16777216
   pub taken : w.taken ≡ length xs
 
 -- The walk is finished, or it is one exchange further.
-pub record IsFurther (records : List Entry) (count : ℕ) (xs : List Exchange) (step : Step)
+pub record IsFurther (records : List Entry) (count : ℕ) (xs : List Exchange) (step : WalkProgress)
     (new : WalkState) : Type 0 where
   pub exchanges : List Exchange
   pub under_way : IsUnderWay records count new exchanges
@@ -32,7 +32,7 @@ abbrev pub EndsEarlyFor : List Entry → Refused → Type 0
 EndsEarlyFor records refused = (refused ≡ NoMemory) ⊎ ((refused ≡ TooMuch) × (16777216 < bytes_of records))
 
 -- what an exchange leads to, of each walk that is under way
-abbrev pub Goes : List Entry → WalkState → Result Step Refused → WalkState → Type 0
+abbrev pub Goes : List Entry → WalkState → Result WalkProgress Refused → WalkState → Type 0
 Goes records old result new =
     (count : ℕ) (xs : List Exchange) → IsUnderWay records count old xs
     → MatchResult result (λ step. IsFurther records count xs step new) (EndsEarlyFor records)

@@ -6,7 +6,7 @@ use Rattle.net_json.specs.CertificateJson.{certificate_text}
 use Rattle.net_json.specs.CertificateText.{IsCertificateOf}
 use Rattle.net_plan.specs.CertificateValues.{certificate_value}
 use Rattle.net_plan.specs.PlanValues.{node_names, plan_value}
-use Rattle.net_json.specs.Texts.{StandsFor}
+use Rattle.net_json.specs.Texts.{IsJsonTextOf}
 use Rattle.net_plan.specs.WellFormed.{IsWellFormed}
 use Rattle.net_rules.specs.declared.move_obstacle.MoveObstacle.{MoveObstacle}
 use Rattle.net_rules.specs.MoveObstacles.{IsExactForMove}
@@ -24,7 +24,7 @@ pub record IsMoveCertifiedBy (before after : Plan) (certificate : Certificate) (
   pub exact : IsExactForMove before after certificate
   pub well_formed : IsWellFormed (plan_value before) (certificate_value certificate)
   pub written : text ≡ certificate_text (node_names (plan_value before).nodes) (certificate_value certificate)
-  pub reads_back : StandsFor (IsCertificateOf (plan_value before)) text (certificate_value certificate)
+  pub reads_back : IsJsonTextOf (IsCertificateOf (plan_value before)) text (certificate_value certificate)
   pub short : length text ≤ 2097152
 
 -- the text answers for the move, in a run that ends so: it is that of a certificate of it, or the line of what rules

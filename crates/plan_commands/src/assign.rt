@@ -4,7 +4,7 @@ ghost use Rattle.plan_commands.specs.Assigning.{IsAssignmentText};
 
 use net_check::Checked;
 use net_sim::assign;
-use plan_texts::assignment_lines;
+use run_texts::assignment_lines;
 use std::alloc::{AllocError, Global};
 
 /// The requests that assign what a checked plan gives its nodes.

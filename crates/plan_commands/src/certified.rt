@@ -3,10 +3,10 @@ ghost use Rattle.std.specs.Prelude.{◌≡◌, ◌⊎◌, true, false, IfOk, IfE
 ghost use Rattle.std.specs.Cow.{cow_str_bytes};
 ghost use Rattle.net_check.specs.Errors.{NamesFirstFault};
 ghost use Rattle.net_json.specs.Stream.{HasRoom};
-ghost use Rattle.command_answers.specs.declared.status.Status.TheVariants.{Yes, Fault, Unreadable, NoMemory};
+ghost use Rattle.command_answers.specs.declared.status.Status.TheVariants.{Fault};
 ghost use Rattle.command_answers.specs.declared.refused.Refused.TheVariants as refused;
-ghost use Rattle.command_answers.specs.Answers.{stream, IsWithoutPlan, BreaksOff};
-ghost use Rattle.command_answers.specs.Told.{IsSomeAnswer, Ends};
+ghost use Rattle.command_answers.specs.Answers.{stream, IsWithoutPlan};
+ghost use Rattle.command_answers.specs.Told.{Concludes};
 ghost use Rattle.plan_commands.specs.Certified.{IsAnswer, IsFaultAnswer, IsNamedIn, IsTooMuch, AnswersOn, AnswersSo, IsUnansweredOn, IsUnansweredFor};
 
 use crate::assign::requests_text;
@@ -62,16 +62,11 @@ pub fn run_certified<P: Source, C: Source, O: Sink, E: Sink>(
     requires certificate { HasRoom (C.account certificate.old) }
     requires output { HasRoom (O.account output.old) }
     requires errors { HasRoom (E.account errors.old) }
-    ensures tells { let plans = stream P.account plan.old plan.new in
+    ensures concludes { let plans = stream P.account plan.old plan.new in
         let certificates = stream C.account certificate.old certificate.new in
-        Ends (AnswersSo question.now plans certificates) (IsUnansweredFor question.now plans certificates) result
-        (stream O.account output.old output.new) (stream E.account errors.old errors.new) }
-    ensures silent { (result ≡ Yes) ⊎ (result ≡ Fault) → errors.new ≡ errors.old }
-    ensures unwritten { let plans = stream P.account plan.old plan.new in
-        let certificates = stream C.account certificate.old certificate.new in
-        result ≡ Unreadable → (output.new ≡ output.old)
-        ⊎ BreaksOff (IsSomeAnswer (AnswersSo question.now plans certificates)) (stream O.account output.old output.new) }
-    ensures no_memory { result ≡ NoMemory → output.new ≡ output.old }
+        Concludes (AnswersSo question.now plans certificates) (IsUnansweredFor question.now plans certificates) result
+        (stream O.account output.old output.new) (stream E.account errors.old errors.new)
+        (output.new ≡ output.old) (errors.new ≡ errors.old) }
     ensures in_order { IsWithoutPlan (stream P.account plan.old plan.new) → certificate.new ≡ certificate.old }
 {
     let answered = answer_certified(alloc, question, plan, certificate);

@@ -1,12 +1,11 @@
 //! The command `certifymove`: the certificate of a move from one plan to another, or why there is none.
-ghost use Rattle.std.specs.Prelude.{◌≡◌, ◌⊎◌, IfOk, IfErr};
+ghost use Rattle.std.specs.Prelude.{◌≡◌, IfOk, IfErr};
 ghost use Rattle.std.specs.Cow.{cow_str_bytes};
 ghost use Rattle.net_json.specs.Stream.{HasRoom};
-ghost use Rattle.command_answers.specs.declared.status.Status.TheVariants.{Yes, Fault, Unreadable, NoMemory};
-ghost use Rattle.command_answers.specs.Answers.{stream, IsWithoutPlan, BreaksOff};
+ghost use Rattle.command_answers.specs.Answers.{stream, IsWithoutPlan};
 ghost use Rattle.plan_commands.specs.MoveCertifying.{CertifiesMove, CertifiesMoveSo};
 ghost use Rattle.command_answers.specs.Moves.{ArePlansUnread};
-ghost use Rattle.command_answers.specs.Told.{IsSomeAnswer, Ends};
+ghost use Rattle.command_answers.specs.Told.{Concludes};
 
 use command_answers::{Answer, Refused, Status, read_plans, tell};
 use net_check::certify_move;
@@ -29,16 +28,11 @@ pub fn run_certify_move<P: Source, Q: Source, O: Sink, E: Sink>(
     requires after { HasRoom (Q.account after.old) }
     requires output { HasRoom (O.account output.old) }
     requires errors { HasRoom (E.account errors.old) }
-    ensures tells { let befores = stream P.account before.old before.new in
+    ensures concludes { let befores = stream P.account before.old before.new in
         let afters = stream Q.account after.old after.new in
-        Ends (CertifiesMoveSo befores afters) (λ why. ArePlansUnread why befores afters) result
-        (stream O.account output.old output.new) (stream E.account errors.old errors.new) }
-    ensures silent { (result ≡ Yes) ⊎ (result ≡ Fault) → errors.new ≡ errors.old }
-    ensures unwritten { let befores = stream P.account before.old before.new in
-        let afters = stream Q.account after.old after.new in
-        result ≡ Unreadable → (output.new ≡ output.old)
-        ⊎ BreaksOff (IsSomeAnswer (CertifiesMoveSo befores afters)) (stream O.account output.old output.new) }
-    ensures no_memory { result ≡ NoMemory → output.new ≡ output.old }
+        Concludes (CertifiesMoveSo befores afters) (λ why. ArePlansUnread why befores afters) result
+        (stream O.account output.old output.new) (stream E.account errors.old errors.new)
+        (output.new ≡ output.old) (errors.new ≡ errors.old) }
     ensures in_order { let befores = stream P.account before.old before.new in
         IsWithoutPlan befores → after.new ≡ after.old }
 {

@@ -1,13 +1,13 @@
 //! The command `make`: the plan that is made of a board.
-ghost use Rattle.std.specs.Prelude.{◌≡◌, ◌⊎◌, ℕ, List, IfOk, IfErr, OnOk, string_bytes};
+ghost use Rattle.std.specs.Prelude.{◌≡◌, ℕ, List, IfOk, IfErr, OnOk, string_bytes};
 ghost use Rattle.std.specs.Cow.{cow_str_bytes};
 ghost use Rattle.std.specs.Io.KnownBytes.{Appends};
 ghost use Rattle.net_json.specs.Stream.{HasRoom};
-ghost use Rattle.command_answers.specs.declared.status.Status.TheVariants.{Yes, Fault, Unreadable, NoMemory};
+ghost use Rattle.command_answers.specs.declared.status.Status.TheVariants.{Fault};
 ghost use Rattle.command_answers.specs.declared.refused.Refused.TheVariants as refused;
-ghost use Rattle.command_answers.specs.Answers.{stream, BreaksOff};
+ghost use Rattle.command_answers.specs.Answers.{stream};
 ghost use Rattle.plan_commands.specs.Making.{long_board, failed_board, AreHeld, IsFileUnread, IsAnswerWith, IsAnswerOf, MakesSo, MakesWithSo, IsUnwrittenBy};
-ghost use Rattle.command_answers.specs.Told.{Gives, IsSomeAnswer, Ends};
+ghost use Rattle.command_answers.specs.Told.{ConcludesOnBoth, ConcludesOnOutput};
 
 use board_made::{BoardAnswer, RecordFile, answer_board, files_of_board, unread_file};
 use command_answers::{Answer, Input, Refused, Status, tell};
@@ -35,14 +35,10 @@ pub fn run_make<B: Source, F: RecordFiles, O: Sink, E: Sink>(
     requires board { HasRoom (B.account board.old) }
     requires output { HasRoom (O.account output.old) }
     requires errors { HasRoom (E.account errors.old) }
-    ensures tells { let boards = stream B.account board.old board.new in
-        Ends (MakesSo (F.holds files.now) boards) (λ why. why ≡ refused.NoMemory) result
-        (stream O.account output.old output.new) (stream E.account errors.old errors.new) }
-    ensures silent { (result ≡ Yes) ⊎ (result ≡ Fault) → errors.new ≡ errors.old }
-    ensures unwritten { let boards = stream B.account board.old board.new in
-        let outputs = stream O.account output.old output.new in
-        result ≡ Unreadable → Gives (MakesSo (F.holds files.now) boards) Unreadable outputs ⊎ BreaksOff (IsSomeAnswer (MakesSo (F.holds files.now) boards)) outputs }
-    ensures no_memory { result ≡ NoMemory → output.new ≡ output.old }
+    ensures concludes { let boards = stream B.account board.old board.new in
+        ConcludesOnOutput (MakesSo (F.holds files.now) boards) result
+        (stream O.account output.old output.new) (stream E.account errors.old errors.new)
+        (output.new ≡ output.old) (errors.new ≡ errors.old) }
 {
     let answered = answer_make(alloc, board, files);
     tell(alloc, answered, output, errors)
@@ -62,18 +58,12 @@ pub fn run_make_certified<B: Source, F: RecordFiles, C: Sink, O: Sink, E: Sink>(
     requires certificate { HasRoom (C.account certificate.old) }
     requires output { HasRoom (O.account output.old) }
     requires errors { HasRoom (E.account errors.old) }
-    ensures tells { let boards = stream B.account board.old board.new in
+    ensures concludes { let boards = stream B.account board.old board.new in
         let certificates = stream C.account certificate.old certificate.new in
-        Ends (MakesWithSo (F.holds files.now) boards certificates) (λ why. IsUnwrittenBy certificates why) result
-        (stream O.account output.old output.new) (stream E.account errors.old errors.new) }
-    ensures silent { (result ≡ Yes) ⊎ (result ≡ Fault) → errors.new ≡ errors.old }
+        ConcludesOnBoth (MakesWithSo (F.holds files.now) boards certificates) (λ why. IsUnwrittenBy certificates why) result
+        (stream O.account output.old output.new) (stream E.account errors.old errors.new)
+        (output.new ≡ output.old) (errors.new ≡ errors.old) }
     ensures kept { result ≡ Fault → certificate.new ≡ certificate.old }
-    ensures unwritten { let boards = stream B.account board.old board.new in
-        let certificates = stream C.account certificate.old certificate.new in
-        let outputs = stream O.account output.old output.new in
-        result ≡ Unreadable → (output.new ≡ output.old) ⊎ Gives (MakesWithSo (F.holds files.now) boards certificates) Unreadable outputs
-        ⊎ BreaksOff (IsSomeAnswer (MakesWithSo (F.holds files.now) boards certificates)) outputs }
-    ensures no_memory { result ≡ NoMemory → output.new ≡ output.old }
 {
     let answered = answer_certified(alloc, board, files, certificate);
     tell(alloc, answered, output, errors)

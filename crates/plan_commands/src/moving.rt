@@ -1,12 +1,11 @@
 //! The command `move`: whether the nodes of a running network may go from the rows of one plan to those of another.
-ghost use Rattle.std.specs.Prelude.{◌≡◌, ◌⊎◌, IfOk, IfErr};
+ghost use Rattle.std.specs.Prelude.{◌≡◌, IfOk, IfErr};
 ghost use Rattle.net_json.specs.Stream.{HasRoom};
 ghost use Rattle.std.specs.Cow.{cow_str_bytes};
-ghost use Rattle.command_answers.specs.declared.status.Status.TheVariants.{Yes, Fault, Unreadable, NoMemory};
-ghost use Rattle.command_answers.specs.Answers.{stream, IsWithoutPlan, BreaksOff};
+ghost use Rattle.command_answers.specs.Answers.{stream, IsWithoutPlan};
 ghost use Rattle.plan_commands.specs.Moving.{AnswersMoveOn, AnswersMoveSo};
 ghost use Rattle.command_answers.specs.Moves.{IsMoveUnread};
-ghost use Rattle.command_answers.specs.Told.{IsSomeAnswer, Ends};
+ghost use Rattle.command_answers.specs.Told.{Concludes};
 
 use command_answers::{Answer, Refused, Status, move_fault_answer, read_move, tell};
 use net_check::check_move;
@@ -30,18 +29,12 @@ pub fn run_move<P: Source, Q: Source, C: Source, O: Sink, E: Sink>(
     requires certificate { HasRoom (C.account certificate.old) }
     requires output { HasRoom (O.account output.old) }
     requires errors { HasRoom (E.account errors.old) }
-    ensures tells { let befores = stream P.account before.old before.new in
+    ensures concludes { let befores = stream P.account before.old before.new in
         let afters = stream Q.account after.old after.new in
         let certificates = stream C.account certificate.old certificate.new in
-        Ends (AnswersMoveSo befores afters certificates) (λ why. IsMoveUnread why befores afters certificates) result
-        (stream O.account output.old output.new) (stream E.account errors.old errors.new) }
-    ensures silent { (result ≡ Yes) ⊎ (result ≡ Fault) → errors.new ≡ errors.old }
-    ensures unwritten { let befores = stream P.account before.old before.new in
-        let afters = stream Q.account after.old after.new in
-        let certificates = stream C.account certificate.old certificate.new in
-        result ≡ Unreadable → (output.new ≡ output.old)
-        ⊎ BreaksOff (IsSomeAnswer (AnswersMoveSo befores afters certificates)) (stream O.account output.old output.new) }
-    ensures no_memory { result ≡ NoMemory → output.new ≡ output.old }
+        Concludes (AnswersMoveSo befores afters certificates) (λ why. IsMoveUnread why befores afters certificates) result
+        (stream O.account output.old output.new) (stream E.account errors.old errors.new)
+        (output.new ≡ output.old) (errors.new ≡ errors.old) }
     ensures in_order { let befores = stream P.account before.old before.new in
         IsWithoutPlan befores → (after.new ≡ after.old) × (certificate.new ≡ certificate.old) }
     ensures after_in_order { let afters = stream Q.account after.old after.new in

@@ -1,10 +1,9 @@
 //! Commands that read a plan alone, and answer a question about it.
-ghost use Rattle.std.specs.Prelude.{◌≡◌, ◌⊎◌, IfOk, IfErr};
+ghost use Rattle.std.specs.Prelude.{◌≡◌, IfOk, IfErr};
 ghost use Rattle.std.specs.Cow.{cow_str_bytes};
 ghost use Rattle.net_json.specs.Stream.{HasRoom};
-ghost use Rattle.command_answers.specs.declared.status.Status.TheVariants.{Yes, Fault, Unreadable, NoMemory};
-ghost use Rattle.command_answers.specs.Answers.{stream, IsPlanUnread, BreaksOff};
-ghost use Rattle.command_answers.specs.Told.{IsSomeAnswer, Ends};
+ghost use Rattle.command_answers.specs.Answers.{stream, IsPlanUnread};
+ghost use Rattle.command_answers.specs.Told.{Concludes};
 ghost use Rattle.plan_commands.specs.Planned.{IsSaidOf, SaysSo};
 
 use crate::draw::{DrawnRows, drawing_of_plan};
@@ -44,14 +43,10 @@ pub fn run_planned<P: Source, O: Sink, E: Sink>(
     requires plan { HasRoom (P.account plan.old) }
     requires output { HasRoom (O.account output.old) }
     requires errors { HasRoom (E.account errors.old) }
-    ensures tells { let plans = stream P.account plan.old plan.new in
-        Ends (SaysSo question.now plans) (λ why. IsPlanUnread why plans) result
-        (stream O.account output.old output.new) (stream E.account errors.old errors.new) }
-    ensures silent { (result ≡ Yes) ⊎ (result ≡ Fault) → errors.new ≡ errors.old }
-    ensures unwritten { let plans = stream P.account plan.old plan.new in
-        result ≡ Unreadable → (output.new ≡ output.old)
-        ⊎ BreaksOff (IsSomeAnswer (SaysSo question.now plans)) (stream O.account output.old output.new) }
-    ensures no_memory { result ≡ NoMemory → output.new ≡ output.old }
+    ensures concludes { let plans = stream P.account plan.old plan.new in
+        Concludes (SaysSo question.now plans) (λ why. IsPlanUnread why plans) result
+        (stream O.account output.old output.new) (stream E.account errors.old errors.new)
+        (output.new ≡ output.old) (errors.new ≡ errors.old) }
 {
     let answered = answer_planned(alloc, question, plan);
     tell(alloc, answered, output, errors)

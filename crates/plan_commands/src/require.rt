@@ -1,13 +1,13 @@
 //! The command `require`: whether a checked plan's nodes reach whom they are to reach.
-ghost use Rattle.std.specs.Prelude.{◌≡◌, ◌⊎◌, ◌++◌, codes, IfOk, IfErr, string_bytes};
+ghost use Rattle.std.specs.Prelude.{◌≡◌, ◌++◌, codes, IfOk, IfErr, string_bytes};
 ghost use Rattle.std.specs.Fmt.{decimal};
 ghost use Rattle.std.specs.Cow.{cow_str_bytes};
 ghost use Rattle.net_json.specs.Stream.{HasRoom};
-ghost use Rattle.command_answers.specs.declared.status.Status.TheVariants.{Yes, Fault, Unreadable, NoMemory};
+ghost use Rattle.command_answers.specs.declared.status.Status.TheVariants.{Unreadable};
 ghost use Rattle.command_answers.specs.declared.refused.Refused.TheVariants as refused;
-ghost use Rattle.command_answers.specs.Answers.{stream, AreUnread, IsWithoutPlan, BreaksOff};
+ghost use Rattle.command_answers.specs.Answers.{stream, AreUnread, IsWithoutPlan};
 ghost use Rattle.plan_commands.specs.Requiring.{AnswersWishes, unread_wanted, unread_line_text, IsRequiredOn, RequiresOn, RequiresOf, RequiresSo};
-ghost use Rattle.command_answers.specs.Told.{Gives, IsSomeAnswer, Ends};
+ghost use Rattle.command_answers.specs.Told.{ConcludesOnBoth};
 
 use command_answers::{Answer, Refused, Status, fault_answer, read_inputs, tell};
 use net_check::{Checked, check};
@@ -32,19 +32,12 @@ pub fn run_require<P: Source, C: Source, W: Source, O: Sink, E: Sink>(
     requires wanted { HasRoom (W.account wanted.old) }
     requires output { HasRoom (O.account output.old) }
     requires errors { HasRoom (E.account errors.old) }
-    ensures tells { let plans = stream P.account plan.old plan.new in
+    ensures concludes { let plans = stream P.account plan.old plan.new in
         let certificates = stream C.account certificate.old certificate.new in
         let texts = stream W.account wanted.old wanted.new in
-        Ends (RequiresSo plans certificates texts) (λ why. AreUnread why plans certificates) result
-        (stream O.account output.old output.new) (stream E.account errors.old errors.new) }
-    ensures silent { (result ≡ Yes) ⊎ (result ≡ Fault) → errors.new ≡ errors.old }
-    ensures unwritten { let plans = stream P.account plan.old plan.new in
-        let certificates = stream C.account certificate.old certificate.new in
-        let texts = stream W.account wanted.old wanted.new in
-        let outputs = stream O.account output.old output.new in
-        result ≡ Unreadable → (output.new ≡ output.old) ⊎ Gives (RequiresSo plans certificates texts) Unreadable outputs
-        ⊎ BreaksOff (IsSomeAnswer (RequiresSo plans certificates texts)) outputs }
-    ensures no_memory { result ≡ NoMemory → output.new ≡ output.old }
+        ConcludesOnBoth (RequiresSo plans certificates texts) (λ why. AreUnread why plans certificates) result
+        (stream O.account output.old output.new) (stream E.account errors.old errors.new)
+        (output.new ≡ output.old) (errors.new ≡ errors.old) }
     ensures in_order { IsWithoutPlan (stream P.account plan.old plan.new)
         → (certificate.new ≡ certificate.old) × (wanted.new ≡ wanted.old) }
 {

@@ -1,14 +1,16 @@
 -- Items of lists, and lists of just what is so.
 use Rattle.std.proofs.Common.{◌≡◌, ◌⊎◌, inl, inr, ◌<◌, ◌≤◌, ℕ, suc, ◌+◌, List, [], ◌∷◌, ◌++◌, length, map, take, get_or, Some, subst, sym, ap, ◌∙◌, refl, arith}
 use Rattle.std.specs.Prelude.{AllPairs, Contains, slice_get, option_map}
-use Rattle.std.proofs.lemmas.List.{append-nil, append_assoc, get_or-map, length-map, map_more, take_all}
+use Rattle.std.proofs.lemmas.List.{append-nil, append_assoc, get_or_default, get_or-map, length-map, map_more, take_all}
 use Rattle.std.proofs.lemmas.List.Elements.{Contains-append_left, Contains-append_right, Contains-append_cases, Contains-get_or, Contains-push_cases}
 use Rattle.std.proofs.lemmas.List.Quantifiers.{all_pairs_push}
-use Rattle.std.proofs.lemmas.Option.{slice_get_read, slice_get-map}
+use Rattle.std.proofs.lemmas.Option.{slice_get_read, slice_get_within, slice_get-map}
 use Rattle.plan_differences.specs.Listed.{AreJust}
-use Rattle.plan_differences.proofs.Ascending.{contains_none}
 
 -- ---- items of lists
+
+pub contains_none : {A : Type 0} (x : A) → Contains [] x → ⊥
+contains_none x h = omega (arith, h.1)
 
 pub some_same : {A : Type 0} (x y : A) → Some x ≡ Some y → x ≡ y
 some_same x y is = cc is
@@ -25,6 +27,11 @@ contained_at xs x there = slice_get_read xs (length xs) there.0 x refl there.1 (
 
 pub contains_head : {A : Type 0} (x : A) (xs : List A) → Contains (x ∷ xs) x
 contains_head x xs = (0, omega arith, refl)
+
+pub contains_at : {A : Type 0} (xs : List A) (i : ℕ) (x : A) → slice_get xs i ≡ Some x → Contains xs x
+contains_at xs i x is =
+    let within = slice_get_within xs i x is in
+    (i, within, some_same (get_or xs i x) x (sym (slice_get_read xs (length xs) i (get_or xs i x) refl within (get_or_default xs i x (get_or xs i x) within)) ∙ is))
 
 contains_tail : {A : Type 0} (x y : A) (xs : List A) → Contains xs y → Contains (x ∷ xs) y
 contains_tail x y xs there = (suc there.0, omega (arith, there.1), there.2)

@@ -1,5 +1,5 @@
-mod Ascending
 mod Consequences
+mod Indexing
 mod Items
 mod OtherWays
 mod Parts

@@ -17,7 +17,7 @@ use Rattle.command_answers.specs.Naming.{IsFirstNamed}
 use Rattle.plan_differences.specs.declared.ways.OtherWay.{OtherWay}
 use Rattle.plan_differences.specs.Listed.{AreJust}
 use Rattle.plan_differences.specs.WayDifferences.{AreOtherWays, AreWaysBefore, AreWaysFrom, IsFrom, IsHops, IsNoOtherBetween, IsOneNode, IsOtherBetween, IsOtherWay, LeadsBefore, found_way}
-use Rattle.plan_differences.proofs.Items.{told_join, told_none, told_one}
+use Rattle.plan_differences.proofs.Items.{told_join, told_one}
 
 -- ---- what is so in one way alone
 
@@ -135,11 +135,6 @@ node_found before after n word (Some m) here first = (word, sym here, first)
 pub node_missing : (before after : Plan) (n m : ℕ) → None ≡ name_of before n → ¬ IsOneNode before after n m
 node_missing before after n m missing h = cc (missing, h.1)
 
--- ---- ways from one node
-
-pub no_ways : (before after : Plan) (from : ℕ) → AreWaysFrom before after from 0 []
-no_ways before after from = told_none LeadsBefore (λ way. IsOtherWay before after way × IsFrom from 0 way) (λ way h. omega (arith, h.1.1))
-
 at_last : (k n : ℕ) → n < k + 1 → (n < k) ⊎ (n ≡ k)
 at_last k n lt = elim (cases_lt n k) [
   | inl less ↦ inl less
@@ -185,11 +180,6 @@ pub ways_on : (before after : Plan) (old new : Certificate) (from k : ℕ) (ways
 ways_on before after old new from k ways None accepted taken are none =
     subst (AreWaysFrom before after from (k + 1)) (sym (append-nil ways)) (no_way_more before after from k ways are none)
 ways_on before after old new from k ways (Some way) accepted taken are is = way_more before after old new from k ways way accepted taken are is
-
--- ---- ways from all nodes
-
-pub no_froms : (before after : Plan) → AreWaysBefore before after 0 []
-no_froms before after = told_none LeadsBefore (λ way. IsOtherWay before after way × (way.from < 0)) (λ way h. omega (arith, h.1))
 
 pub from_more : (before after : Plan) (k count : ℕ) (ways more : List OtherWay) → length before.nodes.items ≤ count
     → AreWaysBefore before after k ways → AreWaysFrom before after k count more → AreWaysBefore before after (k + 1) (ways ++ more)

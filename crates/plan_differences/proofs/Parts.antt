@@ -1,19 +1,17 @@
 -- What is told of parts of two plans' facts.
-use Rattle.std.proofs.Common.{◌≡◌, ◌⊎◌, inl, inr, ◌<◌, ◌≤◌, ℕ, ◌+◌, List, [], ◌∷◌, ◌++◌, length, map, take, get_or, Some, subst, sym, ap, ◌∙◌, refl, arith}
+use Rattle.std.proofs.Common.{◌≡◌, ◌⊎◌, inl, inr, ◌<◌, ◌≤◌, ℕ, ◌+◌, List, [], ◌∷◌, ◌++◌, length, map, get_or, Some, subst, sym, ap, ◌∙◌, refl, arith}
 use Rattle.std.specs.Prelude.{Contains, slice_get, Result, Ok, Err, IfOk, Vec}
 use Rattle.std.specs.declared.alloc.AllocError.{AllocError}
 use Rattle.std.specs.declared.alloc.Global.{Global}
 use Rattle.std.proofs.lemmas.Bool.{cases_lt}
-use Rattle.std.proofs.lemmas.List.{get_or_default, length-map, map_more, take_all}
-use Rattle.std.proofs.lemmas.List.Elements.{Contains-get_or, Contains-push_cases}
-use Rattle.std.proofs.lemmas.Option.{slice_get_read, slice_get_within}
+use Rattle.std.proofs.lemmas.List.Elements.{Contains-get_or}
+use Rattle.std.proofs.lemmas.Option.{slice_get_within}
 use Rattle.plan_differences.specs.declared.difference.Difference.{Difference}
 use Rattle.plan_differences.specs.declared.difference.Difference.TheVariants.{Removed, Changed, Added}
 use Rattle.plan_differences.specs.Facts.{FactValue}
 use Rattle.plan_differences.specs.Things.{ThingValue, thing_of}
 use Rattle.plan_differences.specs.Differences.{AreDifferences, AreOnlyOf, AreToldIn, HasOnlyIn, IsAfter, IsAlone, IsBefore, IsDifference, IsOfNew, IsOfOld, IsOnlyOf, StandsBefore}
-use Rattle.plan_differences.proofs.Ascending.{AreBelow, contains_none}
-use Rattle.plan_differences.proofs.Items.{contained_at, contains_map, item_same, map_contains, pairs_map, some_same, told_join, told_none, told_one, value_at}
+use Rattle.plan_differences.proofs.Items.{contained_at, contains_at, contains_none, contains_map, item_same, map_contains, pairs_map, told_join, told_none, told_one}
 
 -- ---- facts of the old plan
 
@@ -29,14 +27,11 @@ none_of_kept olds news i f here kept = told_none StandsBefore (λ d. IsDifferenc
     none (Changed k m) is at = gone k is.0 is.1 at is.2
     none (Added m) is at = absurd at
 
-only_at : (olds news : List FactValue) (thing : ThingValue) (others : List ℕ) → AreOnlyOf olds news thing others → HasOnlyIn news olds thing → (j : ℕ) × Contains others j
+pub only_at : (olds news : List FactValue) (thing : ThingValue) (others : List ℕ) → AreOnlyOf olds news thing others → HasOnlyIn news olds thing → (j : ℕ) × Contains others j
 only_at olds news thing others are has = (has.1.0, (are.each has.1.0).1 (has.0, contained_at news has.0 has.1, has.2, has.3))
 
-at_only : (olds news : List FactValue) (thing : ThingValue) (j : ℕ) → IsOnlyOf news olds thing j → HasOnlyIn news olds thing
-at_only olds news thing j is =
-    let within = slice_get_within news j is.0 is.1 in
-    let read : get_or news j is.0 ≡ is.0 = some_same (get_or news j is.0) is.0 (sym (slice_get_read news (length news) j (get_or news j is.0) refl within (get_or_default news j is.0 (get_or news j is.0) within)) ∙ is.1) in
-    (is.0, (j, within, read), is.2, is.3)
+pub at_only : (olds news : List FactValue) (thing : ThingValue) (j : ℕ) → IsOnlyOf news olds thing j → HasOnlyIn news olds thing
+at_only olds news thing j is = (is.0, contains_at news j is.0 is.1, is.2, is.3)
 
 -- a fact that is gone, and nothing else is new of its thing
 pub one_removed : (olds news : List FactValue) (i : ℕ) (f : FactValue) (others : List ℕ) → slice_get olds i ≡ Some f → ¬ Contains news f
@@ -214,40 +209,7 @@ all_told olds news xs ys one other = record {
     within (Changed k m) is = inl (slice_get_within olds k is.0 is.1)
     within (Added m) is = inr (slice_get_within news m is.0 is.1)
 
--- ---- whether a thing has lost a fact
-
--- one fact more, which isn't it
-pub none_only_more : {A : Type 0} (f : A → FactValue) (xs : List A) (those : List FactValue) (thing : ThingValue) (k : ℕ) (x : A) → k < length xs → x ≡ get_or xs k x
-    → ¬ ((thing_of (f x) ≡ thing) × ¬ Contains those (f x)) → ¬ HasOnlyIn (map f (take k xs)) those thing → ¬ HasOnlyIn (map f (take (k + 1) xs)) those thing
-none_only_more f xs those thing k x within is not none has =
-    let more : map f (take (k + 1) xs) ≡ map f (take k xs) ++ f x ∷ [] = map_more f xs k x within ∙ ap (λ y. map f (take k xs) ++ f y ∷ []) (sym is) in
-    elim (Contains-push_cases (map f (take k xs)) (f x) has.0 (subst (λ (ys : List FactValue). Contains ys has.0) more has.1)) [
-      | inl earlier ↦ none (has.0, earlier, has.2, has.3)
-      | inr same ↦ not (subst (λ (g : FactValue). (thing_of g ≡ thing) × ¬ Contains those g) (sym same) (has.2, has.3))
-    ]
-
-pub has_only : {A : Type 0} (f : A → FactValue) (xs : List A) (those : List FactValue) (thing : ThingValue) (k : ℕ) (x : A) → k < length xs → x ≡ get_or xs k x
-    → (thing_of (f x) ≡ thing) × ¬ Contains those (f x) → HasOnlyIn (map f xs) those thing
-has_only f xs those thing k x within is only = (f x, contains_map f xs x (k, within, sym is), only.0, only.1)
-
--- ---- indices of facts that are new of a thing
-
-pub only_of_at : {A : Type 0} (f : A → FactValue) (xs : List A) (olds : List FactValue) (thing : ThingValue) (k : ℕ) (x : A) → k < length xs → x ≡ get_or xs k x
-    → (thing_of (f x) ≡ thing) × ¬ Contains olds (f x) → IsOnlyOf (map f xs) olds thing k
-only_of_at f xs olds thing k x within is only = (f x, value_at f xs k x within is, only.0, only.1)
-
-pub only_of_not : {A : Type 0} (f : A → FactValue) (xs : List A) (olds : List FactValue) (thing : ThingValue) (k : ℕ) (x : A) → k < length xs → x ≡ get_or xs k x
-    → ¬ ((thing_of (f x) ≡ thing) × ¬ Contains olds (f x)) → ¬ IsOnlyOf (map f xs) olds thing k
-only_of_not f xs olds thing k x within is not only =
-    let same : only.0 ≡ f x = item_same (map f xs) k only.0 (f x) only.1 (value_at f xs k x within is) in
-    not (subst (λ (g : FactValue). (thing_of g ≡ thing) × ¬ Contains olds g) same (only.2, only.3))
-
-pub all_only_of : {A : Type 0} (f : A → FactValue) (xs : List A) (olds : List FactValue) (thing : ThingValue) (k : ℕ) (others : List ℕ) → length xs ≤ k
-    → AreBelow (IsOnlyOf (map f xs) olds thing) k others → AreOnlyOf olds (map f xs) thing others
-all_only_of f xs olds thing k others all are = record {
-  each = λ j. (are.are j, λ is. are.all j (omega (arith, slice_get_within (map f xs) j is.0 is.1, length-map xs f, all)) is);
-  in_order = are.ascend;
-}
+-- ---- what is made of these
 
 pub some_changed_so : (olds news : List FactValue) (i : ℕ) (f : FactValue) (others given : List ℕ) (made : Result (Vec Difference Global) AllocError) → slice_get olds i ≡ Some f → ¬ Contains news f
     → AreOnlyOf olds news (thing_of f) others → 0 < length others → given ≡ others → IfOk made (λ told. told.items ≡ map (Changed i) given)
@@ -256,10 +218,6 @@ some_changed_so olds news i f others given (Ok told) here gone are some same mad
     subst (λ (ds : List Difference). AreToldIn (IsDifference olds news) (IsOfOld i) ds) (sym (made ∙ ap (map (Changed i)) same))
     (some_changed olds news i f others (get_or others 0 0) here gone are (Contains-get_or others 0 0 some))
 some_changed_so olds news i f others given (Err e) here gone are some same made = tt
-
-pub none_only_all : {A : Type 0} (f : A → FactValue) (xs : List A) (those : List FactValue) (thing : ThingValue) (k : ℕ) → length xs ≤ k
-    → ¬ HasOnlyIn (map f (take k xs)) those thing → ¬ HasOnlyIn (map f xs) those thing
-none_only_all f xs those thing k all none has = none (subst (λ ys. HasOnlyIn (map f ys) those thing) (sym (take_all k xs all)) has)
 
 pub nothing_in : (xs : List ℕ) → length xs ≡ 0 → xs ≡ []
 nothing_in [] none = refl

@@ -1,27 +1,27 @@
 -- The lines that tell how two plans differ.
-use Rattle.std.specs.Prelude.{ℕ, List, [], ◌∷◌, ◌++◌, Option, Some, None, codes, option_map, slice_get, unwrap_or}
+use Rattle.std.specs.Prelude.{ℕ, List, ◌∷◌, [], ◌++◌, Option, Some, None, codes, option_map, slice_get, unwrap_or}
 use Rattle.std.specs.Fmt.{decimal}
 use Rattle.hex.specs.Hex.{encode_lower}
-use Rattle.net_plan.specs.declared.nodes.Kind.{Kind}
-use Rattle.net_plan.specs.declared.nodes.Kind.TheVariants.{Bridge, Endpoint}
+use Rattle.net_tables.specs.Names.{kind_word}
 use Rattle.plan_differences.specs.declared.difference.Difference.{Difference}
 use Rattle.plan_differences.specs.declared.difference.Difference.TheVariants.{Removed, Changed, Added}
 use Rattle.plan_differences.specs.Facts.{FactValue, unit, bus, node, pool, port, row, terminus, record_of}
+use Rattle.plan_differences.specs.Things.{ThingValue, thing_of}
+
+-- the words for a thing
+abbrev pub thing_words : ThingValue → List ℕ
+thing_words ThingValue.whole = codes "unit"
+thing_words (ThingValue.bus name) = codes "bus " ++ name
+thing_words (ThingValue.node name) = codes "node " ++ name
+thing_words (ThingValue.pool name) = codes "pool of " ++ name
+thing_words (ThingValue.port name index) = codes "port " ++ (decimal index ++ (codes " of " ++ name))
+thing_words (ThingValue.row name first) = codes "row " ++ (decimal first ++ (codes " of " ++ name))
+thing_words (ThingValue.terminus name) = codes "terminus of " ++ name
+thing_words (ThingValue.record_of name handle) = codes "record " ++ (decimal handle ++ (codes " of " ++ name))
 
 -- the words for the thing of a fact
 abbrev pub thing_text : FactValue → List ℕ
-thing_text (unit size) = codes "unit"
-thing_text (bus name binding media) = codes "bus " ++ name
-thing_text (node name kind eid owner) = codes "node " ++ name
-thing_text (pool name first size) = codes "pool of " ++ name
-thing_text (port name index on address) = codes "port " ++ (decimal index ++ (codes " of " ++ name))
-thing_text (row name first size through next) = codes "row " ++ (decimal first ++ (codes " of " ++ name))
-thing_text (terminus name tid) = codes "terminus of " ++ name
-thing_text (record_of name handle next bytes) = codes "record " ++ (decimal handle ++ (codes " of " ++ name))
-
-abbrev pub kind_word : Kind → List ℕ
-kind_word Bridge = codes "bridge"
-kind_word Endpoint = codes "endpoint"
+thing_text f = thing_words (thing_of f)
 
 abbrev pub name_or_dash : Option (List ℕ) → List ℕ
 name_or_dash (Some name) = name
@@ -52,6 +52,10 @@ thing_at facts i = unwrap_or (option_map thing_text (slice_get facts i)) (codes 
 
 abbrev pub said_at : List FactValue → ℕ → List ℕ
 said_at facts i = unwrap_or (option_map said_text (slice_get facts i)) (codes "-")
+
+-- all that a fact says
+abbrev pub fact_text : FactValue → List ℕ
+fact_text f = thing_text f ++ (codes ": " ++ said_text f)
 
 -- the thing, and what is said of it, or what was said and what is
 abbrev pub difference_text : List FactValue → List FactValue → Difference → List ℕ

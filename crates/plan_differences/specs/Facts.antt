@@ -1,6 +1,5 @@
 -- What a plan says, thing by thing, where buses and nodes stand by their names.
-use Rattle.std.specs.Prelude.{ℕ, suc, List, [], ◌∷◌, ◌++◌, Option, Some, None, map, option_map, unwrap_or, slice_get}
-use Rattle.std.specs.Prelude.{codes}
+use Rattle.std.specs.Prelude.{ℕ, suc, List, [], ◌∷◌, ◌++◌, Option, Some, None, map, option_map}
 use Rattle.std.specs.List.{flat_map}
 use Rattle.net_plan.specs.NodeValues.{name_bytes}
 use Rattle.net_plan.specs.declared.nodes.Bus.{Bus}
@@ -12,6 +11,7 @@ use Rattle.net_plan.specs.declared.nodes.Row.{Row}
 use Rattle.net_plan.specs.declared.plan.Plan.{Plan}
 use Rattle.net_plan.specs.declared.terminus.PlannedRecord.{PlannedRecord}
 use Rattle.net_plan.specs.declared.terminus.PlannedTerminus.{PlannedTerminus}
+use Rattle.net_tables.specs.Names.{bus_name, node_name}
 use Rattle.plan_differences.specs.declared.fact.Fact.{Fact}
 use Rattle.plan_differences.specs.declared.fact.Fact.TheVariants as fact
 
@@ -43,14 +43,6 @@ fact_value (fact.Port name index on address) = port name.now index on.now addres
 fact_value (fact.Row name first size through next) = row name.now first.value size through next.now
 fact_value (fact.Terminus name tid) = terminus name.now tid
 fact_value (fact.Record name handle next bytes) = record_of name.now handle next bytes.now
-
--- the name of the node at the index, or a dash where there is none
-abbrev pub node_name : Plan → ℕ → List ℕ
-node_name plan n = unwrap_or (option_map (λ node. name_bytes node.name) (slice_get plan.nodes.items n)) (codes "-")
-
--- the name of the bus at the index, or a dash where there is none
-abbrev pub bus_name : Plan → ℕ → List ℕ
-bus_name plan b = unwrap_or (option_map (λ bus. name_bytes bus.name) (slice_get plan.buses.items b)) (codes "-")
 
 abbrev pub bus_fact : Bus → FactValue
 bus_fact b = bus (name_bytes b.name) b.binding b.media

@@ -3,6 +3,8 @@ pub mod Things
 pub mod Listed
 pub mod Differences
 pub mod DifferenceLines
+pub mod Indexes
+pub mod Indexed
 pub mod WayDifferences
 pub mod WayLines
 pub mod Changes

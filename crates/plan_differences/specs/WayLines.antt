@@ -2,7 +2,7 @@
 use Rattle.std.specs.Prelude.{ℕ, ◌+◌, List, ◌++◌, Option, Some, None, codes, length, option_map}
 use Rattle.std.specs.Fmt.{decimal}
 use Rattle.net_plan.specs.declared.plan.Plan.{Plan}
-use Rattle.net_reached.specs.Lines.{name_text}
+use Rattle.net_tables.specs.Names.{node_name}
 use Rattle.net_rollout.specs.declared.change.Rollout.{Rollout}
 use Rattle.net_rollout.specs.declared.change.Rollout.TheVariants as way
 use Rattle.plan_texts.specs.MoveLines.{move_obstacle_text}
@@ -10,7 +10,7 @@ use Rattle.plan_differences.specs.declared.ways.OtherWay.{OtherWay}
 
 -- the names of two nodes
 abbrev pub ends_text : Plan → ℕ → ℕ → List ℕ
-ends_text plan a b = codes "from " ++ (name_text plan a ++ (codes " to " ++ name_text plan b))
+ends_text plan a b = codes "from " ++ (node_name plan a ++ (codes " to " ++ node_name plan b))
 
 abbrev pub hops_text : ℕ → List ℕ
 hops_text hops = codes "hops " ++ decimal hops

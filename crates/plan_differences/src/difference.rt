@@ -1,11 +1,14 @@
 //! How the facts of two plans differ.
-ghost use Rattle.std.specs.Prelude.{◌≡◌, ◌<◌, ◌↔◌, IfOk, IsTrue, Contains, length, map};
+ghost use Rattle.std.specs.Prelude.{◌≡◌, ◌<◌, IfOk, length, map};
 ghost use Rattle.plan_differences.specs.Facts.{fact_value};
+ghost use Rattle.plan_differences.specs.Indexed.{IsIndexed, IsOnlyIndex};
 ghost use Rattle.plan_differences.specs.Things.{thing_of};
-ghost use Rattle.plan_differences.specs.Differences.{AreDifferences, AreOnlyOf, AreToldIn, HasOnlyIn, IsAfter, IsBefore, IsDifference, IsOfNew, IsOfOld};
+ghost use Rattle.plan_differences.specs.Differences.{AreDifferences, AreOnlyOf, AreToldIn, IsAfter, IsBefore, IsDifference, IsOfNew, IsOfOld};
 ghost use Rattle.plan_differences.specs.declared.difference.Difference.TheVariants.{Changed};
 
-use crate::fact::{Fact, are_of_one, is_same};
+use crate::fact::{Fact, are_of_one};
+use crate::index::{IndexedFacts, Places, contains, fact_at, only_places, places_of};
+use crate::lines::{fact_text, thing_text};
 use std::alloc::{AllocError, Global};
 
 /// How the facts of two plans differ. A fact stands by its index in its plan's list.
@@ -29,37 +32,50 @@ pub fn differences(
 ) -> Result<Vec<Difference>, AllocError>
     ensures { IfOk result (λ told. AreDifferences (map fact_value olds.now) (map fact_value news.now) told.items) }
 {
-    let mut told = differences_of_olds(alloc, olds, news)?;
-    told.extend_from_slice(&differences_of_news(alloc, olds, news)?)?;
+    let indexed_olds = IndexedFacts::of(alloc, olds)?;
+    let indexed_news = IndexedFacts::of(alloc, news)?;
+    let only_olds = only_places(alloc, indexed_olds.facts, &indexed_news)?;
+    let only_news = only_places(alloc, indexed_news.facts, &indexed_olds)?;
+    let mut told = differences_of_olds(alloc, &indexed_olds, &indexed_news, &only_news)?;
+    let added = differences_of_news(alloc, &indexed_olds, &indexed_news, &only_olds)?;
+    told.extend_from_slice(&added)?;
     Ok(told)
 }
 
 fn differences_of_olds(
     alloc: Global,
-    olds: &[Fact],
-    news: &[Fact],
+    olds: &IndexedFacts,
+    news: &IndexedFacts,
+    only: &Places,
 ) -> Result<Vec<Difference>, AllocError>
-    ensures { let here = map fact_value olds.now in
-        IfOk result (λ told. AreToldIn (IsDifference here (map fact_value news.now)) (IsBefore (length here)) told.items) }
+    requires olds { IsIndexed olds.now }
+    requires news { IsIndexed news.now }
+    requires only { IsOnlyIndex olds.now news.now only.now }
+    ensures { let here = map fact_value olds.now.facts.now in
+        IfOk result (λ told. AreToldIn (IsDifference here (map fact_value news.now.facts.now)) (IsBefore (length here)) told.items) }
 {
     let mut told = Vec::new(alloc);
-    for index in 0..olds.len() {
-        told.extend_from_slice(&differences_of_old(alloc, olds, news, index)?)?;
+    for index in 0..olds.facts.len() {
+        told.extend_from_slice(&differences_of_old(alloc, olds, news, only, index)?)?;
     }
     Ok(told)
 }
 
 fn differences_of_news(
     alloc: Global,
-    olds: &[Fact],
-    news: &[Fact],
+    olds: &IndexedFacts,
+    news: &IndexedFacts,
+    only: &Places,
 ) -> Result<Vec<Difference>, AllocError>
-    ensures { let there = map fact_value news.now in
-        IfOk result (λ told. AreToldIn (IsDifference (map fact_value olds.now) there) (IsAfter (length there)) told.items) }
+    requires olds { IsIndexed olds.now }
+    requires news { IsIndexed news.now }
+    requires only { IsOnlyIndex news.now olds.now only.now }
+    ensures { let there = map fact_value news.now.facts.now in
+        IfOk result (λ told. AreToldIn (IsDifference (map fact_value olds.now.facts.now) there) (IsAfter (length there)) told.items) }
 {
     let mut told = Vec::new(alloc);
-    for index in 0..news.len() {
-        told.extend_from_slice(&differences_of_new(alloc, olds, news, index)?)?;
+    for index in 0..news.facts.len() {
+        told.extend_from_slice(&differences_of_new(alloc, olds, news, only, index)?)?;
     }
     Ok(told)
 }
@@ -67,18 +83,23 @@ fn differences_of_news(
 /// What becomes of a fact of the old plan.
 fn differences_of_old(
     alloc: Global,
-    olds: &[Fact],
-    news: &[Fact],
+    olds: &IndexedFacts,
+    news: &IndexedFacts,
+    only: &Places,
     index: usize,
 ) -> Result<Vec<Difference>, AllocError>
-    requires { index < length olds.now }
-    ensures { IfOk result (λ told. AreToldIn (IsDifference (map fact_value olds.now) (map fact_value news.now)) (IsOfOld index) told.items) }
+    requires olds { IsIndexed olds.now }
+    requires news { IsIndexed news.now }
+    requires only { IsOnlyIndex olds.now news.now only.now }
+    requires within { index < length olds.now.facts.now }
+    ensures { IfOk result (λ told. AreToldIn (IsDifference (map fact_value olds.now.facts.now) (map fact_value news.now.facts.now)) (IsOfOld index) told.items) }
 {
-    let fact = &olds[index];
-    if contains(news, fact) {
+    let fact = fact_at(olds.facts, index);
+    let words = fact_text(alloc, fact)?;
+    if contains(news, &words, fact) {
         return Ok(Vec::new(alloc));
     }
-    let others = only_of(alloc, olds, news, fact)?;
+    let others = only_of(alloc, olds, news, only, fact)?;
     if others.is_empty() {
         return Ok(vec![in alloc; Difference::Removed(index)]?);
     }
@@ -98,65 +119,48 @@ fn changes(alloc: Global, index: usize, others: &[usize]) -> Result<Vec<Differen
 /// Whether a fact of the new plan is told as added.
 fn differences_of_new(
     alloc: Global,
-    olds: &[Fact],
-    news: &[Fact],
+    olds: &IndexedFacts,
+    news: &IndexedFacts,
+    only: &Places,
     index: usize,
 ) -> Result<Vec<Difference>, AllocError>
-    requires { index < length news.now }
-    ensures { IfOk result (λ told. AreToldIn (IsDifference (map fact_value olds.now) (map fact_value news.now)) (IsOfNew index) told.items) }
+    requires olds { IsIndexed olds.now }
+    requires news { IsIndexed news.now }
+    requires only { IsOnlyIndex news.now olds.now only.now }
+    requires within { index < length news.now.facts.now }
+    ensures { IfOk result (λ told. AreToldIn (IsDifference (map fact_value olds.now.facts.now) (map fact_value news.now.facts.now)) (IsOfNew index) told.items) }
 {
-    let fact = &news[index];
-    if contains(olds, fact) || has_only_of(olds, news, fact) {
+    let fact = fact_at(news.facts, index);
+    let words = fact_text(alloc, fact)?;
+    if contains(olds, &words, fact) {
+        return Ok(Vec::new(alloc));
+    }
+    let others = only_of(alloc, news, olds, only, fact)?;
+    if !others.is_empty() {
         return Ok(Vec::new(alloc));
     }
     Ok(vec![in alloc; Difference::Added(index)]?)
 }
 
-/// Whether a fact is one of these.
-fn contains(facts: &[Fact], fact: &Fact) -> bool
-    ensures { IsTrue result ↔ Contains (map fact_value facts.now) (fact_value fact.now) }
-{
-    for other in facts {
-        if is_same(other, fact) {
-            return true;
-        }
-    }
-    false
-}
-
-/// The facts of the new plan that are of the fact's thing, and aren't the old plan's.
+/// The places of those facts that are of the fact's thing and aren't among these. They are listed by the words for it.
 fn only_of(
     alloc: Global,
-    olds: &[Fact],
-    news: &[Fact],
+    these: &IndexedFacts,
+    those: &IndexedFacts,
+    only: &Places,
     fact: &Fact,
 ) -> Result<Vec<usize>, AllocError>
-    ensures { IfOk result (λ others. AreOnlyOf (map fact_value olds.now) (map fact_value news.now) (thing_of (fact_value fact.now)) others.items) }
+    requires { IsOnlyIndex these.now those.now only.now }
+    ensures { IfOk result (λ others. AreOnlyOf (map fact_value these.now.facts.now) (map fact_value those.now.facts.now) (thing_of (fact_value fact.now)) others.items) }
 {
+    let words = thing_text(alloc, fact)?;
+    let places = places_of(only, &words);
     let mut others = Vec::new(alloc);
-    for index in 0..news.len() {
-        if is_only_of(olds, &news[index], fact) {
-            others.push(index)?;
+    for listed in places {
+        let place = *listed;
+        if are_of_one(fact_at(those.facts, place), fact) {
+            others.push(place)?;
         }
     }
     Ok(others)
-}
-
-/// Whether some fact of the old plan is of the fact's thing, and isn't the new plan's.
-fn has_only_of(olds: &[Fact], news: &[Fact], fact: &Fact) -> bool
-    ensures { IsTrue result ↔ HasOnlyIn (map fact_value olds.now) (map fact_value news.now) (thing_of (fact_value fact.now)) }
-{
-    for old in olds {
-        if is_only_of(news, old, fact) {
-            return true;
-        }
-    }
-    false
-}
-
-/// Whether a fact is of another's thing, and isn't one of those.
-fn is_only_of(those: &[Fact], fact: &Fact, other: &Fact) -> bool
-    ensures { IsTrue result ↔ (thing_of (fact_value fact.now) ≡ thing_of (fact_value other.now)) × ¬ Contains (map fact_value those.now) (fact_value fact.now) }
-{
-    are_of_one(fact, other) && !contains(those, fact)
 }

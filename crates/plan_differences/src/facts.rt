@@ -1,10 +1,12 @@
 //! What a plan says, thing by thing.
 ghost use Rattle.std.specs.Prelude.{◌≡◌, IfOk, map, option_map};
 ghost use Rattle.std.specs.List.{flat_map};
-ghost use Rattle.plan_differences.specs.Facts.{fact_value, bus_fact, bus_name, facts_of_node, node_fact, node_name, plan_facts, pool_facts, port_fact, port_facts, record_fact, row_fact, terminus_facts};
+ghost use Rattle.net_tables.specs.Names.{bus_name, node_name};
+ghost use Rattle.plan_differences.specs.Facts.{fact_value, bus_fact, facts_of_node, node_fact, plan_facts, pool_facts, port_fact, port_facts, record_fact, row_fact, terminus_facts};
 
 use crate::fact::Fact;
 use net_plan::{Bus, Node, Plan, PlannedRecord, PlannedTerminus, Pool, Port, Row};
+use net_tables::lookup::{bus_name, node_name};
 use std::alloc::{AllocError, Global};
 
 /// What a plan says: of itself, of its buses, and of each node with its pool, ports, rows and records, in its order.
@@ -175,22 +177,4 @@ fn facts_of_records<'p>(
         })?;
     }
     Ok(facts)
-}
-
-/// The name of the node at an index, or a dash where there is none.
-fn node_name(plan: &Plan, node: usize) -> &str
-    ensures { result.now ≡ node_name plan.now node }
-{
-    plan.nodes
-        .get(node)
-        .map_or("-", |node| node.name.text.as_str())
-}
-
-/// The name of the bus at an index, or a dash where there is none.
-fn bus_name(plan: &Plan, bus: usize) -> &str
-    ensures { result.now ≡ bus_name plan.now bus }
-{
-    plan.buses
-        .get(bus)
-        .map_or("-", |bus| bus.name.text.as_str())
 }

@@ -4,6 +4,7 @@
 mod difference;
 mod fact;
 mod facts;
+mod index;
 mod lines;
 mod run;
 mod told;

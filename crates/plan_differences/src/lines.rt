@@ -1,12 +1,13 @@
 //! The lines that tell how two plans differ.
-ghost use Rattle.std.specs.Prelude.{◌≡◌, IfOk, codes, map, option_map, string_bytes};
+ghost use Rattle.std.specs.Prelude.{◌≡◌, IfOk, map, option_map, string_bytes};
 ghost use Rattle.std.specs.List.{flat_map};
 ghost use Rattle.plan_differences.specs.Facts.{fact_value};
-ghost use Rattle.plan_differences.specs.DifferenceLines.{address_text, difference_text, kind_word, name_or_dash, said_at, said_text, thing_at, thing_text};
+ghost use Rattle.plan_differences.specs.DifferenceLines.{address_text, difference_text, fact_text, name_or_dash, said_at, said_text, thing_at, thing_text, thing_words};
+ghost use Rattle.plan_differences.specs.Things.{thing_value};
 
 use crate::difference::Difference;
-use crate::fact::Fact;
-use net_plan::Kind;
+use crate::fact::{Fact, Thing};
+use net_tables::lookup::kind_word;
 use std::alloc::{AllocError, Global};
 
 /// A line for each difference.
@@ -73,22 +74,37 @@ fn said_at(alloc: Global, facts: &[Fact], index: usize) -> Result<String, AllocE
     }
 }
 
+/// All that a fact says.
+pub fn fact_text(alloc: Global, fact: &Fact) -> Result<String, AllocError>
+    ensures { IfOk result (λ text. string_bytes text ≡ fact_text (fact_value fact.now)) }
+{
+    let thing = thing_text(alloc, fact)?;
+    let said = said_text(alloc, fact)?;
+    format!(in alloc; "{thing}: {said}")
+}
+
 /// The words for the thing of a fact.
-fn thing_text(alloc: Global, fact: &Fact) -> Result<String, AllocError>
+pub fn thing_text(alloc: Global, fact: &Fact) -> Result<String, AllocError>
     ensures { IfOk result (λ text. string_bytes text ≡ thing_text (fact_value fact.now)) }
 {
-    match *fact {
-        Fact::Unit(_) => "unit".to_string(alloc),
-        Fact::Bus { name, .. } => format!(in alloc; "bus {name}"),
-        Fact::Node { name, .. } => format!(in alloc; "node {name}"),
-        Fact::Pool { node, .. } => format!(in alloc; "pool of {node}"),
-        Fact::Port { node, index, .. } => format!(in alloc; "port {index} of {node}"),
-        Fact::Row { node, first, .. } => {
+    thing_words(alloc, fact.thing())
+}
+
+fn thing_words(alloc: Global, thing: Thing) -> Result<String, AllocError>
+    ensures { IfOk result (λ text. string_bytes text ≡ thing_words (thing_value thing.entry)) }
+{
+    match thing {
+        Thing::Plan => "unit".to_string(alloc),
+        Thing::Bus(name) => format!(in alloc; "bus {name}"),
+        Thing::Node(name) => format!(in alloc; "node {name}"),
+        Thing::Pool(node) => format!(in alloc; "pool of {node}"),
+        Thing::Port(node, index) => format!(in alloc; "port {index} of {node}"),
+        Thing::Row(node, first) => {
             let first = first.value;
             format!(in alloc; "row {first} of {node}")
         }
-        Fact::Terminus { node, .. } => format!(in alloc; "terminus of {node}"),
-        Fact::Record { node, handle, .. } => format!(in alloc; "record {handle} of {node}"),
+        Thing::Terminus(node) => format!(in alloc; "terminus of {node}"),
+        Thing::Record(node, handle) => format!(in alloc; "record {handle} of {node}"),
     }
 }
 
@@ -130,15 +146,6 @@ fn said_text(alloc: Global, fact: &Fact) -> Result<String, AllocError>
             let bytes = hex::encode(alloc, bytes)?;
             format!(in alloc; "next {next} bytes {bytes}")
         }
-    }
-}
-
-fn kind_word(kind: Kind) -> &'static str
-    ensures { result.now ≡ kind_word kind }
-{
-    match kind {
-        Kind::Bridge => "bridge",
-        Kind::Endpoint => "endpoint",
     }
 }
 

@@ -1,12 +1,13 @@
 //! The lines that tell what becomes of ways and certificates, and what a roll-out needs.
 ghost use Rattle.std.specs.Prelude.{◌≡◌, Some, None, IfOk, string_bytes};
 ghost use Rattle.std.specs.List.{flat_map};
-ghost use Rattle.net_reached.specs.Lines.{name_text};
+ghost use Rattle.net_tables.specs.Names.{node_name};
 ghost use Rattle.plan_differences.specs.WayLines.{hops_line, need_text, way_text};
 
 use crate::ways::OtherWay;
 use net_plan::Plan;
 use net_rollout::Rollout;
+use net_tables::lookup::node_name;
 use plan_texts::move_obstacle_line;
 use std::alloc::{AllocError, Global};
 
@@ -24,8 +25,8 @@ pub fn way_lines(alloc: Global, before: &Plan, ways: &[OtherWay]) -> Result<Stri
 fn way_line(alloc: Global, plan: &Plan, way: OtherWay) -> Result<String, AllocError>
     ensures { IfOk result (λ line. string_bytes line ≡ way_text plan.now way) }
 {
-    let from = name_at(plan, way.from);
-    let to = name_at(plan, way.to);
+    let from = node_name(plan, way.from);
+    let to = node_name(plan, way.to);
     let ends = format!(in alloc; "from {from} to {to}")?;
     hops_line(alloc, &ends, way.before, way.after)
 }
@@ -66,14 +67,6 @@ fn new_hops_line(alloc: Global, ends: &str, after: Option<usize>) -> Result<Stri
         Some(after) => format!(in alloc; "added way {ends}: hops {after}\n"),
         None => "".to_string(alloc),
     }
-}
-
-fn name_at(plan: &Plan, node: usize) -> &str
-    ensures { result.now ≡ name_text plan.now node }
-{
-    plan.nodes
-        .get(node)
-        .map_or("-", |node| node.name.text.as_str())
 }
 
 /// What the nodes need to get to their new rows. Out of memory is an error, and has no such line.

@@ -1,2 +1,1 @@
 mod Led
-mod OnePlan

@@ -5,7 +5,7 @@ use Rattle.net_explained.specs.Obstacles.{IsTried}
 use Rattle.net_explained.specs.declared.edit.Edit.{Edit}
 use Rattle.net_explained.specs.declared.trial.Tried.{Tried}
 use Rattle.net_json.specs.PlanText.{IsPlanOf}
-use Rattle.net_json.specs.Texts.{StandsFor}
+use Rattle.net_json.specs.Texts.{IsJsonTextOf}
 use Rattle.net_plan.specs.PlanValues.{plan_value}
 use Rattle.net_plan.specs.declared.certificate.Certificate.{Certificate}
 use Rattle.net_plan.specs.declared.plan.Plan.{Plan}
@@ -19,7 +19,7 @@ use Rattle.plan_texts.specs.EditLines.{edit_text}
 
 -- the text is that of the plan
 abbrev pub IsTextOf : List ℕ → Plan → Type 0
-IsTextOf text plan = StandsFor IsPlanOf text (plan_value plan)
+IsTextOf text plan = IsJsonTextOf IsPlanOf text (plan_value plan)
 
 -- No certificate fits the plan, and this comes first of what rules them out. The edit was tried on that, and the next
 -- plan is this one with just its change.

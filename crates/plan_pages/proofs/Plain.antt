@@ -1,8 +1,7 @@
 -- Escaped characters are plain.
-use Rattle.std.proofs.Common.{◌≡◌, ◌≢◌, ℕ, ◌==◌, Bool, true, false, List, [], ◌∷◌, ◌++◌, codes, refl, sym, subst, rules, All, inl, inr, if◌then◌else◌}
+use Rattle.std.proofs.Common.{◌≡◌, ◌≢◌, ℕ, ◌==◌, true, false, List, [], ◌∷◌, ◌++◌, refl, rules, All, if◌then◌else◌}
 use Rattle.std.specs.List.{flat_map}
-use Rattle.std.proofs.lemmas.Bool.{cases_eq}
-use Rattle.std.proofs.lemmas.List.Elements.{All-nil, All-cons, All-append}
+use Rattle.std.proofs.lemmas.List.Elements.{All-nil, All-append}
 use Rattle.plan_pages.specs.Escaping.{IsPlain, escaped_char}
 
 pub plain_char : (c : ℕ) → All IsPlain (escaped_char c)

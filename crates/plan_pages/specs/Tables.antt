@@ -1,6 +1,6 @@
 -- The tables of a plan: which rows they have, and what stands in their cells.
-use Rattle.std.specs.Prelude.{◌≡◌, ℕ, ◌+◌, ◌==◌, List, [], ◌∷◌, ◌++◌, codes, find, length, slice_get}
-use Rattle.std.specs.Prelude.{MatchOption, Option, Some, None, option_map, unwrap_or}
+use Rattle.std.specs.Prelude.{◌≡◌, ℕ, ◌+◌, List, [], ◌∷◌, ◌++◌, codes, length, slice_get}
+use Rattle.std.specs.Prelude.{MatchOption, Option, Some, None, option_map}
 use Rattle.std.specs.Fmt.{decimal}
 use Rattle.std.specs.List.{flat_map}
 use Rattle.hex.specs.Hex.{encode_lower}
@@ -12,6 +12,7 @@ use Rattle.net_plan.specs.declared.nodes.Pool.{Pool}
 use Rattle.net_plan.specs.declared.nodes.Port.{Port}
 use Rattle.net_plan.specs.declared.nodes.Row.{Row}
 use Rattle.net_plan.specs.declared.plan.Plan.{Plan}
+use Rattle.net_tables.specs.Names.{address_on}
 use Rattle.net_tables.specs.Ownership.{IsInPool, level, owner_of, pool_of}
 use Rattle.net_tables.specs.Repositories.{terminus_of}
 use Rattle.net_tables.specs.Routing.{Holds, eid_of, node_at, ports_of, rows_of}
@@ -106,12 +107,6 @@ IsPoolTable plan text =
     (rows : List ℕ) × AreJoined (IsPoolRow plan) (length plan.nodes.items) rows × IsTable rows text
 
 -- ---- rows of routing tables
-
--- the address of a node's first port on a bus; empty where it has none there
-abbrev pub address_on : Plan → ℕ → Option ℕ → List ℕ
-address_on plan n None = []
-address_on plan n (Some bus) =
-    unwrap_or (option_map (λ port. port.address.items) (find (λ port. port.bus == bus) (ports_of plan n))) []
 
 abbrev pub bus_name_or_dash : Plan → Option ℕ → List ℕ
 bus_name_or_dash plan (Some bus) = bus_name plan bus

@@ -1,18 +1,8 @@
--- Words that stand in cells: names, numbers, ranges, and lists of words.
-use Rattle.std.specs.Prelude.{ℕ, ◌+◌, ◌-◌, ◌==◌, List, [], ◌∷◌, ◌++◌, codes, if◌then◌else◌, nat_lt, slice_get}
-use Rattle.std.specs.Prelude.{Option, Some, None, option_map, string_bytes, unwrap_or}
+-- Words that stand in cells: numbers, ranges, and lists of words.
+use Rattle.std.specs.Prelude.{ℕ, ◌+◌, ◌-◌, ◌==◌, List, [], ◌∷◌, ◌++◌, codes, if◌then◌else◌, nat_lt}
+use Rattle.std.specs.Prelude.{Option, Some, None}
 use Rattle.std.specs.Fmt.{decimal}
-use Rattle.net_plan.specs.declared.plan.Plan.{Plan}
-use Rattle.net_tables.specs.Routing.{node_at}
-
--- the name of a node; a dash beyond the plan
-abbrev pub node_name : Plan → ℕ → List ℕ
-node_name plan n = unwrap_or (option_map (λ node. string_bytes node.name.text) (node_at plan n)) (codes "-")
-
--- the name of a bus; a dash beyond the plan
-abbrev pub bus_name : Plan → ℕ → List ℕ
-bus_name plan b =
-    unwrap_or (option_map (λ bus. string_bytes bus.name.text) (slice_get plan.buses.items b)) (codes "-")
+pub use Rattle.net_tables.specs.Names.{bus_name, node_name}
 
 -- a number, or a dash where there is none
 abbrev pub number_or_dash : Option ℕ → List ℕ

@@ -12,7 +12,8 @@ mod termini;
 
 pub use escaping::escaped;
 pub use markup::{block, row, section, table};
-pub use names::{node_name, push_listed};
+pub use names::push_listed;
+pub use net_tables::lookup::node_name;
 pub use page::page_of;
 pub use picture::picture_of;
 pub use style::STYLE;

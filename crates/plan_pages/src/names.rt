@@ -1,27 +1,8 @@
-//! Names of a plan, numbers that may not be there, and lists of words.
+//! Numbers that may not be there, and lists of words.
 ghost use Rattle.std.specs.Prelude.{◌≡◌, IfOk, OnOk, Some, string_bytes};
-ghost use Rattle.plan_pages.specs.Words.{bus_name, listed_behind, node_name, number_or_dash, or_dash, span_text};
+ghost use Rattle.plan_pages.specs.Words.{listed_behind, number_or_dash, or_dash, span_text};
 
-use net_plan::Plan;
 use std::alloc::{AllocError, Global};
-
-/// The name of a node, or a dash where there is none.
-pub fn node_name(plan: &Plan, node: usize) -> &str
-    ensures { result.now ≡ node_name plan.now node }
-{
-    plan.nodes
-        .get(node)
-        .map_or("-", |node| node.name.text.as_str())
-}
-
-/// The name of a bus, or a dash where there is none.
-pub fn bus_name(plan: &Plan, bus: usize) -> &str
-    ensures { result.now ≡ bus_name plan.now bus }
-{
-    plan.buses
-        .get(bus)
-        .map_or("-", |bus| bus.name.text.as_str())
-}
 
 /// A number, or a dash where there is none.
 pub fn word_or_dash(alloc: Global, number: Option<u16>) -> Result<String, AllocError>

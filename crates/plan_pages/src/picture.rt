@@ -4,11 +4,10 @@ mod lines;
 mod scale;
 
 use crate::markup::label;
-use crate::names::{bus_name, node_name};
 use crate::picture::lines::{Line, lanes_of, lines_of};
 use crate::picture::scale::{BADGE, NAMES, Scale, beside};
 use net_plan::Plan;
-use net_tables::lookup::{is_bridge, is_on_bus, ports_at};
+use net_tables::lookup::{bus_name, is_bridge, is_on_bus, node_name, ports_at};
 use std::alloc::{AllocError, Global};
 
 /// The picture of a plan. The nodes that are marked stand out.

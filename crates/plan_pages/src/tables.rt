@@ -4,15 +4,15 @@ ghost use Rattle.net_tables.specs.Ownership.{owner_of, pool_of};
 ghost use Rattle.net_tables.specs.Routing.{eid_of, node_at, ports_of, rows_of};
 ghost use Rattle.net_tables.specs.Rows.{IsOnBus};
 ghost use Rattle.plan_pages.specs.Lists.{AddsName, AreJoined, AreListed, AreNamesOf};
-ghost use Rattle.plan_pages.specs.Tables.{AreEntryRows, HoldsOf, IsBusRow, IsBusTable, IsEntryRow, IsNodeRow, IsNodeTable, IsPoolRow, IsPoolTable, IsPortText, IsRowTable, address_on, bus_cells, bus_name_or_dash, entry_cells, kind_text, level_by, node_cells, owner_text, pool_cells, port_text, row_of_cells, tid_of};
+ghost use Rattle.plan_pages.specs.Tables.{AreEntryRows, HoldsOf, IsBusRow, IsBusTable, IsEntryRow, IsNodeRow, IsNodeTable, IsPoolRow, IsPoolTable, IsPortText, IsRowTable, bus_cells, bus_name_or_dash, entry_cells, kind_text, level_by, node_cells, owner_text, pool_cells, port_text, row_of_cells, tid_of};
 ghost use Rattle.plan_pages.specs.Words.{bus_name, node_name, number_or_dash, or_dash};
 
 use crate::markup::{row, table};
-use crate::names::{bus_name, byte_or_dash, node_name, number, or_dash, push_listed, span_text};
+use crate::names::{byte_or_dash, number, or_dash, push_listed, span_text};
 use net_plan::{Bus, Certificate, Kind, Plan, Pool, Port, Row};
 use net_tables::lookup::{
-    bus_at, eid_at, is_in_pool, is_on_bus, level_of, owner_at, pool_at, pool_end, port_at,
-    ports_at, row_at, row_end, rows_at, terminus_at,
+    address_on, bus_at, bus_name, eid_at, is_in_pool, is_on_bus, level_of, node_name, owner_at,
+    pool_at, pool_end, port_at, ports_at, row_at, row_end, rows_at, terminus_at,
 };
 use std::alloc::{AllocError, Global};
 
@@ -444,24 +444,5 @@ fn bus_name_or_dash(plan: &Plan, bus: Option<usize>) -> &str
     match bus {
         Some(bus) => bus_name(plan, bus),
         None => "-",
-    }
-}
-
-/// The address of a node's first port on a bus; empty where it has none there.
-fn address_on(plan: &Plan, node: usize, bus: Option<usize>) -> &[u8]
-    ensures { result.now ≡ address_on plan.now node bus }
-{
-    match bus {
-        Some(bus) => first_address(plan, node, bus),
-        None => &[],
-    }
-}
-
-fn first_address(plan: &Plan, node: usize, bus: usize) -> &[u8]
-    ensures { result.now ≡ address_on plan.now node (Some bus) }
-{
-    match ports_at(plan, node).iter().find(|port| port.bus == bus) {
-        Some(port) => port.address.as_slice(),
-        None => &[],
     }
 }

@@ -7,10 +7,10 @@ ghost use Rattle.plan_pages.specs.Words.{node_name, number_or_dash};
 
 use crate::escaping::escaped;
 use crate::markup::{block, none};
-use crate::names::{node_name, word_or_dash};
+use crate::names::word_or_dash;
 use mctp_transport::Wire;
 use net_plan::{Certificate, Plan, PlannedRecord};
-use net_tables::lookup::{places_at, record_at, records_at, terminus_at};
+use net_tables::lookup::{node_name, places_at, record_at, records_at, terminus_at};
 use pdr_record::Record;
 use record_fields::description;
 use std::alloc::{AllocError, Global};

@@ -14,25 +14,15 @@ use Rattle.net_plan.specs.declared.nodes.Node.{Node}
 use Rattle.net_plan.specs.declared.nodes.Port.{Port}
 use Rattle.net_plan.specs.declared.plan.Plan.{Plan}
 use Rattle.plan_texts.specs.DrawingLines.{first_line, last_line, bus_line, node_line, port_line, owner_lines, by_index, all_by_index, round_lines, drawing_lines, port_count, owned_count, IsDrawing}
+use Rattle.pdr_repository.proofs.Indexing.{enumerate_push}
 
 -- ---- items by their indices
-
-enumerate_more : {A : Type 0} (k : ℕ) (xs : List A) (x : A) → enumerate_from k (xs ++ x ∷ []) ≡ enumerate_from k xs ++ (k + length xs, x) ∷ []
-enumerate_more {A} k [] x =
-    let same : k ≡ k + 0 = omega arith in
-    let F : ℕ → List (ℕ × A) = λ n. (n, x) ∷ [] in
-    ap F same
-enumerate_more {A} k (y ∷ xs) x =
-    let further : k + 1 + length xs ≡ k + length (y ∷ xs) = omega arith in
-    let F : ℕ → List (ℕ × A) = λ n. (k, y) ∷ (enumerate_from (k + 1) xs ++ (n, x) ∷ []) in
-    let G : List (ℕ × A) → List (ℕ × A) = λ z. (k, y) ∷ z in
-    ap G (enumerate_more (k + 1) xs x) ∙ ap F further
 
 all_more : {A B : Type 0} (say : ℕ → A → List B) (xs : List A) (x : A) → all_by_index say (xs ++ x ∷ []) ≡ all_by_index say xs ++ say (length xs) x
 all_more {A} say xs x =
     let f = λ (placed : ℕ × A). say placed.0 placed.1 in
     let same : 0 + length xs ≡ length xs = omega arith in
-    ap (flat_map f) (enumerate_more 0 xs x)
+    ap (flat_map f) (enumerate_push 0 xs x)
     ∙ (ap (λ n. flat_map f (enumerate_from 0 xs ++ (n, x) ∷ [])) same
     ∙ (flat_map-append f (enumerate_from 0 xs) ((length xs, x) ∷ [])
     ∙ ap (λ z. flat_map f (enumerate_from 0 xs) ++ z) (append-nil (say (length xs) x))))

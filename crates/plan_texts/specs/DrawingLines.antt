@@ -4,6 +4,7 @@ use Rattle.std.specs.Prelude.{Option, Some, None, is_some, count_by, codes, char
 use Rattle.std.specs.Fmt.{decimal}
 use Rattle.std.specs.List.{concat, enumerate_from, flat_map, list_any, sum_by}
 use Rattle.mctp_transport.specs.declared.address.Eid.{Eid}
+use Rattle.net_tables.specs.Names.{kind_word}
 use Rattle.net_tables.specs.Ownership.{given_level}
 use Rattle.net_tables.specs.Ranks.{ranges_of}
 use Rattle.net_tables.specs.Routing.{ports_of}
@@ -30,10 +31,6 @@ escaped text = encode_utf8_all (flat_map escaped_char (chars text))
 -- red for the places of a list, black for all others
 abbrev pub color_among : List ℕ → ℕ → List ℕ
 color_among red n = if list_any (λ m. m == n) red then codes "red" else codes "black"
-
-abbrev pub kind_word : Kind → List ℕ
-kind_word kind.Bridge = codes "bridge"
-kind_word kind.Endpoint = codes "endpoint"
 
 abbrev pub kind_shape : Kind → List ℕ
 kind_shape kind.Bridge = codes "octagon"

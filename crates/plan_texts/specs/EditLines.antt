@@ -8,26 +8,21 @@ use Rattle.net_explained.specs.declared.edit.Change.TheVariants as change
 use Rattle.net_explained.specs.declared.edit.Edit.{Edit}
 use Rattle.net_explained.specs.declared.trial.Tried.{Tried}
 use Rattle.net_plan.specs.NodeValues.{name_bytes}
-use Rattle.net_plan.specs.declared.nodes.Kind.{Kind}
-use Rattle.net_plan.specs.declared.nodes.Kind.TheVariants.{Bridge, Endpoint}
 use Rattle.net_plan.specs.declared.nodes.Pool.{Pool}
 use Rattle.net_plan.specs.declared.nodes.Row.{Row}
 use Rattle.net_plan.specs.declared.plan.Plan.{Plan}
 use Rattle.net_rules.specs.declared.certify_error.CertifyError.{CertifyError}
+use Rattle.net_tables.specs.Names.{kind_word, node_name}
 use Rattle.net_tables.specs.Routing.{rows_of}
-use Rattle.plan_texts.specs.Lines.{name_or_dash, obstacle_text}
+use Rattle.plan_texts.specs.Lines.{obstacle_text}
 
 -- ---- values, as the text of a plan has them
 
 abbrev pub quoted : List ℕ → List ℕ
 quoted text = codes "\"" ++ (text ++ codes "\"")
 
-abbrev pub kind_word : Kind → List ℕ
-kind_word Bridge = codes "bridge"
-kind_word Endpoint = codes "endpoint"
-
 abbrev pub owner_value : Plan → Option ℕ → List ℕ
-owner_value plan (Some owner) = quoted (name_or_dash plan owner)
+owner_value plan (Some owner) = quoted (node_name plan owner)
 owner_value plan None = codes "null"
 
 abbrev pub pool_value : Option Pool → List ℕ
@@ -38,7 +33,7 @@ pool_value None = codes "null"
 abbrev pub row_value : Plan → Row → List ℕ
 row_value plan row = codes "{ \"first\": " ++ (decimal row.first.value ++ (codes ", \"size\": " ++ (decimal row.size
     ++ (codes ", \"port\": " ++ (decimal row.port
-    ++ (codes ", \"next\": \"" ++ (name_or_dash plan row.next ++ codes "\" }")))))))
+    ++ (codes ", \"next\": \"" ++ (node_name plan row.next ++ codes "\" }")))))))
 
 -- ---- edits
 
@@ -86,7 +81,7 @@ word_of _ = codes " to "
 -- the JSON pointer, the name of the node, and what is to stand there
 abbrev pub edit_text : Plan → Edit → List ℕ
 edit_text plan edit = codes "Edit: " ++ (verb_of edit.change ++ (codes " /nodes/" ++ (decimal edit.node ++ (codes "/"
-    ++ (place_text plan edit.node edit.change ++ (codes " of " ++ (name_or_dash plan edit.node
+    ++ (place_text plan edit.node edit.change ++ (codes " of " ++ (node_name plan edit.node
     ++ (word_of edit.change ++ (value_text plan edit.change ++ codes "\n")))))))))
 
 -- that a certificate fits the plan after an edit, or the line of what rules all of them out

@@ -8,7 +8,7 @@ use Rattle.net_plan.specs.declared.nodes.Port.{Port}
 use Rattle.net_plan.specs.declared.plan.Plan.{Plan}
 use Rattle.net_questions.specs.declared.finding.Finding.{Finding}
 use Rattle.net_questions.specs.declared.finding.Finding.TheVariants as finding
-use Rattle.plan_texts.specs.Lines.{name_or_dash}
+use Rattle.net_tables.specs.Names.{node_name}
 use Rattle.plan_texts.specs.WayLines.{bus_text, address_text}
 
 -- the bus of n's port p
@@ -22,16 +22,16 @@ address_of_port plan n p =
 
 -- a code and a node
 abbrev pub node_finding : List ℕ → Plan → ℕ → List ℕ
-node_finding code plan n = code ++ (codes " node " ++ (name_or_dash plan n ++ codes "\n"))
+node_finding code plan n = code ++ (codes " node " ++ (node_name plan n ++ codes "\n"))
 
 -- a code, a node, and another node after a word that says what it is
 abbrev pub pair_finding : List ℕ → Plan → ℕ → List ℕ → ℕ → List ℕ
-pair_finding code plan n word m = code ++ (codes " node " ++ (name_or_dash plan n
-    ++ (codes " " ++ (word ++ (codes " " ++ (name_or_dash plan m ++ codes "\n"))))))
+pair_finding code plan n word m = code ++ (codes " node " ++ (node_name plan n
+    ++ (codes " " ++ (word ++ (codes " " ++ (node_name plan m ++ codes "\n"))))))
 
 -- a code, a node, and a number after a word that says what it is
 abbrev pub item_finding : List ℕ → Plan → ℕ → List ℕ → ℕ → List ℕ
-item_finding code plan n word number = code ++ (codes " node " ++ (name_or_dash plan n
+item_finding code plan n word number = code ++ (codes " node " ++ (node_name plan n
     ++ (codes " " ++ (word ++ (codes " " ++ (decimal number ++ codes "\n"))))))
 
 -- a code and a bus
@@ -40,7 +40,7 @@ bus_finding code plan b = code ++ (codes " bus " ++ (bus_text plan (Some b) ++ c
 
 -- a code, a node, one of its ports, and the bus of the port
 abbrev pub port_finding : List ℕ → Plan → ℕ → ℕ → List ℕ
-port_finding code plan n p = code ++ (codes " node " ++ (name_or_dash plan n ++ (codes " port " ++ (decimal p
+port_finding code plan n p = code ++ (codes " node " ++ (node_name plan n ++ (codes " port " ++ (decimal p
     ++ (codes " bus " ++ (bus_text plan (bus_of_port plan n p) ++ codes "\n"))))))
 
 -- a node, one of its ports, and the bus of the port
@@ -55,8 +55,8 @@ shared_address_line port address other q = codes "H01 " ++ (port ++ (codes " add
 -- two ports, the bus of the first one, and its address
 abbrev pub address_finding : Plan → ℕ → ℕ → ℕ → ℕ → List ℕ
 address_finding plan n p m q =
-    shared_address_line (port_on_bus (name_or_dash plan n) p (bus_text plan (bus_of_port plan n p)))
-    (address_text (address_of_port plan n p)) (name_or_dash plan m) q
+    shared_address_line (port_on_bus (node_name plan n) p (bus_text plan (bus_of_port plan n p)))
+    (address_text (address_of_port plan n p)) (node_name plan m) q
 
 -- the line of a finding: its code, and whom it is about
 abbrev pub finding_line : Plan → Finding → List ℕ

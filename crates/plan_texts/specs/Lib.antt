@@ -10,8 +10,6 @@ pub mod MoveLines
 pub mod MoveSteps
 pub mod FindingLines
 pub mod PairLines
-pub mod AssignmentLines
-pub mod OutcomeLines
 pub mod DrawingLines
 pub mod RowDrawings
 pub mod WalkLines

@@ -15,18 +15,19 @@ use Rattle.net_rules.specs.declared.move_fault.MoveFault.{MoveFault}
 use Rattle.net_tables.specs.Routing.{eid_number}
 use Rattle.net_rules.specs.MoveFaults.{code_of_move}
 use Rattle.net_plan.specs.declared.plan.Plan.{Plan}
-use Rattle.plan_texts.specs.Lines.{name_or_dash, number_or_dash, names_text, obstacle_text}
+use Rattle.net_tables.specs.Names.{node_name}
+use Rattle.plan_texts.specs.Lines.{number_or_dash, names_text, obstacle_text}
 
 -- whose rule is broken: the code, the node's name, the entry and the endpoint ID
 abbrev pub move_fault_text : Plan → List ℕ → MoveFault → List ℕ
 move_fault_text plan whose fault =
-    codes "fault " ++ (whose ++ (code_of_move fault.rule ++ (codes " node " ++ (name_or_dash plan fault.node
+    codes "fault " ++ (whose ++ (code_of_move fault.rule ++ (codes " node " ++ (node_name plan fault.node
     ++ (codes " entry " ++ (number_or_dash fault.entry
     ++ (codes " eid " ++ (number_or_dash (eid_number fault.eid) ++ codes "\n"))))))))
 
 -- the name of the node at an index, or a dash where no index is given
 abbrev pub name_of_some : Plan → Option ℕ → List ℕ
-name_of_some plan (Some node) = name_or_dash plan node
+name_of_some plan (Some node) = node_name plan node
 name_of_some plan None = codes "-"
 
 -- the plans differ in more than rows, at a node of the name

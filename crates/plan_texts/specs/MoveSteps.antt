@@ -10,7 +10,8 @@ use Rattle.net_rollout.specs.declared.change.Change.TheVariants as change
 use Rattle.net_rollout.specs.declared.change.Step.{Step}
 use Rattle.net_rollout.specs.declared.change.Rollout.{Rollout}
 use Rattle.net_rollout.specs.declared.change.Rollout.TheVariants as way
-use Rattle.plan_texts.specs.Lines.{name_or_dash, names_text}
+use Rattle.net_tables.specs.Names.{node_name}
+use Rattle.plan_texts.specs.Lines.{names_text}
 use Rattle.plan_texts.specs.MoveLines.{move_obstacle_text, name_of_some}
 
 -- the endpoint IDs of a part: the one, or the first and the last
@@ -19,7 +20,7 @@ eids_text first last = if nat_eq first last then decimal first else decimal firs
 
 -- the number of the step, the node, the endpoint IDs and the node to which the new rows send them
 abbrev pub part_text : Plan → ℕ → Part → List ℕ
-part_text plan number part = codes "step " ++ (decimal number ++ (codes " rows of " ++ (name_or_dash plan part.node
+part_text plan number part = codes "step " ++ (decimal number ++ (codes " rows of " ++ (node_name plan part.node
     ++ (codes ": " ++ (eids_text part.first.value part.last.value ++ (codes " by " ++ (name_of_some plan part.next
     ++ codes "\n")))))))
 

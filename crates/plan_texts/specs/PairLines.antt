@@ -5,7 +5,7 @@ use Rattle.std.specs.Fmt.{decimal}
 use Rattle.std.specs.List.{flat_map}
 use Rattle.net_plan.specs.declared.plan.Plan.{Plan}
 use Rattle.net_questions.specs.declared.pair.Pair.{Pair}
-use Rattle.plan_texts.specs.Lines.{name_or_dash}
+use Rattle.net_tables.specs.Names.{node_name}
 
 -- how many hops lead there, or that no way does
 abbrev pub hops_text : Option ℕ → List ℕ
@@ -14,7 +14,7 @@ hops_text None = codes "none"
 
 -- the names of two nodes, and how many hops lead from the one to the other
 abbrev pub pair_line : Plan → Pair → List ℕ
-pair_line plan pair = name_or_dash plan pair.from ++ (codes " " ++ (name_or_dash plan pair.to ++ (codes " "
+pair_line plan pair = node_name plan pair.from ++ (codes " " ++ (node_name plan pair.to ++ (codes " "
     ++ (hops_text pair.there ++ codes "\n"))))
 
 -- there is a way from the one node to the other

@@ -14,8 +14,9 @@ use Rattle.net_plan.specs.declared.nodes.Row.{Row}
 use Rattle.net_plan.specs.declared.plan.Plan.{Plan}
 use Rattle.net_plan.specs.declared.terminus.PlannedRecord.{PlannedRecord}
 use Rattle.pdr_record.specs.Codes.{code_of}
-use Rattle.plan_texts.specs.Lines.{name_or_dash, number_or_dash}
-use Rattle.plan_texts.specs.WayLines.{address_on, address_text, bus_text}
+use Rattle.net_tables.specs.Names.{address_on, node_name}
+use Rattle.plan_texts.specs.Lines.{number_or_dash}
+use Rattle.plan_texts.specs.WayLines.{address_text, bus_text}
 use Rattle.plan_texts.specs.declared.pieces.Entry.{Entry}
 use Rattle.plan_texts.specs.declared.pieces.Piece.{Piece}
 use Rattle.plan_texts.specs.declared.pieces.Piece.TheVariants as piece
@@ -73,12 +74,12 @@ pool_span None = codes "null"
 
 -- the name of a node, or a dash where there is none
 abbrev pub name_or_none : Plan → Option ℕ → List ℕ
-name_or_none plan (Some node) = name_or_dash plan node
+name_or_none plan (Some node) = node_name plan node
 name_or_none plan None = codes "-"
 
 -- the name of an owner, null where there is none
 abbrev pub owner_name : Plan → Option ℕ → List ℕ
-owner_name plan (Some owner) = name_or_dash plan owner
+owner_name plan (Some owner) = node_name plan owner
 owner_name plan None = codes "null"
 
 -- how many ports there are, and their numbers
@@ -110,7 +111,7 @@ piece_text plan (piece.Number number) = decimal number
 piece_text plan (piece.Given number) = number_or_dash number
 piece_text plan (piece.Span first last) = from_to first last
 piece_text plan (piece.Code why) = code_of why
-piece_text plan (piece.Name node) = name_or_dash plan node
+piece_text plan (piece.Name node) = node_name plan node
 piece_text plan (piece.OwnerName node) = owner_name plan (owner_of plan node)
 piece_text plan (piece.BusName bus) = bus_text plan (Some bus)
 piece_text plan (piece.PortCount node) = ports_text (length (ports_of plan node))
@@ -121,7 +122,7 @@ piece_text plan (piece.TidByte node) = byte_text (tid_of plan node)
 piece_text plan (piece.PoolSpan node) = pool_span (pool_of plan node)
 piece_text plan (piece.PoolFirst node) = number_or_dash (option_map (λ pool. pool.first.value) (pool_of plan node))
 piece_text plan (piece.PoolSize node) = number_or_dash (option_map (λ pool. pool.size) (pool_of plan node))
-piece_text plan (piece.At at) = number_or_dash at.index ++ (codes " of " ++ name_or_dash plan at.node)
+piece_text plan (piece.At at) = number_or_dash at.index ++ (codes " of " ++ node_name plan at.node)
 piece_text plan (piece.RowSpan at) = row_span (row_of plan at)
 piece_text plan (piece.RowFirst at) = number_or_dash (option_map (λ row. row.first.value) (row_of plan at))
 piece_text plan (piece.RowSize at) = number_or_dash (option_map (λ row. row.size) (row_of plan at))

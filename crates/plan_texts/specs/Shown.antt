@@ -2,7 +2,7 @@
 use Rattle.std.specs.Prelude.{ℕ, List, ◌++◌, length, codes}
 use Rattle.std.specs.Fmt.{decimal}
 use Rattle.hex.specs.Hex.{encode_lower}
-use Rattle.mctp_transport.specs.Frames.{Frame, bit}
+use Rattle.mctp_transport.specs.PacketValues.{PacketValue, bit}
 use Rattle.pdr_record.specs.Fields.{bytes_of}
 use Rattle.pdr_record.specs.Layouts.{EntityValue, SensorValue, TerminusValue}
 use Rattle.pdr_record.specs.Layouts.{NumericValue, StateValue, AssociationValue}
@@ -13,21 +13,21 @@ use Rattle.pdr_record.specs.Records.{Other, type_of, body_fields, RecordValue}
 abbrev pub refused_bytes : List ℕ → List ℕ
 refused_bytes code = codes "refused " ++ (code ++ codes "\n")
 
-abbrev pub address_words_of : Frame → List ℕ
+abbrev pub address_words_of : PacketValue → List ℕ
 address_words_of f =
     codes "reserved " ++ (decimal f.reserved ++ (codes " destination " ++ (decimal f.destination
     ++ (codes " source " ++ decimal f.source))))
 
-abbrev pub position_words_of : Frame → List ℕ
+abbrev pub position_words_of : PacketValue → List ℕ
 position_words_of f =
     codes "som " ++ (decimal (bit f.som) ++ (codes " eom " ++ (decimal (bit f.eom)
-    ++ (codes " number " ++ decimal f.number))))
+    ++ (codes " number " ++ decimal f.sequence))))
 
-abbrev pub tag_words_of : Frame → List ℕ
+abbrev pub tag_words_of : PacketValue → List ℕ
 tag_words_of f = codes "owner " ++ (decimal (bit f.owner) ++ (codes " tag " ++ decimal f.tag))
 
 -- the fields of a packet's header, and its payload in hex
-abbrev pub packet_bytes : Frame → List ℕ
+abbrev pub packet_bytes : PacketValue → List ℕ
 packet_bytes f =
     codes "packet " ++ (address_words_of f ++ (codes " " ++ (position_words_of f ++ (codes " " ++ (tag_words_of f
     ++ (codes " payload " ++ (encode_lower f.payload ++ codes "\n")))))))

@@ -5,7 +5,7 @@ use Rattle.net_explained.specs.declared.hops.MostHops.{MostHops}
 use Rattle.net_plan.specs.declared.nodes.Node.{Node}
 use Rattle.net_plan.specs.declared.plan.Plan.{Plan}
 use Rattle.net_plan.specs.declared.terminus.PlannedTerminus.{PlannedTerminus}
-use Rattle.plan_texts.specs.Lines.{name_or_dash}
+use Rattle.net_tables.specs.Names.{node_name}
 
 -- how many records a terminus has, 0 without one
 abbrev pub record_count_of : Option PlannedTerminus → ℕ
@@ -33,7 +33,7 @@ counts_line plan = codes "nodes " ++ (decimal (length plan.nodes.items)
 abbrev pub hops_line : Plan → Option MostHops → List ℕ
 hops_line plan None = codes "most hops 0\n"
 hops_line plan (Some most) = codes "most hops " ++ (decimal most.hops
-    ++ (codes " from " ++ (name_or_dash plan most.from ++ (codes " to " ++ (name_or_dash plan most.to ++ codes "\n")))))
+    ++ (codes " from " ++ (node_name plan most.from ++ (codes " to " ++ (node_name plan most.to ++ codes "\n")))))
 
 -- what is told of a plan that a certificate fits
 abbrev pub summary_text : Plan → Option MostHops → List ℕ

@@ -1,16 +1,16 @@
 -- The lines of ways.
 use Rattle.std.specs.Prelude.{◌+◌, ◌==◌, ℕ, List, [], ◌∷◌, ◌++◌, length, Option}
-use Rattle.std.specs.Prelude.{Some, None, option_map, slice_get, unwrap_or, find, codes, if◌then◌else◌}
+use Rattle.std.specs.Prelude.{Some, None, option_map, slice_get, codes, if◌then◌else◌}
 use Rattle.std.specs.Fmt.{decimal}
 use Rattle.hex.specs.Hex.{encode_lower}
-use Rattle.mctp_bridge.specs.Decisions.{obstacle_code}
+use Rattle.mctp_bridge.specs.Decisions.{forward_fault_code}
+use Rattle.net_tables.specs.Names.{address_on, bus_name, node_name}
 use Rattle.net_tables.specs.Routing.{ports_of}
-use Rattle.net_plan.specs.declared.plan.Plan.{Plan}
 use Rattle.net_plan.specs.declared.nodes.Port.{Port}
+use Rattle.net_plan.specs.declared.plan.Plan.{Plan}
 use Rattle.net_questions.specs.declared.step.WayStep.{WayStep}
 use Rattle.net_questions.specs.declared.way.End.{End}
 use Rattle.net_questions.specs.declared.way.End.TheVariants.{Arrives, Stops}
-use Rattle.plan_texts.specs.Lines.{name_or_dash, bus_name_or_dash}
 
 -- the bus of the port by which a step leaves
 abbrev pub bus_of_step : Plan → WayStep → Option ℕ
@@ -19,18 +19,8 @@ bus_of_step plan step =
 
 -- the name of a bus, or a dash where there is none
 abbrev pub bus_text : Plan → Option ℕ → List ℕ
-bus_text plan (Some bus) = bus_name_or_dash plan bus
+bus_text plan (Some bus) = bus_name plan bus
 bus_text plan None = codes "-"
-
--- the address of the first of these ports that is on the bus; empty where none is
-abbrev pub first_address : List Port → ℕ → List ℕ
-first_address ports bus =
-    unwrap_or (option_map (λ (port : Port). port.address.items) (find (λ (port : Port). port.bus == bus) ports)) []
-
--- the address of a node's first port on a bus; empty where it has none there
-abbrev pub address_on : Plan → ℕ → Option ℕ → List ℕ
-address_on plan node (Some bus) = first_address (ports_of plan node) bus
-address_on plan node None = []
 
 -- an address in hex, or a dash where it is empty
 abbrev pub address_text : List ℕ → List ℕ
@@ -43,9 +33,9 @@ hop_text number node port bus address next = decimal number ++ (codes " " ++ (no
 
 -- the line of the step of a number
 abbrev pub step_line : Plan → ℕ → WayStep → List ℕ
-step_line plan number step = hop_text number (name_or_dash plan step.node) step.hop.port
+step_line plan number step = hop_text number (node_name plan step.node) step.hop.port
     (bus_text plan (bus_of_step plan step)) (address_text (address_on plan step.hop.next (bus_of_step plan step)))
-    (name_or_dash plan step.hop.next)
+    (node_name plan step.hop.next)
 
 -- the lines of steps, numbered from one number on
 abbrev pub steps_from : Plan → ℕ → List WayStep → List ℕ
@@ -56,7 +46,7 @@ steps_from plan number (step ∷ steps) = step_line plan number step ++ steps_fr
 abbrev pub end_line : Plan → ℕ → ℕ → End → List ℕ
 end_line plan hops last Arrives = codes "hops " ++ (decimal hops ++ codes "\n")
 end_line plan hops last (Stops why) =
-    codes "stops at " ++ (name_or_dash plan last ++ (codes " " ++ (obstacle_code why ++ codes "\n")))
+    codes "stops at " ++ (node_name plan last ++ (codes " " ++ (forward_fault_code why ++ codes "\n")))
 
 -- a line for each step, numbered from 1, and one that says how the way ends
 abbrev pub trace_text : Plan → List WayStep → ℕ → End → List ℕ

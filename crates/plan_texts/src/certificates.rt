@@ -1,7 +1,7 @@
 //! What the command `explain` tells of a certificate that breaks a rule.
 ghost use Rattle.std.specs.Prelude.{◌≡◌, IfOk, option_map, string_bytes};
 ghost use Rattle.net_tables.specs.Routing.{eid_number};
-ghost use Rattle.net_tables.specs.Ownership.{given_level, owner_of};
+ghost use Rattle.net_tables.specs.Ownership.{owner_of};
 ghost use Rattle.plan_texts.specs.CertificateSubjects.{certificate_subjects, next_of, owner_level, rank_at, rank_subjects};
 ghost use Rattle.plan_texts.specs.CertificateSubjects.{unowned_subjects, useless_subjects};
 ghost use Rattle.plan_texts.specs.Pieces.{Tells, subjects};
@@ -14,7 +14,7 @@ use mctp_transport::Eid;
 use net_explained::rank_of;
 use net_plan::{Certificate, Plan};
 use net_rules::{Fault, Rule};
-use net_tables::lookup::{holds, level_of, owner_at, places_at, records_at};
+use net_tables::lookup::{given_level_of, holds, level_of, owner_at, places_at, records_at};
 use std::alloc::{AllocError, Global};
 
 /// Tells what the certificate gives by which it breaks the rule of a fault.
@@ -127,7 +127,7 @@ fn unowned_pieces(
 ) -> Result<Vec<Piece>, AllocError>
     ensures { IfOk result (λ pieces. subjects pieces.items ≡ unowned_subjects plan.now certificate.now node (owner_of plan.now node)) }
 {
-    let level = level_given(certificate, node);
+    let level = given_level_of(certificate, node);
     match owner_at(plan, node) {
         None if level != 0 =>
             told!(alloc; {Name(node)} " has no owner, so no level; the certificate gives it "
@@ -135,15 +135,5 @@ fn unowned_pieces(
         _ =>
             told!(alloc; "The records of " {Name(node)} " are " {Number(records_at(plan, node).len())}
             "; the certificate gives " {Number(places_at(certificate, node).len())} " places.\n"),
-    }
-}
-
-/// The level that the certificate gives a node; 0 where it gives none.
-fn level_given(certificate: &Certificate, node: usize) -> u8
-    ensures { result ≡ given_level certificate.now node }
-{
-    match certificate.levels.iter().find(|given| given.node == node) {
-        Some(given) => given.level,
-        None => 0,
     }
 }

@@ -1,9 +1,7 @@
 //! What the command `draw` prints: a planned network in Graphviz' DOT language.
 ghost use Rattle.std.specs.Prelude.{◌≡◌, ◌==◌, ◌∷◌, [], List, ℕ, ◌++◌, IfOk, OnOk, Some, option_map, string_bytes, encode_utf8_all};
 ghost use Rattle.std.specs.List.{concat, flat_map, list_any};
-ghost use Rattle.net_tables.specs.Ownership.{given_level};
-ghost use Rattle.net_tables.specs.Ranks.{ranges_of};
-ghost use Rattle.plan_texts.specs.DrawingLines.{escaped_char, escaped, color_among, kind_word, kind_shape, pool_text, terminus_text, label_text, range_text, certified_text, tooltip_text, first_line, last_line, bus_line, shape_line, shape_text, outline_count, node_line, is_owner_on, bus_before, bus_behind, port_line, owner_line, owner_lines, red_arrow, arrows_along, round_lines, all_by_index, IsDrawing};
+ghost use Rattle.plan_texts.specs.DrawingLines.{escaped_char, escaped, color_among, kind_shape, pool_text, terminus_text, label_text, range_text, certified_text, tooltip_text, first_line, last_line, bus_line, shape_line, shape_text, outline_count, node_line, is_owner_on, bus_before, bus_behind, port_line, owner_line, owner_lines, red_arrow, arrows_along, round_lines, all_by_index, IsDrawing};
 ghost use Rattle.plan_texts.specs.WayLines.{address_text};
 
 mod rows;
@@ -11,7 +9,7 @@ mod rows;
 use super::ways::address_text;
 use mctp_transport::Eid;
 use net_plan::{Bus, Certificate, Kind, Name, Node, Plan, PlannedTerminus, Pool, Port, RankRange};
-use net_tables::lookup::is_on_bus;
+use net_tables::lookup::{given_level_of, is_on_bus, kind_word, ranges_at};
 pub use rows::{bundle_drawing, way_drawing};
 use std::alloc::{AllocError, Global};
 
@@ -146,15 +144,6 @@ fn label_text(alloc: Global, node: &Node) -> Result<String, AllocError>
     format!(in alloc; "{name}\\n{kind} eid {eid}{pool}{terminus}")
 }
 
-fn kind_word(kind: Kind) -> &'static str
-    ensures { result.now ≡ kind_word kind }
-{
-    match kind {
-        Kind::Bridge => "bridge",
-        Kind::Endpoint => "endpoint",
-    }
-}
-
 fn kind_shape(kind: Kind) -> &'static str
     ensures { result.now ≡ kind_shape kind }
 {
@@ -214,29 +203,9 @@ fn certified_text(
 ) -> Result<String, AllocError>
     ensures { IfOk result (λ text. string_bytes text ≡ certified_text certificate.now node) }
 {
-    let level = level_given(certificate, node);
-    let ranks = ranges_text(alloc, ranges_given(certificate, node))?;
+    let level = given_level_of(certificate, node);
+    let ranks = ranges_text(alloc, ranges_at(certificate, node))?;
     format!(in alloc; ", tooltip=\"level {level}{ranks}\"")
-}
-
-/// The level that the certificate gives a node; 0 where it gives none.
-fn level_given(certificate: &Certificate, node: usize) -> u8
-    ensures { result ≡ given_level certificate.now node }
-{
-    match certificate.levels.iter().find(|given| given.node == node) {
-        Some(given) => given.level,
-        None => 0,
-    }
-}
-
-/// The ranges that give a node its ranks, none where the certificate gives it no rank.
-fn ranges_given(certificate: &Certificate, node: usize) -> &[RankRange]
-    ensures { result.now ≡ ranges_of certificate.now node }
-{
-    match certificate.ranks.iter().find(|given| given.node == node) {
-        Some(given) => &given.ranges,
-        None => &[],
-    }
 }
 
 fn ranges_text(alloc: Global, ranges: &[RankRange]) -> Result<String, AllocError>

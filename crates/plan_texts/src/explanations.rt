@@ -119,7 +119,7 @@ fn loop_pieces(
 }
 
 /// The nodes of a loop, each once: its list ends with the first node again.
-fn around(nodes: &[usize]) -> &[usize]
+pub fn around(nodes: &[usize]) -> &[usize]
     ensures { result.now ≡ around nodes.now }
 {
     if nodes.is_empty() {

@@ -3,11 +3,10 @@ ghost use Rattle.std.specs.Prelude.{◌≡◌, IfOk, string_bytes};
 ghost use Rattle.plan_texts.specs.FindingLines.{bus_of_port, address_of_port, node_finding, bus_finding, pair_finding, item_finding, port_finding, port_on_bus, shared_address_line, address_finding, finding_line, findings_text};
 ghost use Rattle.plan_texts.specs.WayLines.{bus_text, address_text};
 
-use super::name_or_dash;
 use super::ways::{address_text, bus_text};
 use net_plan::Plan;
 use net_questions::Finding;
-use net_tables::lookup::ports_at;
+use net_tables::lookup::{node_name, ports_at};
 use std::alloc::{AllocError, Global};
 
 /// The findings, each in a line of its own.
@@ -74,7 +73,7 @@ fn finding_line(alloc: Global, plan: &Plan, finding: &Finding) -> Result<String,
 fn node_finding(alloc: Global, code: &str, plan: &Plan, node: usize) -> Result<String, AllocError>
     ensures { IfOk result (λ line. string_bytes line ≡ node_finding code.now plan.now node) }
 {
-    let name = name_or_dash(plan, node);
+    let name = node_name(plan, node);
     format!(in alloc; "{code} node {name}\n")
 }
 
@@ -96,8 +95,8 @@ fn pair_finding(
 ) -> Result<String, AllocError>
     ensures { IfOk result (λ line. string_bytes line ≡ pair_finding code.now plan.now node word.now other) }
 {
-    let name = name_or_dash(plan, node);
-    let other = name_or_dash(plan, other);
+    let name = node_name(plan, node);
+    let other = node_name(plan, other);
     format!(in alloc; "{code} node {name} {word} {other}\n")
 }
 
@@ -112,7 +111,7 @@ fn item_finding(
 ) -> Result<String, AllocError>
     ensures { IfOk result (λ line. string_bytes line ≡ item_finding code.now plan.now node word.now number) }
 {
-    let name = name_or_dash(plan, node);
+    let name = node_name(plan, node);
     format!(in alloc; "{code} node {name} {word} {number}\n")
 }
 
@@ -126,7 +125,7 @@ fn port_finding(
 ) -> Result<String, AllocError>
     ensures { IfOk result (λ line. string_bytes line ≡ port_finding code.now plan.now node port) }
 {
-    let name = name_or_dash(plan, node);
+    let name = node_name(plan, node);
     let bus = bus_name_of_port(plan, node, port);
     format!(in alloc; "{code} node {name} port {port} bus {bus}\n")
 }
@@ -142,10 +141,10 @@ fn address_finding(
 ) -> Result<String, AllocError>
     ensures { IfOk result (λ line. string_bytes line ≡ address_finding plan.now node port other other_port) }
 {
-    let name = name_or_dash(plan, node);
+    let name = node_name(plan, node);
     let bus = bus_name_of_port(plan, node, port);
     let address = address_of_port(alloc, plan, node, port)?;
-    let other = name_or_dash(plan, other);
+    let other = node_name(plan, other);
     let port = port_on_bus(alloc, name, port, bus)?;
     shared_address_line(alloc, &port, &address, other, other_port)
 }

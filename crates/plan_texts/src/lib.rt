@@ -2,9 +2,9 @@
 #![tactic(auto)]
 
 ghost use Rattle.std.specs.Prelude.{◌≡◌, Some, IfOk, string_bytes};
-ghost use Rattle.plan_texts.specs.Lines.{name_or_dash, bus_name_or_dash, names_text, as_line, fault_words, fault_text, owner_loop_words, loop_words, chain_words, obstacle_words, obstacle_text};
+ghost use Rattle.net_tables.specs.Names.{bus_name, node_name};
+ghost use Rattle.plan_texts.specs.Lines.{names_text, as_line, fault_words, fault_text, owner_loop_words, loop_words, chain_words, obstacle_words, obstacle_text};
 
-mod assignments;
 mod causes;
 mod certificates;
 mod differences;
@@ -14,7 +14,6 @@ mod explanations;
 mod findings;
 mod lookups;
 mod moves;
-mod outcomes;
 mod pairs;
 mod pieces;
 mod proposals;
@@ -23,11 +22,10 @@ mod summaries;
 mod walks;
 mod ways;
 
-pub use assignments::assignment_lines;
 pub use certificates::certificate_fault_lines;
 pub use differences::first_difference;
 pub use drawings::{bundle_drawing, drawing, way_drawing};
-pub use explanations::{cause_lines, index_for, obstacle_lines};
+pub use explanations::{around, cause_lines, index_for, obstacle_lines};
 pub use findings::lint_lines;
 pub use lookups::number_text;
 use mctp_transport::Eid;
@@ -35,7 +33,7 @@ pub use moves::steps::rollout_lines;
 pub use moves::{move_error_line, move_obstacle_line};
 use net_plan::Plan;
 use net_rules::{CertifyError, ChainFault, Fault};
-pub use outcomes::outcome_line;
+use net_tables::lookup::{bus_name, node_name};
 pub use pairs::reach_lines;
 pub use proposals::{edit_line, edit_lines, value_text};
 pub use shown::{packet_text, record_text, refused_text};
@@ -43,7 +41,7 @@ use std::alloc::{AllocError, Global};
 use std::fmt;
 pub use summaries::summary_lines;
 pub use walks::walk_text;
-pub use ways::trace_lines;
+pub use ways::{address_text, trace_lines};
 
 /// What is said where a certificate is at fault, and its plan has another.
 pub const REMEDY: &str =
@@ -99,7 +97,7 @@ fn fault_words(alloc: Global, plan: &Plan, fault: &Fault) -> Result<String, Allo
     ensures { IfOk result (λ words. string_bytes words ≡ fault_words plan.now fault.now) }
 {
     let rule = fault.rule.code();
-    let name = name_or_dash(plan, fault.node);
+    let name = node_name(plan, fault.node);
     let entry = OrDash(fault.entry);
     let eid = OrDash(fault.eid.map(|eid| eid.value));
     format!(in alloc; "fault {rule} node {name} entry {entry} eid {eid}")
@@ -128,7 +126,7 @@ fn chain_words(
 ) -> Result<String, AllocError>
     ensures { IfOk result (λ words. string_bytes words ≡ chain_words plan.now node fault) }
 {
-    let name = name_or_dash(plan, node);
+    let name = node_name(plan, node);
     let word = fault.word();
     let entry = fault.entry();
     format!(in alloc; "chain node {name} {word} entry {entry}")
@@ -141,27 +139,9 @@ fn names_after_spaces(alloc: Global, plan: &Plan, nodes: &[usize]) -> Result<Str
     let mut names = String::new(alloc);
     for &node in nodes {
         names.push_str(" ")?;
-        names.push_str(name_or_dash(plan, node))?;
+        names.push_str(node_name(plan, node))?;
     }
     Ok(names)
-}
-
-/// The name of the node at an index, or a dash where there is none.
-pub fn name_or_dash(plan: &Plan, node: usize) -> &str
-    ensures { result.now ≡ name_or_dash plan.now node }
-{
-    plan.nodes
-        .get(node)
-        .map_or("-", |node| node.name.text.as_str())
-}
-
-/// The name of the bus at an index, or a dash where there is none.
-fn bus_name_or_dash(plan: &Plan, bus: usize) -> &str
-    ensures { result.now ≡ bus_name_or_dash plan.now bus }
-{
-    plan.buses
-        .get(bus)
-        .map_or("-", |bus| bus.name.text.as_str())
 }
 
 /// A value that may be absent, which a dash tells.

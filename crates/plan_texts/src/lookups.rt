@@ -1,14 +1,14 @@
 //! What a message names of a plan, looked up and written.
 ghost use Rattle.std.specs.Prelude.{◌≡◌, ◌++◌, codes, option_and_then, option_map, IfOk, string_bytes};
 ghost use Rattle.net_tables.specs.Routing.{eid_of};
-ghost use Rattle.plan_texts.specs.Lines.{name_or_dash, number_or_dash};
+ghost use Rattle.net_tables.specs.Names.{node_name};
+ghost use Rattle.plan_texts.specs.Lines.{number_or_dash};
 ghost use Rattle.plan_texts.specs.Pieces.{row_of, bus_of_row, record_of, handle_of, tid_of, data_length, from_to, span_text, row_span, pool_span, name_or_none, owner_name, ports_text, address_to, byte_text, handle_bytes};
 
-use crate::name_or_dash;
 use crate::pieces::Entry;
-use crate::ways::{address_on, address_text};
+use crate::ways::address_text;
 use net_plan::{Plan, PlannedRecord, Pool, Row};
-use net_tables::lookup::{bus_at, record_at, row_at, terminus_at};
+use net_tables::lookup::{address_on, bus_at, node_name, record_at, row_at, terminus_at};
 use std::alloc::{AllocError, Global};
 
 /// The row, if there is one.
@@ -78,11 +78,11 @@ pub fn number_text(alloc: Global, number: Option<usize>) -> Result<String, Alloc
 
 /// A row or a record: its index, and its node's name.
 pub fn at_text(alloc: Global, plan: &Plan, at: Entry) -> Result<String, AllocError>
-    ensures { IfOk result (λ text. string_bytes text ≡ number_or_dash at.index ++ (codes " of " ++ name_or_dash plan.now at.node)) }
+    ensures { IfOk result (λ text. string_bytes text ≡ number_or_dash at.index ++ (codes " of " ++ node_name plan.now at.node)) }
 {
     let mut text = number_text(alloc, at.index)?;
     text.push_str(" of ")?;
-    text.push_str(name_or_dash(plan, at.node))?;
+    text.push_str(node_name(plan, at.node))?;
     Ok(text)
 }
 
@@ -133,7 +133,7 @@ pub fn name_or_none(plan: &Plan, node: Option<usize>) -> &str
     ensures { result.now ≡ name_or_none plan.now node }
 {
     match node {
-        Some(node) => name_or_dash(plan, node),
+        Some(node) => node_name(plan, node),
         None => "-",
     }
 }
@@ -143,7 +143,7 @@ pub fn owner_name(plan: &Plan, owner: Option<usize>) -> &str
     ensures { result.now ≡ owner_name plan.now owner }
 {
     match owner {
-        Some(owner) => name_or_dash(plan, owner),
+        Some(owner) => node_name(plan, owner),
         None => "null",
     }
 }

@@ -4,10 +4,11 @@ ghost use Rattle.plan_texts.specs.MoveLines.{name_of_some, difference_text, move
 
 pub mod steps;
 
-use super::{OrDash, name_or_dash, names_after_spaces, obstacle_line};
+use super::{OrDash, names_after_spaces, obstacle_line};
 use mctp_transport::Eid;
 use net_plan::Plan;
 use net_rules::{CertifyError, MoveError, MoveFault, MoveObstacle, Side, fault_of_plan};
+use net_tables::lookup::node_name;
 use std::alloc::{AllocError, Global};
 
 /// The line that says why a move from one plan to another is not accepted, with the nodes' names in the plan before.
@@ -130,7 +131,7 @@ pub fn name_of_some(plan: &Plan, node: Option<usize>) -> &str
     ensures { result.now ≡ name_of_some plan.now node }
 {
     match node {
-        Some(node) => name_or_dash(plan, node),
+        Some(node) => node_name(plan, node),
         None => "-",
     }
 }
@@ -145,7 +146,7 @@ fn move_fault_line(
     ensures { IfOk result (λ line. string_bytes line ≡ move_fault_text before.now whose.now fault.now) }
 {
     let rule = fault.rule.code();
-    let name = name_or_dash(before, fault.node);
+    let name = node_name(before, fault.node);
     let entry = OrDash(fault.entry);
     let eid = OrDash(fault.eid.map(|eid| eid.value));
     format!(in alloc; "fault {whose}{rule} node {name} entry {entry} eid {eid}\n")

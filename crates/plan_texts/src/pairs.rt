@@ -2,9 +2,9 @@
 ghost use Rattle.std.specs.Prelude.{◌≡◌, count_by, IfOk, string_bytes};
 ghost use Rattle.plan_texts.specs.PairLines.{pair_line, is_reached, is_one_way, pairs_line, reach_text};
 
-use super::name_or_dash;
 use net_plan::Plan;
 use net_questions::Pair;
+use net_tables::lookup::node_name;
 use std::alloc::{AllocError, Global};
 
 /// The pairs, each in a line of its own, and a line that counts them.
@@ -22,8 +22,8 @@ pub fn reach_lines(alloc: Global, plan: &Plan, pairs: &[Pair]) -> Result<String,
 fn pair_line(alloc: Global, plan: &Plan, pair: &Pair) -> Result<String, AllocError>
     ensures { IfOk result (λ line. string_bytes line ≡ pair_line plan.now pair.now) }
 {
-    let from = name_or_dash(plan, pair.from);
-    let to = name_or_dash(plan, pair.to);
+    let from = node_name(plan, pair.from);
+    let to = node_name(plan, pair.to);
     match pair.there {
         Some(hops) => format!(in alloc; "{from} {to} hops {hops}\n"),
         None => format!(in alloc; "{from} {to} none\n"),

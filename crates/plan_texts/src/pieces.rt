@@ -9,10 +9,9 @@ use crate::lookups::{
     handle_of, name_or_none, number_text, owner_name, pool_span, ports_text, record_of, row_of,
     row_span, tid_of,
 };
-use crate::name_or_dash;
 use crate::ways::bus_text;
 use net_plan::Plan;
-use net_tables::lookup::{owner_at, pool_at, ports_at};
+use net_tables::lookup::{node_name, owner_at, pool_at, ports_at};
 use pdr_record::{HEADER_LENGTH, RecordError};
 use std::alloc::{AllocError, Global};
 
@@ -146,7 +145,7 @@ fn piece_text(alloc: Global, plan: &Plan, piece: Piece) -> Result<String, AllocE
         Piece::Given(number) => number_text(alloc, number),
         Piece::Span(first, last) => from_to(alloc, first, last),
         Piece::Code(why) => why.code().to_string(alloc),
-        Piece::Name(node) => name_or_dash(plan, node).to_string(alloc),
+        Piece::Name(node) => node_name(plan, node).to_string(alloc),
         Piece::OwnerName(node) => owner_name(plan, owner_at(plan, node)).to_string(alloc),
         Piece::BusName(bus) => bus_text(plan, Some(bus)).to_string(alloc),
         Piece::PortCount(node) => ports_text(alloc, ports_at(plan, node).len()),

@@ -1,13 +1,13 @@
 //! The edits that `explain` proposes, with what is so once they are made.
 ghost use Rattle.std.specs.Prelude.{◌≡◌, IfOk, string_bytes};
 ghost use Rattle.std.specs.List.{flat_map};
-ghost use Rattle.plan_texts.specs.EditLines.{edit_text, edits_text, kind_word, left_text, owner_value, place_text, pool_value, quoted, row_value, tried_text, value_text, verb_of, word_of};
+ghost use Rattle.plan_texts.specs.EditLines.{edit_text, edits_text, left_text, owner_value, place_text, pool_value, quoted, row_value, tried_text, value_text, verb_of, word_of};
 
-use crate::{name_or_dash, obstacle_line};
+use crate::obstacle_line;
 use net_explained::{Change, Edit, Tried};
-use net_plan::{Kind, Plan, Pool, Row};
+use net_plan::{Plan, Pool, Row};
 use net_rules::CertifyError;
-use net_tables::lookup::rows_at;
+use net_tables::lookup::{kind_word, node_name, rows_at};
 use std::alloc::{AllocError, Global};
 
 /// The lines of edits that were tried, in their order.
@@ -49,7 +49,7 @@ pub fn edit_line(alloc: Global, plan: &Plan, edit: &Edit) -> Result<String, Allo
     ensures { IfOk result (λ line. string_bytes line ≡ edit_text plan.now edit.now) }
 {
     let node = edit.node;
-    let name = name_or_dash(plan, node);
+    let name = node_name(plan, node);
     let verb = verb_of(&edit.change);
     let word = word_of(&edit.change);
     let place = place_text(alloc, plan, node, &edit.change)?;
@@ -132,7 +132,7 @@ fn owner_value(alloc: Global, plan: &Plan, owner: Option<usize>) -> Result<Strin
     ensures { IfOk result (λ text. string_bytes text ≡ owner_value plan.now owner) }
 {
     match owner {
-        Some(owner) => quoted(alloc, name_or_dash(plan, owner)),
+        Some(owner) => quoted(alloc, node_name(plan, owner)),
         None => "null".to_string(alloc),
     }
 }
@@ -155,20 +155,10 @@ fn row_value(alloc: Global, plan: &Plan, row: &Row) -> Result<String, AllocError
     ensures { IfOk result (λ text. string_bytes text ≡ row_value plan.now row.now) }
 {
     let (first, size, port) = (row.first.value, row.size, row.port);
-    let next = name_or_dash(plan, row.next);
+    let next = node_name(plan, row.next);
     format!(in alloc;
         "{{ \"first\": {first}, \"size\": {size}, \"port\": {port}, \"next\": \"{next}\" }}"
     )
-}
-
-/// The word of what a node does with the packets of others.
-fn kind_word(kind: Kind) -> &'static str
-    ensures { result.now ≡ kind_word kind }
-{
-    match kind {
-        Kind::Bridge => "bridge",
-        Kind::Endpoint => "endpoint",
-    }
 }
 
 /// A text in quotes, which has none itself.

@@ -1,6 +1,6 @@
 //! What the command `show` prints.
 ghost use Rattle.std.specs.Prelude.{◌≡◌, IfOk, string_bytes};
-ghost use Rattle.mctp_transport.specs.Packets.{frame_of};
+ghost use Rattle.mctp_transport.specs.Packets.{packet_value_of};
 ghost use Rattle.pdr_record.specs.Bodies.{body_value};
 ghost use Rattle.pdr_record.specs.ListValues.{state_value, association_value};
 ghost use Rattle.pdr_record.specs.NumericValues.{numeric_value};
@@ -23,7 +23,7 @@ pub fn refused_text(alloc: Global, code: &str) -> Result<String, AllocError>
 
 /// A packet's header and payload.
 pub fn packet_text(alloc: Global, packet: &PacketView) -> Result<String, AllocError>
-    ensures { IfOk result (λ text. string_bytes text ≡ packet_bytes (frame_of packet.now)) }
+    ensures { IfOk result (λ text. string_bytes text ≡ packet_bytes (packet_value_of packet.now)) }
 {
     let addresses = address_words(alloc, packet)?;
     let position = position_words(alloc, packet)?;
@@ -33,7 +33,7 @@ pub fn packet_text(alloc: Global, packet: &PacketView) -> Result<String, AllocEr
 }
 
 fn address_words(alloc: Global, packet: &PacketView) -> Result<String, AllocError>
-    ensures { IfOk result (λ text. string_bytes text ≡ address_words_of (frame_of packet.now)) }
+    ensures { IfOk result (λ text. string_bytes text ≡ address_words_of (packet_value_of packet.now)) }
 {
     let reserved = packet.header.reserved.value;
     let destination = packet.header.destination.value;
@@ -43,16 +43,16 @@ fn address_words(alloc: Global, packet: &PacketView) -> Result<String, AllocErro
 
 /// The packet's position in its message.
 fn position_words(alloc: Global, packet: &PacketView) -> Result<String, AllocError>
-    ensures { IfOk result (λ text. string_bytes text ≡ position_words_of (frame_of packet.now)) }
+    ensures { IfOk result (λ text. string_bytes text ≡ position_words_of (packet_value_of packet.now)) }
 {
     let som = u8::from(packet.header.som);
     let eom = u8::from(packet.header.eom);
-    let number = packet.header.number.value;
+    let number = packet.header.sequence.value;
     format!(in alloc; "som {som} eom {eom} number {number}")
 }
 
 fn tag_words(alloc: Global, packet: &PacketView) -> Result<String, AllocError>
-    ensures { IfOk result (λ text. string_bytes text ≡ tag_words_of (frame_of packet.now)) }
+    ensures { IfOk result (λ text. string_bytes text ≡ tag_words_of (packet_value_of packet.now)) }
 {
     let owner = u8::from(packet.header.owner);
     let tag = packet.header.tag.value;

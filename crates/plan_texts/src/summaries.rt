@@ -2,9 +2,9 @@
 ghost use Rattle.std.specs.Prelude.{◌≡◌, ◌≤◌, IfOk, length, string_bytes};
 ghost use Rattle.plan_texts.specs.SummaryLines.{record_count, rows_in_all, records_in_all, counts_line, hops_line, summary_text};
 
-use crate::name_or_dash;
 use net_explained::MostHops;
 use net_plan::{Node, Plan};
+use net_tables::lookup::node_name;
 use std::alloc::{AllocError, Global};
 
 /// How many nodes, buses, rows and records a plan has, and between which of its nodes its certificate allows most hops.
@@ -36,8 +36,8 @@ fn hops_line(alloc: Global, plan: &Plan, most: Option<MostHops>) -> Result<Strin
     match most {
         Some(most) => {
             let hops = most.hops;
-            let from = name_or_dash(plan, most.from);
-            let to = name_or_dash(plan, most.to);
+            let from = node_name(plan, most.from);
+            let to = node_name(plan, most.to);
             format!(in alloc; "most hops {hops} from {from} to {to}\n")
         }
         None => "most hops 0\n".to_string(alloc),

@@ -1,11 +1,11 @@
 //! What the command `trace` prints.
 ghost use Rattle.std.specs.Prelude.{◌≡◌, length, IfOk, string_bytes};
-ghost use Rattle.plan_texts.specs.WayLines.{bus_of_step, bus_text, first_address, address_on, address_text, steps_from, hop_text, step_line, end_line, trace_text};
+ghost use Rattle.net_tables.specs.Names.{address_on};
+ghost use Rattle.plan_texts.specs.WayLines.{bus_of_step, bus_text, address_text, steps_from, hop_text, step_line, end_line, trace_text};
 
-use super::{bus_name_or_dash, name_or_dash};
-use net_plan::{Plan, Port};
+use net_plan::Plan;
 use net_questions::{End, Way, WayStep};
-use net_tables::lookup::ports_at;
+use net_tables::lookup::{address_on, bus_name, node_name, ports_at};
 use std::alloc::{AllocError, Global};
 
 /// The steps of a packet's way, each in a line of its own and numbered from 1, and a line that says how the way ends.
@@ -37,10 +37,10 @@ fn step_line(
 ) -> Result<String, AllocError>
     ensures { IfOk result (λ line. string_bytes line ≡ step_line plan.now number step.now) }
 {
-    let node = name_or_dash(plan, step.node);
+    let node = node_name(plan, step.node);
     let bus = bus_name_of_step(plan, step);
     let address = address_of_step(alloc, plan, step)?;
-    let next = name_or_dash(plan, step.hop.next);
+    let next = node_name(plan, step.hop.next);
     hop_text(alloc, number, node, step.hop.port, bus, &address, next)
 }
 
@@ -84,7 +84,7 @@ fn end_line(alloc: Global, plan: &Plan, way: &Way) -> Result<String, AllocError>
             format!(in alloc; "hops {hops}\n")
         }
         End::Stops(why) => {
-            let node = name_or_dash(plan, way.last);
+            let node = node_name(plan, way.last);
             let code = why.code();
             format!(in alloc; "stops at {node} {code}\n")
         }
@@ -104,29 +104,9 @@ pub fn bus_text(plan: &Plan, bus: Option<usize>) -> &str
     ensures { result.now ≡ bus_text plan.now bus }
 {
     match bus {
-        Some(bus) => bus_name_or_dash(plan, bus),
+        Some(bus) => bus_name(plan, bus),
         None => "-",
     }
-}
-
-/// The address of a node's first port on a bus; empty where it has none there.
-pub fn address_on(plan: &Plan, node: usize, bus: Option<usize>) -> &[u8]
-    ensures { result.now ≡ address_on plan.now node bus }
-{
-    match bus {
-        Some(bus) => first_address(ports_at(plan, node), bus),
-        None => &[],
-    }
-}
-
-/// The address of the first of these ports that is on the bus; empty where none is.
-fn first_address(ports: &[Port], bus: usize) -> &[u8]
-    ensures { result.now ≡ first_address ports.now bus }
-{
-    ports
-        .iter()
-        .find(|port| port.bus == bus)
-        .map_or(&[], |port| port.address.as_slice())
 }
 
 /// An address in hex, or a dash where it is empty.

@@ -9,7 +9,7 @@ use Rattle.net_plan.specs.declared.event.Event.{Event}
 use Rattle.net_plan.specs.declared.plan.Plan.{Plan}
 use Rattle.net_sim.specs.declared.outcome.Outcome.{Outcome}
 use Rattle.net_sim.specs.Outcomes.{event_value, outcome_value}
-use Rattle.plan_texts.specs.OutcomeLines.{outcome_lines}
+use Rattle.run_texts.specs.OutcomeLines.{outcome_lines}
 use Rattle.command_answers.specs.declared.answer.Answer.{Answer}
 use Rattle.command_answers.specs.declared.refused.Input.{Input}
 use Rattle.command_answers.specs.declared.refused.Input.TheVariants as input

@@ -10,7 +10,7 @@ use Rattle.command_answers.specs.declared.refused.Refused.TheVariants as refused
 use Rattle.command_answers.specs.declared.status.Status.{Status}
 use Rattle.command_answers.specs.declared.status.Status.TheVariants as status
 use Rattle.command_answers.specs.Answers.{Stream, BreaksOff, Refuses}
-use Rattle.play_commands.specs.Simulating.{IsWalksText, PlaysBy, SimulatesBy, PlaysSo, EndsPlay}
+use Rattle.play_commands.specs.Simulating.{IsWalksText, PlaysBy, SimulatesBy, PlaysSo, EndsPlay, ConcludesPlay, RunsIn, IsTextIn}
 use Rattle.command_answers.specs.Statuses.{status_of}
 use Rattle.command_answers.specs.Told.{IsUngivenFor}
 use Rattle.command_answers.proofs.Telling.{breaks_off_also}
@@ -56,19 +56,19 @@ module _ (Runs : Status → Stream → Type 0) (IsFault IsText : List ℕ → Ty
 
   -- ---- the end of a run
 
-  pub ends_itself : (s : Status) (errors : Stream) → Plays (Ok s) → EndsPlay Runs IsFault IsUnread s output errors
+  ends_itself : (s : Status) (errors : Stream) → Plays (Ok s) → EndsPlay Runs IsFault IsUnread s output errors
   ends_itself status.Yes errors plays = plays
   ends_itself status.Fault errors plays = plays
   ends_itself status.Unreadable errors plays = absurd plays
   ends_itself status.NoMemory errors plays = absurd plays
 
-  pub never_unwritten : (s : Status) → Plays (Ok s) → s ≡ status.Unreadable → ⊥
+  never_unwritten : (s : Status) → Plays (Ok s) → s ≡ status.Unreadable → ⊥
   never_unwritten status.Yes plays is = absurd (cc)
   never_unwritten status.Fault plays is = absurd (cc)
   never_unwritten status.Unreadable plays is = plays
   never_unwritten status.NoMemory plays is = plays
 
-  pub never_in_part : (s : Status) → Plays (Ok s) → s ≡ status.NoMemory → ⊥
+  never_in_part : (s : Status) → Plays (Ok s) → s ≡ status.NoMemory → ⊥
   never_in_part status.Yes plays is = absurd (cc)
   never_in_part status.Fault plays is = absurd (cc)
   never_in_part status.Unreadable plays is = plays
@@ -84,10 +84,10 @@ module _ (Runs : Status → Stream → Type 0) (IsFault IsText : List ℕ → Ty
   ungiven refused.NoMemory plays is = absurd (cc)
 
   module _ (why : Refused) (ended : Status) (errors : Stream) (refuses : Refuses why ended errors) where
-    pub ends_refused : Plays (Err why) → EndsPlay Runs IsFault IsUnread ended output errors
+    ends_refused : Plays (Err why) → EndsPlay Runs IsFault IsUnread ended output errors
     ends_refused plays = refuses_so (λ s. EndsPlay Runs IsFault IsUnread s output errors) errors why (λ is line. (why, is, ungiven why plays is, line)) (λ line. line) ended refuses
 
-  pub left_unwritten : (why : Refused) (ended : Status) (errors : Stream) → Refuses why ended errors → Plays (Err why) → ended ≡ status.Unreadable → nothing ⊎ BreaksOff IsText output
+  left_unwritten : (why : Refused) (ended : Status) (errors : Stream) → Refuses why ended errors → Plays (Err why) → ended ≡ status.Unreadable → nothing ⊎ BreaksOff IsText output
   left_unwritten refused.Usage ended errors refuses plays is = inl plays.0
   left_unwritten (refused.Unreadable input cause) ended errors refuses plays is = inl plays.0
   left_unwritten refused.UnknownNode ended errors refuses plays is = inl plays.0
@@ -97,7 +97,7 @@ module _ (Runs : Status → Stream → Type 0) (IsFault IsText : List ℕ → Ty
   left_unwritten refused.NoMemory ended errors refuses plays is =
       let memory : status.Unreadable ≡ status.NoMemory = sym is ∙ (of_memory refused.NoMemory ended errors refl refuses).0 in absurd (cc)
 
-  pub left_in_part : (why : Refused) (ended : Status) → (why ≡ refused.Unwritten → ended ≡ status.Unreadable) → Plays (Err why) → ended ≡ status.NoMemory
+  left_in_part : (why : Refused) (ended : Status) → (why ≡ refused.Unwritten → ended ≡ status.Unreadable) → Plays (Err why) → ended ≡ status.NoMemory
       → nothing ⊎ Runs status.NoMemory output
   left_in_part refused.Usage ended broken plays is = inl plays.0
   left_in_part (refused.Unreadable input cause) ended broken plays is = inl plays.0
@@ -107,6 +107,24 @@ module _ (Runs : Status → Stream → Type 0) (IsFault IsText : List ℕ → Ty
   left_in_part refused.Unwritten ended broken plays is =
       let unreadable : status.Unreadable ≡ status.NoMemory = sym (broken refl) ∙ is in absurd (cc)
   left_in_part refused.NoMemory ended broken plays is = plays
+
+-- the end of a run, by how it was answered
+pub concludes : (Runs : Status → Stream → Type 0) (IsFault IsText : List ℕ → Type 0) (IsUnread : Refused → Type 0) (nothing quiet : Type 0) (output errors : Stream)
+    (answered : Result Status Refused) (ended : Status) → PlaysSo Runs IsFault IsText IsUnread nothing answered output → IfOk answered (λ s. ended ≡ s)
+    → IfErr answered (λ why. Refuses why ended errors) → IfErr answered (λ why. why ≡ refused.Unwritten → ended ≡ status.Unreadable)
+    → ((ended ≡ status.Yes) ⊎ (ended ≡ status.Fault) → quiet) → ConcludesPlay Runs IsFault IsText IsUnread ended output errors nothing quiet
+concludes Runs IsFault IsText IsUnread nothing quiet output errors (Ok s) ended plays is refuses broken silent = record {
+  simulates = subst (λ e. EndsPlay Runs IsFault IsUnread e output errors) (sym is) (ends_itself Runs IsFault IsText IsUnread nothing output s errors plays);
+  silent = silent;
+  unwritten = λ unread. absurd (never_unwritten Runs IsFault IsText IsUnread nothing output s plays (sym is ∙ unread));
+  partly_runs = λ lacks. absurd (never_in_part Runs IsFault IsText IsUnread nothing output s plays (sym is ∙ lacks));
+}
+concludes Runs IsFault IsText IsUnread nothing quiet output errors (Err why) ended plays is refuses broken silent = record {
+  simulates = ends_refused Runs IsFault IsText IsUnread nothing output why ended errors refuses plays;
+  silent = silent;
+  unwritten = left_unwritten Runs IsFault IsText IsUnread nothing output why ended errors refuses plays;
+  partly_runs = left_in_part Runs IsFault IsText IsUnread nothing output why ended broken plays;
+}
 
 -- what was written may be said of more
 module _ (Runs Runs' : Status → Stream → Type 0) (IsFault IsFault' IsText IsText' : List ℕ → Type 0) (IsUnread IsUnread' : Refused → Type 0) (nothing : Type 0) (output : Stream)
@@ -125,3 +143,13 @@ module _ (Runs Runs' : Status → Stream → Type 0) (IsFault IsFault' IsText Is
   plays_also (Err refused.Unwritten) plays = breaks_off_also IsText IsText' output told plays
   plays_also (Err refused.NoMemory) (inl same) = inl same
   plays_also (Err refused.NoMemory) (inr part) = inr (runs status.NoMemory part)
+
+-- so it is of what was played of accepted tables, whatever faults are told
+pub plays_in : (tables : Tables) (cert : Certificate) (accepted : Tables × Certificate) (events : List WalkedEvent) (IsFault : List ℕ → Type 0) (nothing : Type 0) (output : Stream)
+    (result : Result Status Refused) → accepted ≡ (tables, cert)
+    → PlaysSo (RunsIn accepted.0 accepted.1 events) (λ text. ⊥) (IsTextIn accepted.0 accepted.1 events) (λ why. ⊥) nothing result output
+    → PlaysSo (RunsIn tables cert events) IsFault (λ text. IsTextIn tables cert events text ⊎ IsFault text) (λ why. ⊥) nothing result output
+plays_in tables cert accepted events IsFault nothing output result same plays =
+    let P : Tables × Certificate → Type 0 = λ a. PlaysSo (RunsIn a.0 a.1 events) (λ text. ⊥) (IsTextIn a.0 a.1 events) (λ why. ⊥) nothing result output in
+    plays_also (RunsIn tables cert events) (RunsIn tables cert events) (λ text. ⊥) IsFault (IsTextIn tables cert events) (λ text. IsTextIn tables cert events text ⊎ IsFault text)
+    (λ why. ⊥) (λ why. ⊥) nothing output (λ s runs. runs) (λ text none. absurd none) (λ text told. inl told) (λ why none. none) result (subst P same plays)

@@ -228,8 +228,3 @@ module _ (script : WalkScript) (plan : Plan) (cert : Certificate) (made : Made) 
         let C : Plan × Certificate → Type 0 = λ c. IsNotReadBack script.eid.value c.0 c.1 shown in
         let R : List ℕ → Type 0 = λ t. IsNotReadBack script.eid.value plan cert t in
         inr (inr (subst R (is ∙ whole) (subst C same (subst M fails said))))
-
--- what was made on what was checked
-pub made_on : (script : WalkScript) (plan : Plan) (cert : Certificate) (made : Made) (checked : Plan × Certificate) → checked ≡ (plan, cert) → IsMade script checked.0 checked.1 made → IsMade script plan cert made
-made_on script plan cert made checked same =
-    subst (λ (c : Plan × Certificate). IsMade script c.0 c.1 made) same

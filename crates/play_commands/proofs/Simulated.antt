@@ -11,10 +11,8 @@ use Rattle.command_answers.specs.Gathering.{AppendsAllBut}
 use Rattle.command_answers.proofs.Waiting.{added_after, begins_after, begins_at_end, given_at_end}
 use Rattle.net_runs.specs.WalkedRuns.{WalkedTurn, WalkedRunFrom}
 use Rattle.net_runs.specs.Walkers.{WalkedState, WalkedEvent, WalkedOutcome, walked_at_start}
-use Rattle.net_runs.specs.Termini.{TerminusState}
 use Rattle.net_tables.specs.TwoPlans.{Tables}
 use Rattle.net_sim.specs.declared.outcome.Outcome.{Outcome}
-use Rattle.net_sim.specs.Dealing.{planned_termini}
 use Rattle.net_sim.specs.Outcomes.{outcome_value}
 use Rattle.net_sim.specs.Played.{IsRunOf}
 use Rattle.net_sim.specs.WalkedStanding.{NetworkValue, StandsForWalked}
@@ -28,7 +26,7 @@ use Rattle.command_answers.proofs.Causes.{unread_also}
 use Rattle.command_answers.proofs.Telling.{breaks_off_also}
 use Rattle.net_plan.specs.declared.certificate.Certificate.{Certificate}
 use Rattle.net_json.specs.declared.error.PlanError.{PlanError}
-use Rattle.plan_texts.specs.OutcomeLines.{outcome_line, lines_from, outcome_lines}
+use Rattle.run_texts.specs.OutcomeLines.{outcome_line, lines_from, outcome_lines}
 use Rattle.play_commands.specs.Simulating.{IsRunText, ShowsRun, ShowsBeginning, ShowsWalks, ShowsBegunWalks, IsWalksText, ShowsAllOr, AreFirstLines, ShowsLines, IsUnreadAmong, AreUnreadAmong}
 use Rattle.command_answers.specs.Inputs.{AreUnreadEvents, AreEventsUnread}
 
@@ -241,7 +239,7 @@ cut_short refused.TooMuch P A P' A' Q Q' output h other also = h
 cut_short refused.Unwritten P A P' A' Q Q' output h other also = breaks_off_also Q Q' output also h
 cut_short refused.NoMemory P A P' A' Q Q' output h other also = other h
 
--- ---- the same of another name of the plan, or of the tables
+-- ---- the same of another name of the plan
 
 pub lines_in : (plan plan' : Plan) (outcomes outcomes' : List Outcome) (count : ℕ) (output : Stream) → plan' ≡ plan → outcomes' ≡ outcomes
     → ShowsLines plan' (map outcome_value outcomes') count output → ShowsLines plan (map outcome_value outcomes) count output
@@ -254,24 +252,6 @@ pub first_lines_in : (plan plan' : Plan) (outcomes outcomes' : List Outcome) (te
     → AreFirstLines plan' (map outcome_value outcomes') text → AreFirstLines plan (map outcome_value outcomes) text
 first_lines_in plan plan' outcomes outcomes' text same listed (k, is) =
     (k, is ∙ (ap (λ (p : Plan). outcome_lines p (take k (map outcome_value outcomes'))) same ∙ ap (λ os. outcome_lines plan (take k (map outcome_value os))) listed))
-
-pub shows_by : {T : Type 0} (tables tables' : Tables) (w : WalkedState) (events : List WalkedEvent) (result : Result T Refused) (output : Stream) → tables' ≡ tables
-    → ShowsAllOr result (ShowsBeginning tables' w events output) (ShowsRun tables' w events output) (IsRunText tables' w events) output
-    → ShowsAllOr result (ShowsBeginning tables w events output) (ShowsRun tables w events output) (IsRunText tables w events) output
-shows_by tables tables' w events result output same =
-    subst (λ (t : Tables). ShowsAllOr result (ShowsBeginning t w events output) (ShowsRun t w events output) (IsRunText t w events) output) same
-
--- ---- the planned termini
-
--- termini that are as planned are as many
-pub many_planned : {T : Type 0} (see : T → TerminusState) (termini : List T) (planned : List TerminusState) → map see termini ≡ planned → length termini ≡ length planned
-many_planned see termini planned is = sym (length-map termini see) ∙ ap (λ ts. length ts) is
-
--- those of a plan by another name are its own
-pub planned_by : (termini : List TerminusState) (plan plan' : Plan) (cert cert' : Certificate) → termini ≡ planned_termini plan' cert' → plan' ≡ plan → cert' ≡ cert
-    → termini ≡ planned_termini plan cert
-planned_by termini plan plan' cert cert' is same same_cert =
-    is ∙ (ap (λ (p : Plan). planned_termini p cert') same ∙ ap (λ (k : Certificate). planned_termini plan k) same_cert)
 
 -- ---- files
 

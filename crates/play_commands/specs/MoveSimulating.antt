@@ -1,10 +1,8 @@
 -- What the end of `simmove` says of the files that it read, and of what it wrote.
 use Rattle.std.specs.Prelude.{◌⊎◌, ℕ, List, map}
-use Rattle.net_rules.specs.MoveRules.{AcceptsMove}
 use Rattle.net_tables.specs.TwoPlans.{moving}
 use Rattle.net_runs.specs.Walkers.{WalkedEvent}
 use Rattle.net_sim.specs.Outcomes.{event_value}
-use Rattle.net_sim.specs.Promised.{IsPromised}
 use Rattle.net_plan.specs.declared.plan.Plan.{Plan}
 use Rattle.net_plan.specs.declared.certificate.Certificate.{Certificate}
 use Rattle.net_json.specs.declared.error.PlanError.{PlanError}
@@ -17,7 +15,7 @@ use Rattle.command_answers.specs.declared.refused.Refused.{Refused}
 use Rattle.command_answers.specs.declared.status.Status.{Status}
 use Rattle.command_answers.specs.Answers.{Stream, GaveNothing}
 use Rattle.command_answers.specs.Moves.{IsMoveGiven, IsMoveFaultText, IsUnreadInMove}
-use Rattle.play_commands.specs.Simulating.{SimulatesBy, IsWalksText}
+use Rattle.play_commands.specs.Simulating.{RunsIn, IsTextIn}
 use Rattle.command_answers.specs.Inputs.{GaveEvents}
 use Rattle.command_answers.specs.Statuses.{HasCause}
 
@@ -27,17 +25,15 @@ pub record IsPlayGiven (befores afters certificates happenings : Stream) (before
   pub inputs : IsMoveGiven befores afters certificates before after certificate
   pub events_text : GaveEvents before happenings events
 
--- Every rule of a move holds of the plans and the certificate, every run of the move is as promised, and what was
--- written is what comes of the events, in such runs, in which the walkers have walked.
+-- so it is of the move
 abbrev pub MovesOn : Plan → Plan → Certificate → List WalkedEvent → Status → Stream → Type 0
-MovesOn before after certificate events ended output = AcceptsMove before after certificate
-    × IsPromised (moving before after) certificate × SimulatesBy (moving before after) certificate events ended output
+MovesOn before after = RunsIn (moving before after)
 
 -- The text answers on them: where every rule of a move holds it is the lines of what comes of a beginning of the
 -- events, in a run of the move in which the walkers have walked, else the line of the first fault.
 abbrev pub IsMovePlayText : Plan → Plan → Certificate → List WalkedEvent → List ℕ → Type 0
-IsMovePlayText before after certificate events text = (AcceptsMove before after certificate
-    × IsWalksText (moving before after) certificate events text) ⊎ IsMoveFaultText before after certificate text
+IsMovePlayText before after certificate events text =
+    IsTextIn (moving before after) certificate events text ⊎ IsMoveFaultText before after certificate text
 
 -- the sources gave two plans, a certificate and events at the nodes of the plan before, of which this is so
 abbrev pub AreOfMoveFiles : (Plan → Plan → Certificate → List WalkedEvent → Type 0) → Stream → Stream → Stream → Stream

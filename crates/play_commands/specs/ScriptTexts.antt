@@ -6,7 +6,7 @@ use Rattle.mctp_transport.specs.declared.address.Key.{Key}
 use Rattle.net_plan.specs.declared.event.Event.{Event}
 use Rattle.net_plan.specs.declared.event.Event.TheVariants as event
 use Rattle.net_plan.specs.declared.plan.Plan.{Plan}
-use Rattle.plan_texts.specs.Lines.{name_or_dash}
+use Rattle.net_tables.specs.Names.{node_name}
 
 abbrev pub truth_word : Bool → List ℕ
 truth_word true = codes "true"
@@ -25,7 +25,7 @@ expire_text node key =
 -- An event of a walk. A walk has neither packets that are put in from outside nor nodes that switch.
 abbrev pub event_text : Plan → Event → List ℕ
 event_text plan (event.Walk node eid tag count) =
-    codes "{ \"do\": \"walk\", \"node\": \"" ++ (name_or_dash plan node ++ (codes "\", \"eid\": "
+    codes "{ \"do\": \"walk\", \"node\": \"" ++ (node_name plan node ++ (codes "\", \"eid\": "
     ++ (decimal eid.value ++ (codes ", \"tag\": " ++ (decimal tag.value ++ (codes ", \"count\": "
     ++ (decimal count ++ codes " }")))))))
 event_text plan (event.Ask walker) = codes "{ \"do\": \"ask\", \"walker\": " ++ (decimal walker ++ codes " }")
@@ -34,8 +34,8 @@ event_text plan (event.Move flight keep) =
     ++ (truth_word keep ++ codes " }")))
 event_text plan (event.Lose flight) = codes "{ \"do\": \"lose\", \"flight\": " ++ (decimal flight ++ codes " }")
 event_text plan (event.Answer node) =
-    codes "{ \"do\": \"answer\", \"node\": \"" ++ (name_or_dash plan node ++ codes "\" }")
-event_text plan (event.Expire node key) = expire_text (name_or_dash plan node) key
+    codes "{ \"do\": \"answer\", \"node\": \"" ++ (node_name plan node ++ codes "\" }")
+event_text plan (event.Expire node key) = expire_text (node_name plan node) key
 event_text plan (event.Collected walker) =
     codes "{ \"do\": \"collected\", \"walker\": " ++ (decimal walker ++ codes " }")
 event_text plan (event.Put node bytes) = []

@@ -8,7 +8,7 @@ use Rattle.net_json.specs.declared.error.PlanError.TheVariants as error
 use Rattle.net_json.specs.EventReading.{events}
 use Rattle.net_json.specs.EventText.{AreEventsOf}
 use Rattle.net_json.specs.Refusals.{IsRefused}
-use Rattle.net_json.specs.Texts.{StandsFor}
+use Rattle.net_json.specs.Texts.{IsJsonTextOf}
 use Rattle.net_plan.specs.declared.certificate.Certificate.{Certificate}
 use Rattle.net_plan.specs.declared.event.Event.{Event}
 use Rattle.net_plan.specs.declared.plan.Plan.{Plan}
@@ -35,7 +35,7 @@ use Rattle.command_answers.specs.Answers.{Stream, AreGiven, AreUnread, IsFaultTe
 use Rattle.play_commands.specs.ScriptTexts.{script_text}
 use Rattle.command_answers.specs.Statuses.{HasCause}
 use Rattle.command_answers.specs.Naming.{IsFirstNamed}
-use Rattle.plan_texts.specs.OutcomeLines.{outcome_line}
+use Rattle.run_texts.specs.OutcomeLines.{outcome_line}
 
 -- ---- the events of a walk
 
@@ -109,7 +109,7 @@ IsDone plan e last = (count : ℕ) × HasRecords plan e count × (last ≡ Some 
 -- the text stands for events by which the walk is done
 abbrev pub IsReadBack : ℕ → Plan → Certificate → List ℕ → Type 0
 IsReadBack e plan cert text = (read : List Event) × (last : Option WalkedOutcome)
-    × StandsFor (AreEventsOf (plan_value plan)) text (map event_entry read)
+    × IsJsonTextOf (AreEventsOf (plan_value plan)) text (map event_entry read)
     × EndsWith plan cert (map event_value read) last × IsDone plan e last
 
 -- the text is refused, or stands for events by which the walk isn't done
@@ -118,7 +118,7 @@ IsNotReadBack e plan cert text =
     ((cause : PlanError) × (cause ≢ error.OutOfMemory)
     × IsRefused (events (node_names (plan_value plan).nodes)) (AreEventsOf (plan_value plan)) text cause)
     ⊎ ((read : List Event) × (last : Option WalkedOutcome)
-    × StandsFor (AreEventsOf (plan_value plan)) text (map event_entry read)
+    × IsJsonTextOf (AreEventsOf (plan_value plan)) text (map event_entry read)
     × EndsWith plan cert (map event_value read) last × ¬ IsDone plan e last)
 
 -- ---- answers

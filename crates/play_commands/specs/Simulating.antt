@@ -7,7 +7,7 @@ use Rattle.net_json.specs.declared.error.PlanError.{PlanError}
 use Rattle.net_plan.specs.declared.event.Event.{Event}
 use Rattle.net_plan.specs.PlanValues.{plan_value}
 use Rattle.net_json.specs.Unread.{GaveNoEvents}
-use Rattle.net_rules.specs.Rules.{Accepts}
+use Rattle.net_check.specs.Accepted.{IsAccepted}
 use Rattle.net_tables.specs.TwoPlans.{Tables, one_plan}
 use Rattle.net_runs.specs.WalkedRuns.{WalkedTurn, WalkedRunFrom}
 use Rattle.net_runs.specs.Walkers.{WalkedState, WalkedEvent, WalkedOutcome, walked_at_start}
@@ -22,7 +22,7 @@ use Rattle.command_answers.specs.declared.status.Status.{Status}
 use Rattle.command_answers.specs.declared.status.Status.TheVariants as status
 use Rattle.command_answers.specs.Answers.{Stream, BreaksOff, AreGiven, GaveNothing, IsUnread, IsFaultText}
 use Rattle.command_answers.specs.Answers.{IsReported, SaysWhy}
-use Rattle.plan_texts.specs.OutcomeLines.{outcome_lines}
+use Rattle.run_texts.specs.OutcomeLines.{outcome_lines}
 use Rattle.command_answers.specs.Statuses.{HasCause}
 use Rattle.command_answers.specs.Told.{IsUngivenFor}
 use Rattle.command_answers.specs.Inputs.{GaveEvents}
@@ -152,19 +152,37 @@ EndsPlay Runs IsFault IsUnread status.Fault output errors =
 EndsPlay Runs IsFault IsUnread status.Unreadable output errors = SaysWhy (IsUngivenFor IsUnread output) errors
 EndsPlay Runs IsFault IsUnread status.NoMemory output errors = IsReported refused.NoMemory errors
 
+-- What the end of a run says of such an answer, of the outputs, and of where they are as they were.
+pub record ConcludesPlay (Runs : Status → Stream → Type 0) (IsFault IsText : List ℕ → Type 0)
+    (IsUnread : Refused → Type 0) (ended : Status) (output errors : Stream) (untouched quiet : Type 0) : Type 0 where
+  pub simulates : EndsPlay Runs IsFault IsUnread ended output errors
+  pub silent : (ended ≡ status.Yes) ⊎ (ended ≡ status.Fault) → quiet
+  pub unwritten : ended ≡ status.Unreadable → untouched ⊎ BreaksOff IsText output
+  pub partly_runs : ended ≡ status.NoMemory → untouched ⊎ Runs status.NoMemory output
+
+-- ---- of what is accepted, a plan or a move
+
+-- Every rule holds, every run of the network is as promised, and what was written is what comes of the events, in such
+-- runs, in which the walkers have walked.
+abbrev pub RunsIn : Tables → Certificate → List WalkedEvent → Status → Stream → Type 0
+RunsIn tables cert events ended output =
+    IsAccepted tables cert × IsPromised tables cert × SimulatesBy tables cert events ended output
+
+-- Every rule holds, and the text is the lines of what comes of a beginning of the events, in such a run.
+abbrev pub IsTextIn : Tables → Certificate → List WalkedEvent → List ℕ → Type 0
+IsTextIn tables cert events text = IsAccepted tables cert × IsWalksText tables cert events text
+
 -- ---- of a plan, its certificate and events
 
--- Every rule holds of the plan and the certificate, every run of the plan's network is as promised, and what was
--- written is what comes of the events, in such runs, in which the walkers have walked.
+-- so it is of the plan's network
 abbrev pub RunsOn : Plan → Certificate → List WalkedEvent → Status → Stream → Type 0
-RunsOn plan certificate events ended output = Accepts plan certificate × IsPromised (one_plan plan) certificate
-    × SimulatesBy (one_plan plan) certificate events ended output
+RunsOn plan = RunsIn (one_plan plan)
 
 -- The text answers on them: where every rule holds it is the lines of what comes of a beginning of the events, in a run
 -- of the plan's network in which the walkers have walked, else the line of the first fault.
 abbrev pub IsPlayText : Plan → Certificate → List WalkedEvent → List ℕ → Type 0
 IsPlayText plan certificate events text =
-    (Accepts plan certificate × IsWalksText (one_plan plan) certificate events text) ⊎ IsFaultText plan certificate text
+    IsTextIn (one_plan plan) certificate events text ⊎ IsFaultText plan certificate text
 
 -- the sources gave a plan, its certificate and events at its nodes, of which this is so
 abbrev pub AreOfFiles : (Plan → Certificate → List WalkedEvent → Type 0) → Stream → Stream → Stream → Type 0

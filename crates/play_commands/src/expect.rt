@@ -1,24 +1,24 @@
 //! The command `expect`: whether `sim` prints the lines of a file.
-ghost use Rattle.std.specs.Prelude.{◌≡◌, ◌⊎◌, IfOk, IfErr, length, map, string_bytes};
+ghost use Rattle.std.specs.Prelude.{◌≡◌, IfOk, IfErr, map, string_bytes};
 ghost use Rattle.std.specs.Cow.{cow_str_bytes};
 ghost use Rattle.net_json.specs.Stream.{HasRoom};
 ghost use Rattle.net_sim.specs.Outcomes.{event_value, outcome_value};
 ghost use Rattle.net_tables.specs.TwoPlans.{one_plan};
 ghost use Rattle.command_answers.specs.declared.refused.Refused.TheVariants as refused;
-ghost use Rattle.command_answers.specs.declared.status.Status.TheVariants.{Yes, Fault, Unreadable, NoMemory};
-ghost use Rattle.command_answers.specs.Answers.{stream, IsWithoutPlan, BreaksOff};
+ghost use Rattle.command_answers.specs.Answers.{stream, IsWithoutPlan};
 ghost use Rattle.play_commands.specs.Expecting.{given_only, IsPrinted, AnswersLinesOn, AnswersLinesSo, AreUnreadInExpect};
 ghost use Rattle.play_commands.specs.Simulating.{ShowsWalks};
-ghost use Rattle.command_answers.specs.Told.{IsSomeAnswer, Ends};
-ghost use Rattle.plan_texts.specs.OutcomeLines.{outcome_lines};
+ghost use Rattle.command_answers.specs.Told.{Concludes};
+ghost use Rattle.run_texts.specs.OutcomeLines.{outcome_lines};
 
-use crate::sim::files::read_files;
-use command_answers::{Answer, Refused, Status, fault_text, given_lines, planned_termini, tell};
-use net_check::{Checked, check};
+use crate::sim::files::read_run;
+use command_answers::{Answer, Refused, Status, fault_text, given_lines, planned_network, tell};
+use net_check::{AcceptedNetwork, Checked, check};
 use net_json::{Sink, Source};
 use net_plan::{Certificate, Event, Plan};
-use net_sim::{Network, Outcome};
-use plan_texts::{first_difference, outcome_line};
+use net_sim::Outcome;
+use plan_texts::first_difference;
+use run_texts::outcome_line;
 use std::alloc::{AllocError, Global};
 
 /// Answers on `output` whether `sim` prints the lines of a file of a plan, its certificate and events, or tells the first
@@ -38,21 +38,14 @@ pub fn run_expect<P: Source, C: Source, V: Source, L: Source, O: Sink, E: Sink>(
     requires lines { HasRoom (L.account lines.old) }
     requires output { HasRoom (O.account output.old) }
     requires errors { HasRoom (E.account errors.old) }
-    ensures tells { let plans = stream P.account plan.old plan.new in
+    ensures concludes { let plans = stream P.account plan.old plan.new in
         let certificates = stream C.account certificate.old certificate.new in
         let happenings = stream V.account events.old events.new in
         let expectations = stream L.account lines.old lines.new in
-        Ends (AnswersLinesSo plans certificates happenings expectations)
+        Concludes (AnswersLinesSo plans certificates happenings expectations)
         (λ why. AreUnreadInExpect why plans certificates happenings expectations) result
-        (stream O.account output.old output.new) (stream E.account errors.old errors.new) }
-    ensures silent { (result ≡ Yes) ⊎ (result ≡ Fault) → errors.new ≡ errors.old }
-    ensures unwritten { let plans = stream P.account plan.old plan.new in
-        let certificates = stream C.account certificate.old certificate.new in
-        let happenings = stream V.account events.old events.new in
-        let expectations = stream L.account lines.old lines.new in
-        result ≡ Unreadable → (output.new ≡ output.old)
-        ⊎ BreaksOff (IsSomeAnswer (AnswersLinesSo plans certificates happenings expectations)) (stream O.account output.old output.new) }
-    ensures no_memory { result ≡ NoMemory → output.new ≡ output.old }
+        (stream O.account output.old output.new) (stream E.account errors.old errors.new)
+        (output.new ≡ output.old) (errors.new ≡ errors.old) }
     ensures in_order { IsWithoutPlan (stream P.account plan.old plan.new)
         → (certificate.new ≡ certificate.old) × (events.new ≡ events.old) × (lines.new ≡ lines.old) }
 {
@@ -84,7 +77,7 @@ fn answer_expect<P: Source, C: Source, V: Source, L: Source>(
     ensures in_order { IsWithoutPlan (stream P.account plan.old plan.new)
         → (certificate.new ≡ certificate.old) × (events.new ≡ events.old) × (lines.new ≡ lines.old) }
 {
-    let (plan, certificate, events) = read_files(alloc, plan, certificate, events)?;
+    let (plan, certificate, events) = read_run(alloc, plan, certificate, events)?;
     let wanted = given_lines(alloc, lines)?;
     answer_on_lines(alloc, &plan, &certificate, events.as_slice(), &wanted)
 }
@@ -129,8 +122,7 @@ fn played_text(alloc: Global, checked: Checked, events: &[Event]) -> Result<Stri
     ensures lacks { IfErr result (λ why. why ≡ refused.NoMemory) }
 {
     let plan = checked.plan();
-    let termini = planned_termini(alloc, plan, checked.certificate())?;
-    let mut network = Network::new(alloc, checked, termini)?;
+    let mut network = planned_network(alloc, AcceptedNetwork::of_plan(checked))?;
     let played = network.run(events)?;
     if played.stopped {
         return Err(Refused::NoMemory);

@@ -7,6 +7,6 @@ mod sim;
 
 pub use expect::run_expect;
 pub use script::{Flights, WalkScript, run_script};
-pub use sim::files::simulate;
+pub use sim::files::{read_run, simulate};
 pub use sim::moves::simulate_move;
 pub use sim::{run_sim, run_simmove};

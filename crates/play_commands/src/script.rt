@@ -1,5 +1,5 @@
 //! The command `script`: the events of a walk over a network, made as it runs.
-ghost use Rattle.std.specs.Prelude.{◌≡◌, ◌≢◌, ◌⊎◌, ◌↔◌, IfOk, IfErr, IsTrue, MatchBool, length, map, option_map, string_bytes};
+ghost use Rattle.std.specs.Prelude.{◌≡◌, ◌≢◌, ◌↔◌, IfOk, IfErr, IsTrue, MatchBool, length, map, option_map};
 ghost use Rattle.std.specs.Cow.{cow_str_bytes};
 ghost use Rattle.net_json.specs.Stream.{HasRoom};
 ghost use Rattle.net_sim.specs.Outcomes.{event_value, outcome_value};
@@ -7,11 +7,11 @@ ghost use Rattle.net_tables.specs.Repositories.{records_of};
 ghost use Rattle.net_tables.specs.Routing.{Holds};
 ghost use Rattle.net_json.specs.declared.error.PlanError.TheVariants as error_of;
 ghost use Rattle.command_answers.specs.declared.refused.Refused.TheVariants as refused;
-ghost use Rattle.command_answers.specs.declared.status.Status.TheVariants.{Yes, Fault, Unreadable, NoMemory};
-ghost use Rattle.command_answers.specs.Answers.{stream, IsWithoutPlan, BreaksOff};
+ghost use Rattle.command_answers.specs.declared.status.Status.TheVariants.{Fault};
+ghost use Rattle.command_answers.specs.Answers.{stream, IsWithoutPlan};
 ghost use Rattle.net_rules.specs.Rules.{Accepts};
 ghost use Rattle.play_commands.specs.Scripting.{EndsWith, IsFinished, IsDone, HasRecords, IsMade, last_line, IsReadBack, IsNotReadBack, AnswersScriptOn, AnswersScriptSo, IsUnscriptedOn, IsUnscriptedFor};
-ghost use Rattle.command_answers.specs.Told.{IsSomeAnswer, Ends};
+ghost use Rattle.command_answers.specs.Told.{Concludes};
 ghost use Rattle.command_answers.specs.Naming.{IsFirstNamed};
 
 mod course;
@@ -20,18 +20,18 @@ mod making;
 mod text;
 
 use command_answers::{
-    Answer, PartSize, Refused, Status, fault_answer, first_named, planned_termini, read_inputs,
+    Answer, PartSize, Refused, Status, fault_answer, first_named, planned_network, read_inputs,
     tell,
 };
 pub use flights::Flights;
 use making::{Made, made_events};
 use mctp_transport::Eid;
-use net_check::{Checked, check};
+use net_check::{AcceptedNetwork, Checked, check};
 use net_json::{PlanError, Sink, Source, events_of_text};
 use net_plan::{Certificate, Event, Plan};
-use net_sim::{Network, Outcome, Standing};
+use net_sim::{Outcome, Standing};
 use net_tables::lookup::{holds, records_at};
-use plan_texts::outcome_line;
+use run_texts::outcome_line;
 use std::alloc::Global;
 use text::script_text;
 
@@ -64,16 +64,11 @@ pub fn run_script<P: Source, C: Source, O: Sink, E: Sink>(
     requires certificate { HasRoom (C.account certificate.old) }
     requires output { HasRoom (O.account output.old) }
     requires errors { HasRoom (E.account errors.old) }
-    ensures tells { let plans = stream P.account plan.old plan.new in
+    ensures concludes { let plans = stream P.account plan.old plan.new in
         let certificates = stream C.account certificate.old certificate.new in
-        Ends (AnswersScriptSo script.now plans certificates) (IsUnscriptedFor script.now.node.now plans certificates) result
-        (stream O.account output.old output.new) (stream E.account errors.old errors.new) }
-    ensures silent { (result ≡ Yes) ⊎ (result ≡ Fault) → errors.new ≡ errors.old }
-    ensures unwritten { let plans = stream P.account plan.old plan.new in
-        let certificates = stream C.account certificate.old certificate.new in
-        result ≡ Unreadable → (output.new ≡ output.old)
-        ⊎ BreaksOff (IsSomeAnswer (AnswersScriptSo script.now plans certificates)) (stream O.account output.old output.new) }
-    ensures no_memory { result ≡ NoMemory → output.new ≡ output.old }
+        Concludes (AnswersScriptSo script.now plans certificates) (IsUnscriptedFor script.now.node.now plans certificates) result
+        (stream O.account output.old output.new) (stream E.account errors.old errors.new)
+        (output.new ≡ output.old) (errors.new ≡ errors.old) }
     ensures in_order { IsWithoutPlan (stream P.account plan.old plan.new) → certificate.new ≡ certificate.old }
 {
     let answered = answer_script(alloc, script, plan, certificate);
@@ -229,8 +224,7 @@ fn last_outcome(
     ensures ends { IfOk result (λ last. EndsWith checked.entry.0 checked.entry.1 (map event_value events.now) (option_map outcome_value last)) }
     ensures lacks { IfErr result (λ why. why ≡ refused.NoMemory) }
 {
-    let termini = planned_termini(alloc, checked.plan(), checked.certificate())?;
-    let mut network = Network::new(alloc, checked, termini)?;
+    let mut network = planned_network(alloc, AcceptedNetwork::of_plan(checked))?;
     let mut played = network.run(events)?;
     if played.stopped {
         return Err(Refused::NoMemory);

@@ -1,29 +1,28 @@
-//! The command `sim`: what comes of events in the network of a checked plan.
-ghost use Rattle.std.specs.Prelude.{◌≡◌, ℕ, List, length, map, take, false};
+//! The commands `sim` and `simmove`: what comes of events in the network of a checked plan, or of a checked move.
+ghost use Rattle.std.specs.Prelude.{◌≡◌, ◌⊎◌, ℕ, IfOk, IfErr, length, map};
 ghost use Rattle.net_json.specs.Stream.{HasRoom};
-ghost use Rattle.command_answers.specs.declared.status.Status.TheVariants.{Yes};
-ghost use Rattle.net_plan.specs.declared.certificate.Certificate.{Certificate};
-ghost use Rattle.net_tables.specs.TwoPlans.{Tables, one_plan, moving};
-ghost use Rattle.net_runs.specs.Walkers.{WalkedState, WalkedEvent, walked_at_start};
+ghost use Rattle.command_answers.specs.declared.status.Status.TheVariants.{Yes, Fault, Unreadable};
+ghost use Rattle.command_answers.specs.declared.refused.Refused.TheVariants.{Unwritten};
+ghost use Rattle.net_tables.specs.TwoPlans.{one_plan, moving};
+ghost use Rattle.net_runs.specs.Walkers.{WalkedState, walked_at_start};
 ghost use Rattle.net_sim.specs.Dealing.{resting, at_rest, planned_termini};
+ghost use Rattle.net_sim.specs.Networks.{network_value, checked_of};
 ghost use Rattle.net_sim.specs.Outcomes.{event_value, outcome_value};
-ghost use Rattle.net_sim.specs.Played.{IsRunOf};
 ghost use Rattle.net_sim.specs.Promised.{IsPromised};
-ghost use Rattle.net_sim.specs.WalkedStanding.{NetworkValue, without_walkers};
-ghost use Rattle.net_sim.specs.Walks.{HaveWalked};
-ghost use Rattle.command_answers.specs.Answers.{stream};
-ghost use Rattle.play_commands.specs.Simulating.{ShowsAllOr, PlaysFrom, PlaysBy, ReportsPlay, SimulatesFrom, SimulatesBy, AreFirstLines, ShowsLines};
+ghost use Rattle.net_sim.specs.WalkedStanding.{StandsForWalked, without_walkers};
+ghost use Rattle.command_answers.specs.Answers.{stream, Refuses};
+ghost use Rattle.play_commands.specs.Simulating.{PlaysSo, RunsIn, IsTextIn, ShowsAllOr, PlaysFrom, PlaysBy, ReportsPlay, SimulatesFrom, SimulatesBy, AreFirstLines, ShowsLines};
 
 pub mod files;
 pub mod moves;
 
-use command_answers::{Gathered, Refused, Status, refuse};
-use net_check::{Checked, CheckedMove};
+use command_answers::{Gathered, Refused, Status, planned_network, refuse};
+use net_check::{AcceptedNetwork, Checked, CheckedMove};
 use net_json::Sink;
 use net_plan::{Event, Plan};
-use net_sim::{Network, Outcome, Played};
+use net_sim::{Network, Outcome};
 use pdr_repository::Terminus;
-use plan_texts::outcome_line;
+use run_texts::outcome_line;
 use std::alloc::Global;
 
 /// Plays events in the network of a checked plan, and gives on `output` what comes of each.
@@ -56,34 +55,14 @@ pub fn run_sim<T: Terminus, O: Sink, E: Sink>(
     ensures reports { let said = stream E.account errors.old errors.new in
         ReportsPlay result said }
 {
-    match answer_sim(alloc, checked, termini, events, output) {
-        Ok(()) => Status::Yes,
-        Err(refused) => refuse(alloc, refused, errors),
-    }
-}
-
-/// The same without standard error.
-pub fn answer_sim<T: Terminus, O: Sink>(
-    alloc: Global,
-    checked: Checked,
-    termini: Vec<T>,
-    events: &[Event],
-    output: &mut O,
-) -> Result<(), Refused>
-    requires output { HasRoom (O.account output.old) }
-    requires termini { length termini.items ≡ length (planned_termini checked.0 checked.1) }
-    ensures plays { let outputs = stream O.account output.old output.new in
-        map (resting T.tid T.records) termini.items ≡ planned_termini checked.entry.0 checked.entry.1
-        → PlaysBy (one_plan checked.entry.0) checked.entry.1 (map event_value events.now) result outputs }
-    ensures rests { let outputs = stream O.account output.old output.new in
-        let start = without_walkers (at_rest checked.entry.0 (map (resting T.tid T.records) termini.items)) in
-        PlaysFrom (one_plan checked.entry.0) start (map event_value events.now) result outputs }
-    ensures promises { IsPromised (one_plan checked.entry.0) checked.entry.1 }
-{
-    let plan = checked.plan();
-    let mut network = Network::new(alloc, checked, termini)?;
-    let played = network.run(events)?;
-    tell_played(alloc, plan, &played, output)
+    run_accepted(
+        alloc,
+        AcceptedNetwork::of_plan(checked),
+        termini,
+        events,
+        output,
+        errors,
+    )
 }
 
 /// Plays events in the network of a checked move, and gives on `output` what comes of each.
@@ -116,61 +95,119 @@ pub fn run_simmove<T: Terminus, O: Sink, E: Sink>(
     ensures reports { let said = stream E.account errors.old errors.new in
         ReportsPlay result said }
 {
-    match answer_simmove(alloc, checked, termini, events, output) {
+    run_accepted(
+        alloc,
+        AcceptedNetwork::of_move(checked),
+        termini,
+        events,
+        output,
+        errors,
+    )
+}
+
+/// Plays events in the network of what was checked, and gives on `output` what comes of each.
+fn run_accepted<T: Terminus, O: Sink, E: Sink>(
+    alloc: Global,
+    accepted: AcceptedNetwork,
+    termini: Vec<T>,
+    events: &[Event],
+    output: &mut O,
+    errors: &mut E,
+) -> Status
+    requires output { HasRoom (O.account output.old) }
+    requires errors { HasRoom (E.account errors.old) }
+    ensures plays { let outputs = stream O.account output.old output.new in
+        map (resting T.tid T.records) termini.items ≡ planned_termini accepted.entry.0.plan accepted.entry.1
+        → SimulatesBy accepted.entry.0 accepted.entry.1 (map event_value events.now) result outputs }
+    ensures rests { let outputs = stream O.account output.old output.new in
+        SimulatesFrom accepted.entry.0 (without_walkers (at_rest accepted.entry.0.plan (map (resting T.tid T.records) termini.items)))
+        (map event_value events.now) result outputs }
+    ensures promises { IsPromised accepted.entry.0 accepted.entry.1 }
+    ensures silent { result ≡ Yes → errors.new ≡ errors.old }
+    ensures reports { let said = stream E.account errors.old errors.new in
+        ReportsPlay result said }
+{
+    match play_accepted(alloc, accepted, termini, events, output) {
         Ok(()) => Status::Yes,
         Err(refused) => refuse(alloc, refused, errors),
     }
 }
 
 /// The same without standard error.
-pub fn answer_simmove<T: Terminus, O: Sink>(
+fn play_accepted<T: Terminus, O: Sink>(
     alloc: Global,
-    checked: CheckedMove,
+    accepted: AcceptedNetwork,
     termini: Vec<T>,
     events: &[Event],
     output: &mut O,
 ) -> Result<(), Refused>
-    requires output { HasRoom (O.account output.old) }
-    requires termini { length termini.items ≡ length (planned_termini checked.0 checked.2) }
+    requires { HasRoom (O.account output.old) }
     ensures plays { let outputs = stream O.account output.old output.new in
-        map (resting T.tid T.records) termini.items ≡ planned_termini checked.entry.0 checked.entry.2
-        → PlaysBy (moving checked.entry.0 checked.entry.1) checked.entry.2 (map event_value events.now) result outputs }
+        map (resting T.tid T.records) termini.items ≡ planned_termini accepted.entry.0.plan accepted.entry.1
+        → PlaysBy accepted.entry.0 accepted.entry.1 (map event_value events.now) result outputs }
     ensures rests { let outputs = stream O.account output.old output.new in
-        let start = without_walkers (at_rest checked.entry.0 (map (resting T.tid T.records) termini.items)) in
-        PlaysFrom (moving checked.entry.0 checked.entry.1) start (map event_value events.now) result outputs }
-    ensures promises { IsPromised (moving checked.entry.0 checked.entry.1) checked.entry.2 }
+        PlaysFrom accepted.entry.0 (without_walkers (at_rest accepted.entry.0.plan (map (resting T.tid T.records) termini.items)))
+        (map event_value events.now) result outputs }
+    ensures promises { IsPromised accepted.entry.0 accepted.entry.1 }
 {
-    let before = checked.before();
-    let mut network = Network::new_move(alloc, checked, termini)?;
-    let played = network.run(events)?;
-    tell_played(alloc, before, &played, output)
+    let _plan = accepted.plan();
+    let network = Network::start(alloc, accepted, termini)?;
+    play_in(alloc, network, events, output)
 }
 
-/// Gives on `output` what came of events in a network of this plan.
-fn tell_played<O: Sink>(
+/// Plays events in the network of what was checked, with the termini that are planned.
+pub fn play_planned<O: Sink>(
     alloc: Global,
-    plan: &Plan,
-    played: &Played,
+    accepted: AcceptedNetwork,
+    events: &[Event],
+    output: &mut O,
+) -> Result<Status, Refused>
+    requires { HasRoom (O.account output.old) }
+    ensures { let happening = map event_value events.now in
+        PlaysSo (RunsIn accepted.entry.0 accepted.entry.1 happening) (λ text. ⊥) (IsTextIn accepted.entry.0 accepted.entry.1 happening)
+        (λ why. ⊥) (output.new ≡ output.old) result (stream O.account output.old output.new) }
+{
+    let network = planned_network(alloc, accepted)?;
+    play_in(alloc, network, events, output)?;
+    Ok(Status::Yes)
+}
+
+/// Plays events in a network, and gives on `output` what comes of each.
+fn play_in<T: Terminus, O: Sink>(
+    alloc: Global,
+    mut network: Network<T>,
+    events: &[Event],
     output: &mut O,
 ) -> Result<(), Refused>
     requires { HasRoom (O.account output.old) }
-    ensures tells { let outputs = stream O.account output.old output.new in
-        (tables : Tables) (w : WalkedState) (events : List WalkedEvent) (new : NetworkValue) → plan.now ≡ tables.plan
-        → (played.now.stopped ≡ false → length played.now.outcomes.items ≡ length events)
-        → IsRunOf tables w (take (length played.now.outcomes.items) events) (map outcome_value played.now.outcomes.items) new
-        → PlaysFrom tables w events result outputs }
-    ensures walks { let outputs = stream O.account output.old output.new in
-        (tables : Tables) (cert : Certificate) (events : List WalkedEvent) (new : NetworkValue) → plan.now ≡ tables.plan
-        → (played.now.stopped ≡ false → length played.now.outcomes.items ≡ length events)
-        → (run : IsRunOf tables (walked_at_start tables.plan cert) (take (length played.now.outcomes.items) events) (map outcome_value played.now.outcomes.items) new)
-        → HaveWalked tables cert run.turns
-        → PlaysBy tables cert events result outputs }
+    ensures plays { (w : WalkedState) → StandsForWalked (network_value T.tid T.records network.entry) w
+        → PlaysFrom (checked_of network.entry).0 w (map event_value events.now) result (stream O.account output.old output.new) }
+    ensures walks { let checked = checked_of network.entry in
+        StandsForWalked (network_value T.tid T.records network.entry) (walked_at_start checked.0.plan checked.1)
+        → PlaysBy checked.0 checked.1 (map event_value events.now) result (stream O.account output.old output.new) }
 {
+    let plan = network.plan();
+    let played = network.run(events)?;
     print_outcomes(alloc, plan, &played.outcomes, output)?;
     if played.stopped {
         return Err(Refused::NoMemory);
     }
     Ok(())
+}
+
+/// How a run ends that was answered so: where there is no answer, `errors` says why.
+pub fn end<E: Sink>(alloc: Global, answered: Result<Status, Refused>, errors: &mut E) -> Status
+    requires { HasRoom (E.account errors.old) }
+    ensures ended { IfOk answered (λ status. result ≡ status) }
+    ensures refuses { let said = stream E.account errors.old errors.new in
+        IfErr answered (λ why. Refuses why result said) }
+    ensures unwritten { IfErr answered (λ why. why ≡ Unwritten → result ≡ Unreadable) }
+    ensures silent { (result ≡ Yes) ⊎ (result ≡ Fault) → errors.new ≡ errors.old }
+{
+    match answered {
+        Ok(status) => status,
+        Err(refused) => refuse(alloc, refused, errors),
+    }
 }
 
 /// Writes the lines of the outcomes, many at once.

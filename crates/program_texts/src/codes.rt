@@ -413,7 +413,7 @@ fn of_p(code: &str) -> Option<&'static str> {
             "P02: exactly 4 bytes: no payload.\nHint: a packet has at least one payload byte.\n",
         ),
         "P03" => Some(
-            "P03: more than 64 payload bytes; of PacketView::read_within more than the unit.\nHint: cut the message into packets of at most 64 payload bytes; look for bytes of the medium's own\nframing or check code behind the packet.\n",
+            "P03: more than 64 payload bytes; where a plan is given, more than its transmission unit.\nHint: cut the message into packets of at most so many payload bytes; look for bytes of the medium's\nown framing or check code behind the packet.\n",
         ),
         "P04" => Some(
             "P04: bits 3 to 0 of the first byte are not 1.\nHint: the bytes are of another header version, or do not begin at the header.\n",

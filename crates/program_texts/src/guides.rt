@@ -633,10 +633,9 @@ const OF_DECODE: &str = r#"mctpplan decode CAPTURE [PLAN]
 Reads a capture file (pcap) or a text of hex lines, and prints a line for each entry with its
 number: the packet, and whether it is held, dropped or ends a message. Behind the last packet of a
 message stands what the message says. Packets to one destination are joined as its assembler would,
-16 messages at a time. With PLAN the names of the nodes that hold the endpoint IDs stand beside
-them. to one destination are joined as its assembler would, 16 messages at a time. With PLAN, which
-isn't checked, the line of a packet ends with the names of the nodes that hold its source and its
-destination.
+16 messages at a time. With PLAN, which isn't checked, the line of a packet ends with the names of
+the nodes that hold its source and its destination, and packets may be as long as the plan's
+transmission unit allows. Without it they have at most 64 payload bytes.
 
 Status 0: the entries.
 Status 2: also where the capture can't be read to its end. What stands before is told.
@@ -651,16 +650,13 @@ Status 2: also where the capture can't be read to its end. What stands before is
 
 const OF_AUDIT: &str = r#"mctpplan audit PLAN CERT CAPTURE [--bus BUS]
 
-Reads a capture as decode does, and prints what the answers of each node say beside the plan, in the
+Reads a capture as decode does with the plan, and prints what the answers of each node say, in the
 plan's order: first of its routing table, then of its endpoint ID and type, then of its pool, then
 of its records. Of a node without an answer it says not captured, which is no difference. Then it
 tells which packets the plan doesn't have: from or to an endpoint ID that no node holds, and between
 two nodes without a way. With --bus the capture was taken on that bus, and a packet whose planned
 way doesn't go over it is told too. The last line says whether all is as planned, or how many lines
-tell a difference. an answer it says not captured, which is no difference. Behind them it tells the
-packets that the plan doesn't have: from or to an endpoint ID that no node holds, or between two
-nodes without a way. With --bus the capture was taken on that bus of the plan, and the way has to go
-over it. The last line says whether all is as planned, or how many lines tell a difference.
+tell a difference.
 
 Status 0: audit match.
 Status 1: audit differs and how many lines tell a difference; or the first fault of the plan and its

@@ -4,10 +4,10 @@ ghost use Rattle.std.specs.Cow.{cow_str_bytes};
 ghost use Rattle.net_json.specs.Stream.{HasRoom};
 ghost use Rattle.net_rollout.specs.Steps.{IsRollout};
 ghost use Rattle.step_files.specs.StepFiles.{file_value};
-ghost use Rattle.command_answers.specs.declared.status.Status.TheVariants.{Yes, Fault, Unreadable, NoMemory};
+ghost use Rattle.command_answers.specs.declared.status.Status.TheVariants.{Yes, Fault, NoMemory};
 ghost use Rattle.command_answers.specs.declared.refused.Refused.TheVariants as refused;
-ghost use Rattle.command_answers.specs.Answers.{stream, IsWithoutPlan, BreaksOff};
-ghost use Rattle.command_answers.specs.Told.{IsSomeAnswer, Ends};
+ghost use Rattle.command_answers.specs.Answers.{stream, IsWithoutPlan};
+ghost use Rattle.command_answers.specs.Told.{Concludes};
 ghost use Rattle.rollout_commands.specs.Rollouts.{IsRolledOut};
 ghost use Rattle.step_files.specs.Writes.{MayFail, WritesAll, WritesFirst, writes};
 ghost use Rattle.rollout_commands.specs.Writing.{IsMade, IsNoFilesReason, IsUnanswered, IsWithoutFiles, RollsOutWith, RollsOutWithSo};
@@ -38,19 +38,13 @@ pub fn run_rollout_written<P: Source, Q: Source, F: TextFiles, O: Sink, E: Sink>
     requires files { MayFail (F.account files.old) }
     requires output { HasRoom (O.account output.old) }
     requires errors { HasRoom (E.account errors.old) }
-    ensures tells { let befores = stream P.account before.old before.new in
+    ensures concludes { let befores = stream P.account before.old before.new in
         let afters = stream Q.account after.old after.new in
         let written = writes F.account files.old files.new in
-        Ends (RollsOutWithSo folder.now befores afters written) (λ why. IsWithoutFiles folder.now befores afters written why) result
-        (stream O.account output.old output.new) (stream E.account errors.old errors.new) }
-    ensures silent { (result ≡ Yes) ⊎ (result ≡ Fault) → errors.new ≡ errors.old }
+        Concludes (RollsOutWithSo folder.now befores afters written) (λ why. IsWithoutFiles folder.now befores afters written why) result
+        (stream O.account output.old output.new) (stream E.account errors.old errors.new)
+        (output.new ≡ output.old) (errors.new ≡ errors.old) }
     ensures kept { (result ≡ Fault) ⊎ (result ≡ NoMemory) → files.new ≡ files.old }
-    ensures unwritten { let befores = stream P.account before.old before.new in
-        let afters = stream Q.account after.old after.new in
-        let written = writes F.account files.old files.new in
-        result ≡ Unreadable → (output.new ≡ output.old)
-        ⊎ BreaksOff (IsSomeAnswer (RollsOutWithSo folder.now befores afters written)) (stream O.account output.old output.new) }
-    ensures no_memory { result ≡ NoMemory → output.new ≡ output.old }
     ensures in_order { let befores = stream P.account before.old before.new in
         IsWithoutPlan befores → after.new ≡ after.old }
 {

@@ -3,26 +3,23 @@ use Rattle.std.proofs.Common.{◌≡◌, ◌+◌, ◌<◌, ℕ, zero, suc, List,
 use Rattle.std.specs.Prelude.{IfOk, slice_get}
 use Rattle.std.proofs.Math.Seq.{take-suc}
 use Rattle.std.proofs.lemmas.List.{append-nil, append_assoc, length-take}
-use Rattle.std.proofs.lemmas.Option.{slice_get_within, get_or_from_slice_get, slice_get_read}
+use Rattle.std.proofs.lemmas.Option.{slice_get_within, get_or_from_slice_get, same_Some}
 use Rattle.net_plan.specs.declared.plan.Plan.{Plan}
 use Rattle.net_rollout.specs.declared.change.Step.{Step}
 use Rattle.net_rollout.specs.Steps.{AreSteps, IsCertified, last_plan}
 use Rattle.step_files.specs.StepFiles.{AreFilesAlong, AreFilesAt, AreFilesOfStep, FileValue}
 
-some_same : {A : Type 0} (x y : A) → Some x ≡ Some y → x ≡ y
-some_same x y is = cc is
-
 -- the plan after a step is the last one of the steps up to it
 pub last_taken : (before : Plan) (steps : List Step) (i : ℕ) (step : Step) → slice_get steps i ≡ Some step → step.after ≡ last_plan before (take (suc i) steps)
 last_taken before [] i step is = absurd (cc is)
-last_taken before (s ∷ steps) zero step is = ap (λ x. x.after) (sym (some_same s step is))
+last_taken before (s ∷ steps) zero step is = ap (λ x. x.after) (sym (same_Some s step is))
 last_taken before (s ∷ steps) (suc i) step is = last_taken s.after steps i step is
 
 -- each step is certified from the plan before it
 pub certified_at : (before new : Plan) (steps : List Step) (i : ℕ) (step : Step) → AreSteps before new steps → slice_get steps i ≡ Some step
     → IsCertified (last_plan before (take i steps)) step.after step.certificate
 certified_at before new [] i step are is = absurd (cc is)
-certified_at before new (s ∷ steps) zero step are is = subst (λ x. IsCertified before x.after x.certificate) (some_same s step is) are.0.0
+certified_at before new (s ∷ steps) zero step are is = subst (λ x. IsCertified before x.after x.certificate) (same_Some s step is) are.0.0
 certified_at before new (s ∷ steps) (suc i) step are is = certified_at s.after new steps i step are.1 is
 
 module _ (folder : List ℕ) (count : ℕ) where

@@ -10,7 +10,7 @@ use Rattle.net_plan.specs.PlanValues.{node_names, plan_value}
 use Rattle.net_json.specs.CertificateJson.{certificate_text}
 use Rattle.net_json.specs.CertificateText.{IsCertificateOf}
 use Rattle.net_json.specs.PlanText.{IsPlanOf}
-use Rattle.net_json.specs.Texts.{StandsFor}
+use Rattle.net_json.specs.Texts.{IsJsonTextOf}
 use Rattle.net_rules.specs.Certificates.{IsExact}
 use Rattle.net_rules.specs.Rules.{Accepts}
 use Rattle.net_rollout.specs.declared.change.Step.{Step}
@@ -38,12 +38,12 @@ step_path folder count number ending =
 
 -- the text reads as the plan, and isn't longer than a file may be
 abbrev pub IsPlanFile : Plan → List ℕ → Type 0
-IsPlanFile plan text = StandsFor IsPlanOf text (plan_value plan) × (length text ≤ 16777216)
+IsPlanFile plan text = IsJsonTextOf IsPlanOf text (plan_value plan) × (length text ≤ 16777216)
 
 -- The text is that of the certificate, and reads as it for the plan.
 pub record IsTextOfCertificate (plan : Plan) (certificate : Certificate) (text : List ℕ) : Type 0 where
   pub written : text ≡ certificate_text (node_names (plan_value plan).nodes) (certificate_value certificate)
-  pub reads : StandsFor (IsCertificateOf (plan_value plan)) text (certificate_value certificate)
+  pub reads : IsJsonTextOf (IsCertificateOf (plan_value plan)) text (certificate_value certificate)
   pub short : length text ≤ 2097152
 
 -- the text is that of the plan's exact certificate, with which the plan meets every rule

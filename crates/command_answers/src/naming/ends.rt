@@ -2,7 +2,7 @@
 ghost use Rattle.std.specs.Prelude.{◌≡◌, ℕ, MatchOption};
 ghost use Rattle.std.specs.Char.{is_ascii_digit};
 ghost use Rattle.std.specs.List.{list_all};
-ghost use Rattle.mctp_transport.specs.Frames.{IsAssignable};
+ghost use Rattle.mctp_transport.specs.PacketValues.{IsAssignable};
 ghost use Rattle.command_answers.specs.Naming.{IsFirstNamed, IsEidWord, IsDestination, NameTheEnds};
 
 use crate::naming::first_named;

@@ -1,19 +1,21 @@
 //! The command `explain` of a plan with its certificate: what `check` answers, and why.
-ghost use Rattle.std.specs.Prelude.{◌≡◌, ◌≢◌, ◌⊎◌, IfOk, IfErr, string_bytes};
+ghost use Rattle.std.specs.Prelude.{◌≡◌, ◌≢◌, IfOk, IfErr, string_bytes};
 ghost use Rattle.std.specs.Cow.{cow_str_bytes};
 ghost use Rattle.net_check.specs.Errors.{NamesFirstFault};
 ghost use Rattle.net_rules.specs.Faults.{IsFirstFault, site_of};
 ghost use Rattle.net_json.specs.Stream.{HasRoom};
 ghost use Rattle.command_answers.specs.declared.refused.Refused.TheVariants as refused;
 ghost use Rattle.command_answers.specs.declared.status.Status.TheVariants as status;
-ghost use Rattle.command_answers.specs.Answers.{stream, IsWithoutPlan, BreaksOff};
+ghost use Rattle.command_answers.specs.Answers.{stream, IsWithoutPlan};
 ghost use Rattle.explain_commands.specs.Explaining.{IsCauseTold, IsFaultExplained, IsFaultTold, IsRemedyTold, IsCertificateTold, IsBothExplained, IsExplainedWith, ExplainsWithSo};
-ghost use Rattle.command_answers.specs.Told.{Gives, IsSomeAnswer, Ends};
+ghost use Rattle.command_answers.specs.Told.{ConcludesOnOutput};
 ghost use Rattle.command_answers.specs.UnreadInputs.{IsTextOf};
 
-use super::unread::{unread_certificate, unread_plan};
+use super::unread::unread_answer;
 use super::{edits_text, more_faults, obstacle_text, sound_text};
-use command_answers::{Answer, PlanText, Refused, Status, certificate_or_text, plan_or_text, tell};
+use command_answers::{
+    Answer, Input, PlanText, Refused, Status, certificate_or_text, plan_or_text, tell,
+};
 use fault_texts::obstacle_place;
 use net_check::{CertifyError, CheckError, Fault, certify, check};
 use net_explained::{Cause, find_cause};
@@ -37,18 +39,12 @@ pub fn run_explain_certified<P: Source, C: Source, O: Sink, E: Sink>(
     requires certificate { HasRoom (C.account certificate.old) }
     requires output { HasRoom (O.account output.old) }
     requires errors { HasRoom (E.account errors.old) }
-    ensures explains { let plans = stream P.account plan.old plan.new in
+    ensures concludes { let plans = stream P.account plan.old plan.new in
         let certificates = stream C.account certificate.old certificate.new in
-        Ends (ExplainsWithSo name.now certified_by.now plans certificates) (λ why. why ≡ refused.NoMemory) result
-        (stream O.account output.old output.new) (stream E.account errors.old errors.new) }
-    ensures silent { (result ≡ status.Yes) ⊎ (result ≡ status.Fault) → errors.new ≡ errors.old }
+        ConcludesOnOutput (ExplainsWithSo name.now certified_by.now plans certificates) result
+        (stream O.account output.old output.new) (stream E.account errors.old errors.new)
+        (output.new ≡ output.old) (errors.new ≡ errors.old) }
     ensures quiet { result ≢ status.NoMemory → (O.account output.new).failures ≡ (O.account output.old).failures → errors.new ≡ errors.old }
-    ensures unwritten { let plans = stream P.account plan.old plan.new in
-        let certificates = stream C.account certificate.old certificate.new in
-        let outputs = stream O.account output.old output.new in
-        result ≡ status.Unreadable → Gives (ExplainsWithSo name.now certified_by.now plans certificates) status.Unreadable outputs
-        ⊎ BreaksOff (IsSomeAnswer (ExplainsWithSo name.now certified_by.now plans certificates)) outputs }
-    ensures no_memory { result ≡ status.NoMemory → output.new ≡ output.old }
     ensures in_order { let plans = stream P.account plan.old plan.new in
         IsWithoutPlan plans → certificate.new ≡ certificate.old }
 {
@@ -74,7 +70,7 @@ fn answer_explain_certified<P: Source, C: Source>(
 {
     match plan_or_text(alloc, plan) {
         Ok(given) => answer_of_certificate(alloc, name, certified_by, &given, certificate),
-        Err(unread) => unread_plan(alloc, &unread),
+        Err(unread) => unread_answer(alloc, Input::Plan, &unread),
     }
 }
 
@@ -94,7 +90,7 @@ fn answer_of_certificate<C: Source>(
 {
     match certificate_or_text(alloc, &given.plan, certificate) {
         Ok(certificate) => answer_of_both(alloc, name, certified_by, given, &certificate),
-        Err(unread) => unread_certificate(alloc, &given.plan, &unread),
+        Err(unread) => unread_answer(alloc, Input::Certificate, &unread),
     }
 }
 

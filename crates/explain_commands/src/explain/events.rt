@@ -1,30 +1,32 @@
 //! The command `explain` of a plan with its certificate and events: what `check` answers, why, and why events can't be
 //! read.
-ghost use Rattle.std.specs.Prelude.{◌≡◌, ◌≢◌, ◌⊎◌, IfOk, IfErr, map};
+ghost use Rattle.std.specs.Prelude.{◌≡◌, ◌≢◌, IfOk, IfErr, map};
 ghost use Rattle.std.specs.Cow.{cow_str_bytes};
 ghost use Rattle.net_json.specs.EventText.{AreEventsOf};
 ghost use Rattle.net_json.specs.Stream.{HasRoom};
-ghost use Rattle.net_json.specs.Texts.{StandsFor};
+ghost use Rattle.net_json.specs.Texts.{IsJsonTextOf};
 ghost use Rattle.net_plan.specs.EventValues.{event_entry};
 ghost use Rattle.net_plan.specs.PlanValues.{plan_value};
 ghost use Rattle.net_rules.specs.Rules.{Accepts};
 ghost use Rattle.command_answers.specs.declared.refused.Refused.TheVariants as refused;
 ghost use Rattle.command_answers.specs.declared.status.Status.TheVariants as status;
-ghost use Rattle.command_answers.specs.Answers.{stream, IsWithoutPlan, BreaksOff};
+ghost use Rattle.command_answers.specs.Answers.{stream, IsWithoutPlan};
 ghost use Rattle.command_answers.specs.Inputs.{GaveEvents};
-ghost use Rattle.command_answers.specs.Told.{Gives, IsSomeAnswer, Ends};
-ghost use Rattle.command_answers.specs.UnreadInputs.{IsTextOf, StandsForNothing};
+ghost use Rattle.command_answers.specs.Told.{ConcludesOnOutput};
+ghost use Rattle.command_answers.specs.UnreadInputs.{IsTextOf};
 ghost use Rattle.explain_commands.specs.ExplainingEvents.{AreNoEventsIn, AreNoEventsBy, AreEventsExplained, IsExplainedWithEvents, AreAllExplained, ExplainsAllSo};
 
 use super::certified::explained;
 use super::sound_text;
-use super::unread::{unread_certificate, unread_events, unread_plan};
+use super::unread::unread_answer;
 use command_answers::{
-    Answer, PlanText, Refused, Status, Unread, certificate_or_text, plan_or_text, tell,
+    Answer, Input, PlanText, Refused, Status, Unread, certificate_or_text, plan_or_text, tell,
+    without_text,
 };
 use net_check::check;
-use net_json::{PlanError, Sink, Source, TEXT_LIMIT, TextFault, events_of_text, read_within};
+use net_json::{Sink, Source, TEXT_LIMIT, read_within};
 use net_plan::{Certificate, Event, Plan};
+use reading_texts::{TextError, events_or_fault};
 use std::alloc::Global;
 
 /// Says on `output` what `check` says of a plan and its certificate, and explains it. Where they are accepted and the
@@ -46,20 +48,13 @@ pub fn run_explain_events<P: Source, C: Source, V: Source, O: Sink, E: Sink>(
     requires events { HasRoom (V.account events.old) }
     requires output { HasRoom (O.account output.old) }
     requires errors { HasRoom (E.account errors.old) }
-    ensures explains { let plans = stream P.account plan.old plan.new in
+    ensures concludes { let plans = stream P.account plan.old plan.new in
         let certificates = stream C.account certificate.old certificate.new in
         let happenings = stream V.account events.old events.new in
-        Ends (ExplainsAllSo name.now certified_by.now plans certificates happenings) (λ why. why ≡ refused.NoMemory) result
-        (stream O.account output.old output.new) (stream E.account errors.old errors.new) }
-    ensures silent { (result ≡ status.Yes) ⊎ (result ≡ status.Fault) → errors.new ≡ errors.old }
+        ConcludesOnOutput (ExplainsAllSo name.now certified_by.now plans certificates happenings) result
+        (stream O.account output.old output.new) (stream E.account errors.old errors.new)
+        (output.new ≡ output.old) (errors.new ≡ errors.old) }
     ensures quiet { result ≢ status.NoMemory → (O.account output.new).failures ≡ (O.account output.old).failures → errors.new ≡ errors.old }
-    ensures unwritten { let plans = stream P.account plan.old plan.new in
-        let certificates = stream C.account certificate.old certificate.new in
-        let happenings = stream V.account events.old events.new in
-        let outputs = stream O.account output.old output.new in
-        result ≡ status.Unreadable → Gives (ExplainsAllSo name.now certified_by.now plans certificates happenings) status.Unreadable outputs
-        ⊎ BreaksOff (IsSomeAnswer (ExplainsAllSo name.now certified_by.now plans certificates happenings)) outputs }
-    ensures no_memory { result ≡ status.NoMemory → output.new ≡ output.old }
     ensures in_order { let plans = stream P.account plan.old plan.new in
         IsWithoutPlan plans → (certificate.new ≡ certificate.old) × (events.new ≡ events.old) }
 {
@@ -88,7 +83,7 @@ fn answer_explain_events<P: Source, C: Source, V: Source>(
 {
     match plan_or_text(alloc, plan) {
         Ok(given) => answer_of_plan(alloc, name, certified_by, &given, certificate, events),
-        Err(unread) => unread_plan(alloc, &unread),
+        Err(unread) => unread_answer(alloc, Input::Plan, &unread),
     }
 }
 
@@ -113,7 +108,7 @@ fn answer_of_plan<C: Source, V: Source>(
         Ok(certificate) => {
             answer_of_both(alloc, name, certified_by, given, &certificate, events)
         }
-        Err(unread) => unread_certificate(alloc, &given.plan, &unread),
+        Err(unread) => unread_answer(alloc, Input::Certificate, &unread),
     }
 }
 
@@ -153,7 +148,7 @@ fn answer_of_events<V: Source>(
 {
     match events_or_text(alloc, plan, events) {
         Ok(_events) => Ok(Answer::found(sound_text(alloc, plan, certificate)?)),
-        Err(unread) => unread_events(alloc, plan, &unread),
+        Err(unread) => unread_answer(alloc, Input::Events, &unread),
     }
 }
 
@@ -168,24 +163,21 @@ fn events_or_text<V: Source>(
         IfOk result (λ read. GaveEvents plan.now happenings read.items) }
     ensures unread { let happenings = stream V.account events.old events.new in
         IfErr result (AreNoEventsBy plan.now happenings) }
-    ensures none { IfErr result (StandsForNothing (AreEventsOf (plan_value plan.now))) }
 {
     match read_within(alloc, events, TEXT_LIMIT) {
         Ok(text) => events_in(alloc, plan, text),
-        Err(TextFault::TooLong) => Err(Unread::TooLong),
-        Err(TextFault::Device) => Err(Unread::Failed),
-        Err(TextFault::OutOfMemory) => Err(Unread::NoMemory),
+        Err(fault) => Err(without_text(fault)),
     }
 }
 
 /// The events at a plan's nodes that a text is, or why it is none.
 fn events_in(alloc: Global, plan: &Plan, text: Vec<u8>) -> Result<Vec<Event>, Unread>
-    ensures given { IfOk result (λ es. StandsFor (AreEventsOf (plan_value plan.now)) text.items (map event_entry es.items)) }
+    ensures given { IfOk result (λ es. IsJsonTextOf (AreEventsOf (plan_value plan.now)) text.items (map event_entry es.items)) }
     ensures unread { IfErr result (AreNoEventsIn plan.now text.items) }
 {
-    match events_of_text(alloc, plan, &text) {
+    match events_or_fault(alloc, plan, &text) {
         Ok(events) => Ok(events),
-        Err(PlanError::OutOfMemory) => Err(Unread::NoMemory),
-        Err(cause) => Err(Unread::Text { text, cause }),
+        Err(TextError::OutOfMemory) => Err(Unread::NoMemory),
+        Err(TextError::Faulty(fault)) => Err(Unread::Text { text, fault }),
     }
 }

@@ -1,5 +1,5 @@
 //! The command `explain` of a move: what `certifymove` answers, and why.
-ghost use Rattle.std.specs.Prelude.{◌≡◌, ◌≢◌, ◌⊎◌, IfOk, IfErr, map, string_bytes};
+ghost use Rattle.std.specs.Prelude.{◌≡◌, ◌≢◌, IfOk, IfErr, map, string_bytes};
 ghost use Rattle.std.specs.Cow.{cow_str_bytes};
 ghost use Rattle.fault_texts.specs.Places.{IsPlaceTold};
 ghost use Rattle.net_json.specs.Finding.{step_value};
@@ -8,8 +8,8 @@ ghost use Rattle.net_rules.specs.MoveObstacles.{NamesMoveObstacle, NamesSureFaul
 ghost use Rattle.net_rules.specs.declared.certify_error.CertifyError.TheVariants as error;
 ghost use Rattle.command_answers.specs.declared.refused.Refused.TheVariants as refused;
 ghost use Rattle.command_answers.specs.declared.status.Status.TheVariants as status;
-ghost use Rattle.command_answers.specs.Answers.{stream, IsWithoutPlan, BreaksOff};
-ghost use Rattle.command_answers.specs.Told.{Gives, IsSomeAnswer, Ends};
+ghost use Rattle.command_answers.specs.Answers.{stream, IsWithoutPlan};
+ghost use Rattle.command_answers.specs.Told.{ConcludesOnOutput};
 ghost use Rattle.command_answers.specs.UnreadInputs.{IsTextOf};
 ghost use Rattle.explain_commands.specs.Explaining.{IsExplainedThere, IsToldWithEdits};
 ghost use Rattle.explain_commands.specs.ExplainingMoves.{ExplainsMoveSo, IsMoveErrorTold, IsMoveExplained, IsMoveExplainedWith, IsMoveObstacleText, IsMoveTold, IsNewFaultTold};
@@ -19,9 +19,9 @@ mod differences;
 mod rows;
 
 use super::certified::cause_text;
-use super::unread::unread_plan;
+use super::unread::unread_answer;
 use super::{edits_text, explained_there, sound_text, told_there};
-use command_answers::{Answer, PlanText, Refused, Status, plan_or_text, tell};
+use command_answers::{Answer, Input, PlanText, Refused, Status, plan_or_text, tell};
 use differences::difference_text;
 use fault_texts::pointer_place;
 use net_check::{
@@ -49,18 +49,12 @@ pub fn run_explain_move<P: Source, Q: Source, O: Sink, E: Sink>(
     requires after { HasRoom (Q.account after.old) }
     requires output { HasRoom (O.account output.old) }
     requires errors { HasRoom (E.account errors.old) }
-    ensures explains { let befores = stream P.account before.old before.new in
+    ensures concludes { let befores = stream P.account before.old before.new in
         let afters = stream Q.account after.old after.new in
-        Ends (ExplainsMoveSo name.now new_name.now befores afters) (λ why. why ≡ refused.NoMemory) result
-        (stream O.account output.old output.new) (stream E.account errors.old errors.new) }
-    ensures silent { (result ≡ status.Yes) ⊎ (result ≡ status.Fault) → errors.new ≡ errors.old }
+        ConcludesOnOutput (ExplainsMoveSo name.now new_name.now befores afters) result
+        (stream O.account output.old output.new) (stream E.account errors.old errors.new)
+        (output.new ≡ output.old) (errors.new ≡ errors.old) }
     ensures quiet { result ≢ status.NoMemory → (O.account output.new).failures ≡ (O.account output.old).failures → errors.new ≡ errors.old }
-    ensures unwritten { let befores = stream P.account before.old before.new in
-        let afters = stream Q.account after.old after.new in
-        let outputs = stream O.account output.old output.new in
-        result ≡ status.Unreadable → Gives (ExplainsMoveSo name.now new_name.now befores afters) status.Unreadable outputs
-        ⊎ BreaksOff (IsSomeAnswer (ExplainsMoveSo name.now new_name.now befores afters)) outputs }
-    ensures no_memory { result ≡ status.NoMemory → output.new ≡ output.old }
     ensures in_order { let befores = stream P.account before.old before.new in
         IsWithoutPlan befores → after.new ≡ after.old }
 {
@@ -86,7 +80,7 @@ fn answer_explain_move<P: Source, Q: Source>(
 {
     match plan_or_text(alloc, before) {
         Ok(given) => answer_of_new(alloc, name, new_name, &given, after),
-        Err(unread) => unread_plan(alloc, &unread),
+        Err(unread) => unread_answer(alloc, Input::Plan, &unread),
     }
 }
 
@@ -106,7 +100,7 @@ fn answer_of_new<Q: Source>(
 {
     match plan_or_text(alloc, after) {
         Ok(given) => answer_of_plans(alloc, name, new_name, before, &given),
-        Err(unread) => unread_plan(alloc, &unread),
+        Err(unread) => unread_answer(alloc, Input::Plan, &unread),
     }
 }
 

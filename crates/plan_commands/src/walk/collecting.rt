@@ -8,7 +8,7 @@ ghost use Rattle.plan_commands.specs.Collecting.{Goes, EndsEarlyFor, HasCollecte
 
 use arrayvec::ArrayVec;
 use command_answers::{PartSize, Refused};
-use pdr_repository::{ListTerminus, MAX_RECORDS, Step, Terminus, WalkFault, Walker};
+use pdr_repository::{ListTerminus, MAX_RECORDS, Terminus, WalkFault, WalkProgress, Walker};
 use pldm_message::{InstanceId, InstanceIds};
 use std::alloc::Global;
 
@@ -29,7 +29,7 @@ pub fn collect(
 {
     let mut walker = Walker::new(alloc, part.bytes, MAX_RECORDS, MAX_BYTES)?;
     let mut ids = InstanceIds::new();
-    while exchange(&mut walker, terminus, &mut ids)? != Step::Done {}
+    while exchange(&mut walker, terminus, &mut ids)? != WalkProgress::Done {}
     Ok(walker)
 }
 
@@ -38,7 +38,7 @@ fn exchange(
     walker: &mut Walker,
     terminus: &mut ListTerminus,
     ids: &mut InstanceIds,
-) -> Result<Step, Refused>
+) -> Result<WalkProgress, Refused>
     requires few { length (list_records terminus.old) ≤ 4096 }
     requires lawful { IsLawful (list_records terminus.old) }
     requires free { (id : ℕ) → (ids_of ids.old).out id ≡ false }
@@ -47,7 +47,7 @@ fn exchange(
     ensures goes { Goes (list_records terminus.old) (state_of walker.old) result (state_of walker.new) }
 {
     let Some(id) = ids.take() else {
-        return Ok(Step::Done);
+        return Ok(WalkProgress::Done);
     };
     let step = exchange_under(walker, terminus, id);
     ids.give_back(id);
@@ -59,14 +59,14 @@ fn exchange_under(
     walker: &mut Walker,
     terminus: &mut ListTerminus,
     id: InstanceId,
-) -> Result<Step, Refused>
+) -> Result<WalkProgress, Refused>
     requires few { length (list_records terminus.old) ≤ 4096 }
     requires lawful { IsLawful (list_records terminus.old) }
     ensures kept { list_records terminus.new ≡ list_records terminus.old }
     ensures goes { Goes (list_records terminus.old) (state_of walker.old) result (state_of walker.new) }
 {
     let Some(request) = walker.next_request(id) else {
-        return Ok(Step::Done);
+        return Ok(WalkProgress::Done);
     };
     let mut answer = ArrayVec::new();
     terminus.answer(&request, &mut answer);

@@ -3,10 +3,11 @@ ghost use Rattle.std.specs.Prelude.{◌≡◌, Some, IfOk, string_bytes};
 ghost use Rattle.std.specs.List.{flat_map};
 ghost use Rattle.plan_texts.specs.MoveSteps.{change_text, eids_text, part_text, rollout_text, steps_text, switch_text};
 
-use super::super::{name_or_dash, names_after_spaces};
+use super::super::names_after_spaces;
 use super::{move_obstacle_line, name_of_some};
 use net_plan::Plan;
 use net_rollout::{Change, Part, Rollout, Step};
+use net_tables::lookup::node_name;
 use std::alloc::{AllocError, Global};
 
 /// What the command `rollout` prints, with the nodes' names in the plan before. Out of memory is an error, and has no
@@ -89,7 +90,7 @@ fn parts_lines(
 fn part_line(alloc: Global, before: &Plan, number: usize, part: &Part) -> Result<String, AllocError>
     ensures { IfOk result (λ line. string_bytes line ≡ part_text before.now number part.now) }
 {
-    let node = name_or_dash(before, part.node);
+    let node = node_name(before, part.node);
     let eids = eids_text(alloc, part.first.value, part.last.value)?;
     let next = name_of_some(before, part.next);
     format!(in alloc; "step {number} rows of {node}: {eids} by {next}\n")

@@ -7,11 +7,11 @@ ghost use Rattle.command_answers.specs.Naming.{IsFirstNamed};
 
 use crate::script::WalkScript;
 use crate::script::course::{Course, TAG};
-use command_answers::planned_termini;
+use command_answers::planned_network;
 use mctp_transport::Tag;
-use net_check::Checked;
+use net_check::{AcceptedNetwork, Checked};
 use net_plan::Event;
-use net_sim::{Effect, Handed, Network, Outcome, Standing};
+use net_sim::{Effect, Handed, Outcome, Standing};
 use pdr_repository::{BlockTerminus, WalkFault};
 use std::alloc::{AllocError, Global};
 
@@ -36,8 +36,7 @@ pub fn made_events(
     requires { IsFirstNamed checked.0 script.now.node.now node }
     ensures { IfOk result (λ made. IsMade script.now checked.entry.0 checked.entry.1 made) }
 {
-    let termini = planned_termini(alloc, checked.plan(), checked.certificate())?;
-    let mut network = Network::new(alloc, checked, termini)?;
+    let mut network = planned_network(alloc, AcceptedNetwork::of_plan(checked))?;
     let mut course = Course::new(alloc, script.lost, script.repeated);
     let walk = Event::Walk {
         node,

@@ -4,7 +4,7 @@ ghost use Rattle.play_commands.specs.ScriptTexts.{script_text, event_lines, even
 
 use mctp_transport::Key;
 use net_plan::{Event, Plan};
-use plan_texts::name_or_dash;
+use net_tables::lookup::node_name;
 use std::alloc::{AllocError, Global};
 
 /// The text of a list of events (format 3), an event a line.
@@ -42,7 +42,7 @@ fn event_text(alloc: Global, plan: &Plan, event: &Event) -> Result<String, Alloc
             tag,
             count,
         } => {
-            let (node, eid, tag) = (name_or_dash(plan, *node), eid.value, tag.value);
+            let (node, eid, tag) = (node_name(plan, *node), eid.value, tag.value);
             format!(in alloc;
                 "{{ \"do\": \"walk\", \"node\": \"{node}\", \"eid\": {eid}, \"tag\": {tag}, \"count\": {count} }}"
             )
@@ -54,10 +54,10 @@ fn event_text(alloc: Global, plan: &Plan, event: &Event) -> Result<String, Alloc
         }
         Event::Lose { flight } => format!(in alloc; "{{ \"do\": \"lose\", \"flight\": {flight} }}"),
         Event::Answer { node } => {
-            let node = name_or_dash(plan, *node);
+            let node = node_name(plan, *node);
             format!(in alloc; "{{ \"do\": \"answer\", \"node\": \"{node}\" }}")
         }
-        Event::Expire { node, key } => expire_text(alloc, name_or_dash(plan, *node), key),
+        Event::Expire { node, key } => expire_text(alloc, node_name(plan, *node), key),
         Event::Collected { walker } => {
             format!(in alloc; "{{ \"do\": \"collected\", \"walker\": {walker} }}")
         }

@@ -1,18 +1,14 @@
 //! The command `sim` over the files that it reads.
-ghost use Rattle.std.specs.Prelude.{◌≡◌, ◌⊎◌, IfOk, IfErr, map};
-ghost use Rattle.net_tables.specs.TwoPlans.{one_plan};
+ghost use Rattle.std.specs.Prelude.{◌≡◌, IfOk, IfErr, map};
 ghost use Rattle.net_json.specs.Stream.{HasRoom};
 ghost use Rattle.net_sim.specs.Outcomes.{event_value};
-ghost use Rattle.command_answers.specs.declared.status.Status.TheVariants.{Yes, Fault, Unreadable, NoMemory};
-ghost use Rattle.command_answers.specs.Answers.{stream, IsWithoutPlan, BreaksOff, AreGiven, IsFaultText};
-ghost use Rattle.play_commands.specs.Simulating.{PlaysBy, RunsOn, IsPlayText, AreUnreadAmong, PlaysSo, EndsPlay, TellsRun, IsSimFault, IsSimAnswer};
+ghost use Rattle.command_answers.specs.Answers.{stream, IsWithoutPlan, AreGiven, IsFaultText};
+ghost use Rattle.play_commands.specs.Simulating.{RunsOn, IsPlayText, AreUnreadAmong, PlaysSo, ConcludesPlay, TellsRun, IsSimFault, IsSimAnswer};
 ghost use Rattle.command_answers.specs.Inputs.{GaveEvents};
 
-use crate::sim::answer_sim;
-use command_answers::{
-    Refused, Status, fault_answer, give, given_events, planned_termini, read_inputs, refuse,
-};
-use net_check::{Checked, check};
+use crate::sim::{end, play_planned};
+use command_answers::{Refused, Status, fault_answer, give, given_events, read_inputs};
+use net_check::{AcceptedNetwork, check};
 use net_json::{Sink, Source};
 use net_plan::{Certificate, Event, Plan};
 use std::alloc::Global;
@@ -33,30 +29,18 @@ pub fn simulate<P: Source, C: Source, V: Source, O: Sink, E: Sink>(
     requires events { HasRoom (V.account events.old) }
     requires output { HasRoom (O.account output.old) }
     requires errors { HasRoom (E.account errors.old) }
-    ensures simulates { let plans = stream P.account plan.old plan.new in
+    ensures concludes { let plans = stream P.account plan.old plan.new in
         let certificates = stream C.account certificate.old certificate.new in
         let happenings = stream V.account events.old events.new in
-        EndsPlay (TellsRun plans certificates happenings) (IsSimFault plans certificates happenings)
-        (λ why. AreUnreadAmong why plans certificates happenings) result (stream O.account output.old output.new)
-        (stream E.account errors.old errors.new) }
-    ensures silent { (result ≡ Yes) ⊎ (result ≡ Fault) → errors.new ≡ errors.old }
-    ensures unwritten { let plans = stream P.account plan.old plan.new in
-        let certificates = stream C.account certificate.old certificate.new in
-        let happenings = stream V.account events.old events.new in
-        result ≡ Unreadable → (output.new ≡ output.old)
-        ⊎ BreaksOff (IsSimAnswer plans certificates happenings) (stream O.account output.old output.new) }
-    ensures partly_runs { let plans = stream P.account plan.old plan.new in
-        let certificates = stream C.account certificate.old certificate.new in
-        let happenings = stream V.account events.old events.new in
-        result ≡ NoMemory → (output.new ≡ output.old)
-        ⊎ TellsRun plans certificates happenings NoMemory (stream O.account output.old output.new) }
+        ConcludesPlay (TellsRun plans certificates happenings) (IsSimFault plans certificates happenings)
+        (IsSimAnswer plans certificates happenings) (λ why. AreUnreadAmong why plans certificates happenings) result
+        (stream O.account output.old output.new) (stream E.account errors.old errors.new)
+        (output.new ≡ output.old) (errors.new ≡ errors.old) }
     ensures in_order { IsWithoutPlan (stream P.account plan.old plan.new)
         → (certificate.new ≡ certificate.old) × (events.new ≡ events.old) }
 {
-    match answer_files(alloc, plan, certificate, events, output) {
-        Ok(status) => status,
-        Err(refused) => refuse(alloc, refused, errors),
-    }
+    let answered = answer_files(alloc, plan, certificate, events, output);
+    end(alloc, answered, errors)
 }
 
 fn answer_files<P: Source, C: Source, V: Source, O: Sink>(
@@ -79,12 +63,12 @@ fn answer_files<P: Source, C: Source, V: Source, O: Sink>(
     ensures in_order { IsWithoutPlan (stream P.account plan.old plan.new)
         → (certificate.new ≡ certificate.old) × (events.new ≡ events.old) }
 {
-    let (plan, certificate, events) = read_files(alloc, plan, certificate, events)?;
+    let (plan, certificate, events) = read_run(alloc, plan, certificate, events)?;
     play(alloc, &plan, &certificate, events.as_slice(), output)
 }
 
 /// The plan, its certificate and the events. Each is read only where those before it could be read.
-pub fn read_files<P: Source, C: Source, V: Source>(
+pub fn read_run<P: Source, C: Source, V: Source>(
     alloc: Global,
     plan: &mut P,
     certificate: &mut C,
@@ -125,25 +109,7 @@ fn play<O: Sink>(
         (stream O.account output.old output.new) }
 {
     match check(alloc, plan, certificate) {
-        Ok(checked) => {
-            play_checked(alloc, checked, events, output)?;
-            Ok(Status::Yes)
-        }
+        Ok(checked) => play_planned(alloc, AcceptedNetwork::of_plan(checked), events, output),
         Err(error) => give(&fault_answer(alloc, plan, &error)?, output),
     }
-}
-
-/// Plays events in the network of a checked plan, with the termini that are planned.
-fn play_checked<O: Sink>(
-    alloc: Global,
-    checked: Checked,
-    events: &[Event],
-    output: &mut O,
-) -> Result<(), Refused>
-    requires { HasRoom (O.account output.old) }
-    ensures { PlaysBy (one_plan checked.entry.0) checked.entry.1 (map event_value events.now) result
-        (stream O.account output.old output.new) }
-{
-    let termini = planned_termini(alloc, checked.plan(), checked.certificate())?;
-    answer_sim(alloc, checked, termini, events, output)
 }

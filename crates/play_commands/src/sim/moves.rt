@@ -1,19 +1,15 @@
 //! The command `simmove` over the files that it reads.
-ghost use Rattle.std.specs.Prelude.{◌≡◌, ◌⊎◌, IfOk, IfErr, map};
-ghost use Rattle.net_tables.specs.TwoPlans.{moving};
+ghost use Rattle.std.specs.Prelude.{◌≡◌, IfOk, IfErr, map};
 ghost use Rattle.net_json.specs.Stream.{HasRoom};
 ghost use Rattle.net_sim.specs.Outcomes.{event_value};
-ghost use Rattle.command_answers.specs.declared.status.Status.TheVariants.{Yes, Fault, Unreadable, NoMemory};
-ghost use Rattle.command_answers.specs.Answers.{stream, IsWithoutPlan, BreaksOff};
+ghost use Rattle.command_answers.specs.Answers.{stream, IsWithoutPlan};
 ghost use Rattle.command_answers.specs.Moves.{IsMoveFaultText};
 ghost use Rattle.play_commands.specs.MoveSimulating.{IsPlayGiven, MovesOn, IsMovePlayText, TellsMovedRun, IsPlayFault, IsPlayAnswer, IsPlayUnread};
-ghost use Rattle.play_commands.specs.Simulating.{PlaysBy, PlaysSo, EndsPlay};
+ghost use Rattle.play_commands.specs.Simulating.{PlaysSo, ConcludesPlay};
 
-use crate::sim::answer_simmove;
-use command_answers::{
-    Refused, Status, give, given_events, move_fault_answer, planned_termini, read_move, refuse,
-};
-use net_check::{CheckedMove, check_move};
+use crate::sim::{end, play_planned};
+use command_answers::{Refused, Status, give, given_events, move_fault_answer, read_move};
+use net_check::{AcceptedNetwork, check_move};
 use net_json::{Sink, Source};
 use net_plan::{Certificate, Event, Plan};
 use std::alloc::Global;
@@ -36,35 +32,21 @@ pub fn simulate_move<P: Source, Q: Source, C: Source, V: Source, O: Sink, E: Sin
     requires events { HasRoom (V.account events.old) }
     requires output { HasRoom (O.account output.old) }
     requires errors { HasRoom (E.account errors.old) }
-    ensures simulates { let befores = stream P.account before.old before.new in
+    ensures concludes { let befores = stream P.account before.old before.new in
         let afters = stream Q.account after.old after.new in
         let certificates = stream C.account certificate.old certificate.new in
         let happenings = stream V.account events.old events.new in
-        EndsPlay (TellsMovedRun befores afters certificates happenings) (IsPlayFault befores afters certificates happenings)
-        (λ why. IsPlayUnread why befores afters certificates happenings) result
-        (stream O.account output.old output.new) (stream E.account errors.old errors.new) }
-    ensures silent { (result ≡ Yes) ⊎ (result ≡ Fault) → errors.new ≡ errors.old }
-    ensures unwritten { let befores = stream P.account before.old before.new in
-        let afters = stream Q.account after.old after.new in
-        let certificates = stream C.account certificate.old certificate.new in
-        let happenings = stream V.account events.old events.new in
-        result ≡ Unreadable → (output.new ≡ output.old)
-        ⊎ BreaksOff (IsPlayAnswer befores afters certificates happenings) (stream O.account output.old output.new) }
-    ensures partly_runs { let befores = stream P.account before.old before.new in
-        let afters = stream Q.account after.old after.new in
-        let certificates = stream C.account certificate.old certificate.new in
-        let happenings = stream V.account events.old events.new in
-        result ≡ NoMemory → (output.new ≡ output.old)
-        ⊎ TellsMovedRun befores afters certificates happenings NoMemory (stream O.account output.old output.new) }
+        ConcludesPlay (TellsMovedRun befores afters certificates happenings) (IsPlayFault befores afters certificates happenings)
+        (IsPlayAnswer befores afters certificates happenings) (λ why. IsPlayUnread why befores afters certificates happenings) result
+        (stream O.account output.old output.new) (stream E.account errors.old errors.new)
+        (output.new ≡ output.old) (errors.new ≡ errors.old) }
     ensures in_order { IsWithoutPlan (stream P.account before.old before.new)
         → (after.new ≡ after.old) × (certificate.new ≡ certificate.old) × (events.new ≡ events.old) }
     ensures after_in_order { IsWithoutPlan (stream Q.account after.old after.new)
         → (certificate.new ≡ certificate.old) × (events.new ≡ events.old) }
 {
-    match answer_move_files(alloc, before, after, certificate, events, output) {
-        Ok(status) => status,
-        Err(refused) => refuse(alloc, refused, errors),
-    }
+    let answered = answer_move_files(alloc, before, after, certificate, events, output);
+    end(alloc, answered, errors)
 }
 
 fn answer_move_files<P: Source, Q: Source, C: Source, V: Source, O: Sink>(
@@ -159,26 +141,7 @@ fn play_move<O: Sink>(
         (stream O.account output.old output.new) }
 {
     match check_move(alloc, before, after, certificate) {
-        Ok(checked) => {
-            play_checked_move(alloc, checked, events, output)?;
-            Ok(Status::Yes)
-        }
+        Ok(checked) => play_planned(alloc, AcceptedNetwork::of_move(checked), events, output),
         Err(error) => give(&move_fault_answer(alloc, before, &error)?, output),
     }
-}
-
-/// Plays events in the network of a checked move, with the termini that are planned.
-fn play_checked_move<O: Sink>(
-    alloc: Global,
-    checked: CheckedMove,
-    events: &[Event],
-    output: &mut O,
-) -> Result<(), Refused>
-    requires { HasRoom (O.account output.old) }
-    ensures { PlaysBy (moving checked.entry.0 checked.entry.1) checked.entry.2 (map event_value events.now) result
-        (stream O.account output.old output.new) }
-{
-    let plan = checked.before();
-    let termini = planned_termini(alloc, plan, checked.certificate())?;
-    answer_simmove(alloc, checked, termini, events, output)
 }

@@ -1,11 +1,11 @@
 use Rattle.std.proofs.Common.{rules, ◌≡◌, ◌<◌, [], List, length, slice_index_or, subst, sym, map}
-use Rattle.audited_captures.specs.Packets.{packet_value, ArePackets, None}
+use Rattle.audited_captures.specs.Packets.{numbered_packet, ArePackets, None}
 use Rattle.audited_captures.specs.declared.packets.CapturedPacket.{CapturedPacket}
 use Rattle.audited_captures.proofs.PacketLaws.{next_packet}
 use Rattle.audited_captures.proofs.packets.packets_of.Goals as goal
 
 pub loop-i-init : goal.loop-i-init
-loop-i-init c = subst (λ (ps : List CapturedPacket). ArePackets [] (map packet_value ps)) (sym c.new-packets.ensures.items) None
+loop-i-init c = subst (λ (ps : List CapturedPacket). ArePackets c.args.unit [] (map numbered_packet ps)) (sym c.new-packets.ensures.items) None
 
 pub loop-i-preserved : goal.loop-i-preserved
 loop-i-preserved c =
@@ -14,4 +14,4 @@ loop-i-preserved c =
     let item = c.entry-item.result in
     let within : i < length items = search rules in
     let is : item ≡ slice_index_or items i item = search rules in
-    next_packet items i item _ _ within is c.loop-i.invariant c.in_ok-add_packet.ensures
+    next_packet c.args.unit items i item _ _ within is c.loop-i.invariant c.in_ok-add_packet.ensures

@@ -3,7 +3,7 @@ use Rattle.std.specs.Prelude.{IfOk, Option, option_map}
 use Rattle.net_plan.specs.declared.plan.Plan.{Plan}
 use Rattle.audited_captures.specs.Judging.{unplanned_value}
 use Rattle.audited_captures.specs.Lines.{line_value}
-use Rattle.audited_captures.specs.Packets.{packet_value}
+use Rattle.audited_captures.specs.Packets.{numbered_packet}
 use Rattle.audited_captures.specs.Traffic.{IsJudged}
 use Rattle.audited_captures.specs.TrafficLines.{IsOneLine}
 use Rattle.audited_captures.specs.declared.traffic.Unplanned.{Unplanned}
@@ -13,7 +13,7 @@ use Rattle.audited_captures.proofs.traffic_lines.lines_of.Goals as goal
 pub returns-in-Some : goal.returns-in-Some
 returns-in-Some c =
     let plan = c.args.checked.now.0 in
-    let f = packet_value c.args.first.now in
+    let f = numbered_packet c.args.first.now in
     let why = c.in-Some.why in
     let judged = subst (λ (w : Option Unplanned). IsJudged plan c.args.bus f.source f.destination (option_map unplanned_value w)) c.in-Some.is c.in_ok-why.ensures in
     let line = subst (λ (p : Plan). IfOk c.line_of.result (λ ls. IsOneLine p f c.args.count (unplanned_value why) (map line_value ls.items))) c.plan.ensures.plan c.line_of.ensures in

@@ -1,7 +1,7 @@
 use Rattle.std.proofs.Common.{rules, ◌≡◌, ◌<◌, ◌≤◌, [], List, length, slice_index_or, subst, sym, ap, ◌∙◌, map}
 use Rattle.std.proofs.lemmas.List.{map-append, take_all}
 use Rattle.audited_captures.specs.Lines.{line_value}
-use Rattle.audited_captures.specs.Packets.{packet_value}
+use Rattle.audited_captures.specs.Packets.{numbered_packet}
 use Rattle.audited_captures.specs.TrafficLines.{AreLinesOf, AreTrafficLines, Empty}
 use Rattle.audited_captures.specs.declared.lines.Line.{Line}
 use Rattle.audited_captures.specs.declared.packets.CapturedPacket.{CapturedPacket}
@@ -23,7 +23,7 @@ loop-first-preserved c =
     let old = c.loop-first.lines.items in
     let more = c.in_ok-more.more.items in
     λ packets counted.
-    (let of_one = subst (λ n. AreLinesOf plan c.args.bus (packet_value item) n (map line_value more)) (c.count_like.ensures packets counted) c.in_ok-more.ensures in
+    (let of_one = subst (λ n. AreLinesOf plan c.args.bus (numbered_packet item) n (map line_value more)) (c.count_like.ensures packets counted) c.in_ok-more.ensures in
     next_lines plan c.args.bus packets items i item (map line_value old) (map line_value more) _ within is (c.loop-first.invariant packets counted) of_one
     (ap (map line_value) c.in_ok-append.ensures.items ∙ map-append line_value old more))
 
@@ -33,5 +33,5 @@ returns c =
     let i = c.loop-first.first-index in
     let past : length items ≤ i = search rules in
     λ packets counted.
-    subst (λ (ps : List CapturedPacket). AreTrafficLines c.args.checked.now.0 c.args.bus packets (map packet_value ps) (map line_value c.loop-first.lines.items))
+    subst (λ (ps : List CapturedPacket). AreTrafficLines c.args.checked.now.0 c.args.bus packets (map numbered_packet ps) (map line_value c.loop-first.lines.items))
     (take_all i items past) (c.loop-first.invariant packets counted)

@@ -2,7 +2,7 @@ use Rattle.std.proofs.Common.{◌≡◌, ◌++◌, take}
 use Rattle.std.specs.Prelude.{codes, string_bytes}
 use Rattle.std.specs.List.{flat_map}
 use Rattle.net_questions.specs.declared.step.WayStep.{WayStep}
-use Rattle.plan_exports.specs.Words.{node_name}
+use Rattle.net_tables.specs.Names.{node_name}
 use Rattle.audited_captures.proofs.traffic_lines.push_nodes.Given as goal
 
 abbrev pub invariant-loop-step : goal.invariant-loop-step

@@ -1,8 +1,9 @@
-use Rattle.board_kept.proofs.SameFrames.{as_many, same_but_rows}
+use Rattle.board_kept.proofs.SameFrames.{same_but_rows}
 use Rattle.board_kept.proofs.same.is_same_but_rows.Goals as goal
+use Rattle.net_rules.proofs.MoveOrder.{as_many_nodes}
 
 pub first_unlike_node-requires : goal.first_unlike_node-requires
-first_unlike_node-requires c = as_many c.args.before.now c.args.after.now (c.have_same_frame.ensures.0 c.if-have_same_frame.true)
+first_unlike_node-requires c = as_many_nodes c.args.before.now c.args.after.now (c.have_same_frame.ensures.0 c.if-have_same_frame.true)
 
 pub returns-then-have_same_frame : goal.returns-then-have_same_frame
 returns-then-have_same_frame c =

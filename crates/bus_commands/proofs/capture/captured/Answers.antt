@@ -1,23 +1,20 @@
 use Rattle.std.proofs.Common.{◌∙◌, ap, subst, map, arith}
 use Rattle.std.proofs.lemmas.List.{length-map}
 use Rattle.bus_commands.proofs.HopLaws.{added, captured_none, captured_next, captured_all}
-use Rattle.command_answers.proofs.Places.{checked_orders}
+use Rattle.command_answers.proofs.Places.{starts_in}
 use Rattle.net_runs.specs.Walkers.{walked_at_start}
+use Rattle.net_tables.specs.TwoPlans.{one_plan}
 use Rattle.net_sim.specs.Networks.{network_value}
 use Rattle.pdr_repository.specs.BlockTermini.{block_tid, block_records}
 use Rattle.net_sim.specs.Outcomes.{event_value, outcome_value}
 use Rattle.net_sim.specs.WalkedStanding.{WalkedPlays}
-use Rattle.bus_commands.proofs.Capturing.{planned_by}
 use Rattle.bus_commands.proofs.capture.captured.Goals as goal
-
-pub planned_termini-requires : goal.planned_termini-requires
-planned_termini-requires c =
-    checked_orders c.args.checked.0 c.plan-plan.result.now c.args.checked.1 c.certificate.result.now c.plan-plan.ensures.accepted c.plan-plan.ensures.plan c.certificate.ensures.certificate
 
 pub loop-index-init : goal.loop-index-init
 loop-index-init c =
-    let planned = planned_by _ c.args.checked.0 c.plan-plan.result.now c.args.checked.1 c.certificate.result.now c.in_ok-termini.ensures c.plan-plan.ensures.plan c.certificate.ensures.certificate in
-    (c.in_ok-network.ensures.checked, captured_none c.args.checked.0 (walked_at_start c.args.checked.0 c.args.checked.1) _ _ (c.in_ok-network.ensures.stands planned) c.in_ok-file.ensures)
+    let network = c.in_ok-network in
+    let started = starts_in (one_plan c.args.checked.0, c.args.checked.1) c.of_plan.result _ c.of_plan.ensures network.ensures.stands in
+    (network.ensures.checked ∙ c.of_plan.ensures, captured_none c.args.checked.0 (walked_at_start c.args.checked.0 c.args.checked.1) _ _ started c.in_ok-file.ensures)
 
 pub loop-index-preserved : goal.loop-index-preserved
 loop-index-preserved c =

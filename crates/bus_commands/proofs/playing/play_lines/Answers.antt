@@ -1,12 +1,12 @@
 use Rattle.std.proofs.Common.{rules, ◌≡◌, ◌∙◌, Ok, Err, refl, ap, subst, arith, ◌^◌, ◌-◌}
-use Rattle.emulated_node.specs.Standing.{StandsFor, setting_of}
+use Rattle.emulated_node.specs.Standing.{HasNodeState, setting_of}
 use Rattle.bus_commands.proofs.LinesPlayed.{HasPlayed, between, played_none, played_more, played_all, played_part, played_most, keeps_after}
 use Rattle.bus_commands.proofs.playing.play_lines.Goals as goal
 
 pub loop-init : goal.loop-init
 loop-init g c = (
   refl,
-  λ s stands. played_none (StandsFor g.T.Terminus.tid g.T.Terminus.records c.args.emulated.now) (setting_of c.args.emulated.now) s
+  λ s stands. played_none (HasNodeState g.T.Terminus.tid g.T.Terminus.records c.args.emulated.now) (setting_of c.args.emulated.now) s
       (g.I.Source.account c.args.packets.now) (g.O.Sink.account c.args.output.now) (g.E.Sink.account c.args.errors.now) stands,
   refl,
   refl,
@@ -17,7 +17,7 @@ pub loop-preserved : goal.loop-preserved
 loop-preserved g c =
     let l = c.loop in
     let went = c.in_ok-is_last.ensures in
-    let Stands = StandsFor g.T.Terminus.tid g.T.Terminus.records in (
+    let Stands = HasNodeState g.T.Terminus.tid g.T.Terminus.records in (
       went.setting ∙ l.invariant.0,
       λ s stands. played_more (Stands l.emulated) (Stands c.play_line.new.emulated) (setting_of c.args.emulated.now) (setting_of l.emulated) l.invariant.0 s l.counter
           (g.I.Source.account c.args.packets.now) (g.I.Source.account l.packets) (g.I.Source.account c.play_line.new.packets)
@@ -33,7 +33,7 @@ pub returns-then-is_last-clause-plays : goal.returns-then-is_last-clause-plays
 returns-then-is_last-clause-plays g c =
     let l = c.loop in
     let went = c.in_ok-is_last.ensures in
-    let Stands = StandsFor g.T.Terminus.tid g.T.Terminus.records in
+    let Stands = HasNodeState g.T.Terminus.tid g.T.Terminus.records in
     λ s stands. played_all (Stands l.emulated) (Stands c.play_line.new.emulated) (setting_of c.args.emulated.now) (setting_of l.emulated) l.invariant.0 s l.counter
     (g.I.Source.account c.args.packets.now) (g.I.Source.account l.packets) (g.I.Source.account c.play_line.new.packets)
     (g.O.Sink.account c.args.output.now) (g.O.Sink.account l.output) (g.O.Sink.account c.play_line.new.output)
@@ -48,7 +48,7 @@ returns-in_err-is_last-clause-plays g c =
     let l = c.loop in
     let failed = c.in_err-is_last in
     let ended : c.from_residual.result ≡ Err failed.field-0.0 = search rules in
-    let Stands = StandsFor g.T.Terminus.tid g.T.Terminus.records in
+    let Stands = HasNodeState g.T.Terminus.tid g.T.Terminus.records in
     rw ended (λ s stands. played_part (Stands l.emulated) (Stands c.play_line.new.emulated) (setting_of c.args.emulated.now) (setting_of l.emulated) l.invariant.0 s l.counter
     (g.I.Source.account c.args.packets.now) (g.I.Source.account l.packets) (g.I.Source.account c.play_line.new.packets)
     (g.O.Sink.account c.args.output.now) (g.O.Sink.account l.output) (g.O.Sink.account c.play_line.new.output)
@@ -64,7 +64,7 @@ returns-in_err-is_last-clause-noted g c =
 pub returns-clause-plays : goal.returns-clause-plays
 returns-clause-plays g c =
     let l = c.loop in
-    let Stands = StandsFor g.T.Terminus.tid g.T.Terminus.records in
+    let Stands = HasNodeState g.T.Terminus.tid g.T.Terminus.records in
     let many : l.counter ≡ 2 ^ 64 - 1 = omega (arith, c.loop-test.false, l.auto.counter-end) in
     λ s stands. played_most (Stands l.emulated) (setting_of c.args.emulated.now) s
     (g.I.Source.account c.args.packets.now) (g.I.Source.account l.packets) (g.O.Sink.account c.args.output.now) (g.O.Sink.account l.output)

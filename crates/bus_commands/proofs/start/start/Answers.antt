@@ -5,7 +5,7 @@ use Rattle.net_plan.specs.declared.plan.Plan.{Plan}
 use Rattle.net_tables.specs.Routing.{node_at, rows_of}
 use Rattle.net_tables.specs.Tables.{AreRows}
 use Rattle.plan_exports.specs.PlannedTables.{HasLawfulRows}
-use Rattle.bus_commands.proofs.Starting.{are_rows, have_lawful_rows, holds_lawfully, started}
+use Rattle.bus_commands.proofs.Starting.{are_rows, have_lawful_rows, holds_lawfully, planned_so, started}
 use Rattle.bus_commands.proofs.start.start.Goals as goal
 
 pub range_table-requires : goal.range_table-requires
@@ -36,4 +36,4 @@ returns c =
     slice_get_read c.plan-plan.result.now.nodes.items _ c.args.node c.index-planned.result.now refl within c.index-planned.ensures in
     started c.args.is_configured c.args.checked.now.0 c.plan-plan.result.now c.args.checked.now.1 c.certificate.result.now c.args.node c.index-planned.result.now _ _ _ _ _ c.new.result
     c.plan-plan.ensures.plan c.certificate.ensures.certificate there c.device_kind-kind.ensures c.in_ok-table.ensures c.in_ok-entries.ensures.listed
-    c.device_at_start-device.ensures c.in_ok-terminus.ensures c.new.ensures.setting c.new.ensures.stands
+    c.device_at_start-device.ensures (planned_so c.plan-plan.result.now c.certificate.result.now c.args.node c.in_ok-terminus.terminus c.in_ok-terminus.ensures) c.new.ensures.setting c.new.ensures.stands

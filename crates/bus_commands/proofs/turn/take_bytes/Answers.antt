@@ -1,15 +1,15 @@
 use Rattle.std.proofs.Common.{subst}
 use Rattle.emulated_node.specs.ReceivedValues.{received_value}
-use Rattle.emulated_node.specs.Standing.{StandsFor, setting_of}
-use Rattle.mctp_transport.specs.Frames.{Spelled}
-use Rattle.mctp_transport.specs.Packets.{frame_of}
+use Rattle.emulated_node.specs.Standing.{HasNodeState, setting_of}
+use Rattle.mctp_transport.specs.PacketValues.{Spelled}
+use Rattle.mctp_transport.specs.Packets.{packet_value_of}
 use Rattle.bus_commands.proofs.TurnLaws.{comes_all}
 use Rattle.bus_commands.proofs.turn.take_bytes.Goals as goal
 
 pub returns-in_ok-received-in-Ok-clause-takes : goal.returns-in_ok-received-in-Ok-clause-takes
 returns-in_ok-received-in-Ok-clause-takes g c =
-    let Stands = StandsFor g.T.Terminus.tid g.T.Terminus.records in
-    let frame = frame_of c.in-Ok.packet in
+    let Stands = HasNodeState g.T.Terminus.tid g.T.Terminus.records in
+    let frame = packet_value_of c.in-Ok.packet in
     comes_all (Stands c.args.emulated.now) (Stands c.receive.new.self) (setting_of c.args.emulated.now) c.args.plan.now c.requires.plan c.args.bus c.args.bytes.now c.args.line.now frame
     (received_value c.in_ok-received-in-Ok.received) c.told.result (subst (λ u. Spelled u frame c.args.bytes.now) c.from.ensures c.in-Ok.ensures.ok)
     c.in_ok-received-in-Ok.ensures.receives c.told.ensures

@@ -2,8 +2,8 @@ use Rattle.std.proofs.Common.{◌≡◌, ◌++◌, rules, string_bytes}
 use Rattle.std.specs.Prelude.{OnOk, codes, option_map}
 use Rattle.std.specs.Fmt.{decimal}
 use Rattle.hex.specs.Hex.{encode_lower}
-use Rattle.heard_captures.specs.Heard.{heard_answer}
-use Rattle.mctp_transport.specs.Packets.{frame_of}
+use Rattle.mctp_transport.specs.Heard.{heard_answer}
+use Rattle.mctp_transport.specs.Packets.{packet_value_of}
 use Rattle.plan_texts.specs.Shown.{address_words_of, position_words_of, tag_words_of}
 use Rattle.decoded_texts.specs.Names.{names_of}
 use Rattle.decoded_texts.specs.Seen.{answer_word}
@@ -12,7 +12,7 @@ use Rattle.decoded_texts.proofs.entries.push_fed_line.Goals as goal
 
 pub returns : goal.returns
 returns c =
-    let f = frame_of c.args.packet.now in
+    let f = packet_value_of c.args.packet.now in
     let ended : OnOk c.push_str.result (string_bytes c.push_str.new.self ≡ string_bytes c.push_names.new.text ++ codes "\n") = search rules in
     line_joined (string_bytes c.args.text.now) (decimal c.args.number) (codes " ") (answer_word (heard_answer c.args.heard.now)) (codes "packet ") (address_words_of f)
     (position_words_of f) (tag_words_of f) (codes " payload ") (encode_lower f.payload) (names_of (option_map (λ n. n.now.plan.now) c.args.names) f) (codes "\n") _ _ _ _ _ _ _ c.push_str.result

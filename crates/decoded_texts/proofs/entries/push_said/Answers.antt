@@ -1,7 +1,7 @@
 use Rattle.std.proofs.Common.{◌≡◌, ◌++◌, List, ℕ, string_bytes, subst, sym}
 use Rattle.std.specs.Prelude.{OnOk}
-use Rattle.heard_captures.specs.Heard.{heard_answer}
-use Rattle.heard_captures.specs.declared.assembling.Heard.{Heard}
+use Rattle.mctp_transport.specs.Heard.{heard_answer}
+use Rattle.mctp_transport.specs.declared.heard.Heard.{Heard}
 use Rattle.decoded_texts.specs.Messages.{IsSaid}
 use Rattle.decoded_texts.specs.Seen.{IsSaidOf}
 use Rattle.decoded_texts.proofs.entries.push_said.Goals as goal

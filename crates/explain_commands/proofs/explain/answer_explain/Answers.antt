@@ -7,4 +7,4 @@ returns-in-Ok-clause-answers g c =
     of_given c.args.name.now _ given.text.items given.plan c.explained_plan.result c.in-Ok.ensures.given c.explained_plan.ensures.answers
 
 pub returns-in-Err-clause-answers : goal.returns-in-Err-clause-answers
-returns-in-Err-clause-answers g c = of_nothing c.args.name.now _ c.in-Err.unread c.unread_plan.result c.in-Err.ensures.unread c.unread_plan.ensures.answers
+returns-in-Err-clause-answers g c = of_nothing c.args.name.now _ c.in-Err.unread c.unread_answer.result c.in-Err.ensures.unread c.unread_answer.ensures.answers

@@ -13,7 +13,7 @@ use command_answers::PlanText;
 use fault_texts::part_pointer;
 use net_json::PointerStep;
 use net_plan::{Bus, Node, Plan, PlanPart, are_same};
-use plan_texts::name_or_dash;
+use net_tables::lookup::node_name;
 use std::alloc::{AllocError, Global};
 
 /// What a node says beside its rows.
@@ -188,7 +188,7 @@ fn unlike_words(alloc: Global, plan: &Plan, unlike: Unlike) -> Result<String, Al
         Unlike::Nodes => "number of nodes".to_string(alloc),
         Unlike::Part(node, part) => {
             let key = part_key(part);
-            let name = name_or_dash(plan, node);
+            let name = node_name(plan, node);
             format!(in alloc; "{key} of {name}")
         }
     }

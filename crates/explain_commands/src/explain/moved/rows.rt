@@ -11,8 +11,8 @@ use fault_texts::{part_pointer, way_pointer};
 use mctp_transport::Eid;
 use net_check::{CertifyError, MixedLoop, MoveFault, Side, certify};
 use net_plan::{Plan, Row};
-use net_tables::lookup::row_at as row_of;
-use plan_texts::{index_for, name_or_dash, number_text};
+use net_tables::lookup::{node_name, row_at as row_of};
+use plan_texts::{index_for, number_text};
 use std::alloc::{AllocError, Global};
 
 /// What M02 asks of the next node.
@@ -149,7 +149,7 @@ fn row_line(
 {
     let table = table_word(side);
     let number = number_text(alloc, index)?;
-    let owner = name_or_dash(plan, node);
+    let owner = node_name(plan, node);
     let words = row_words(alloc, plan, row_at(plan, node, index))?;
     format!(in alloc; "{table} row {number} of {owner}: {words}\n")
 }
@@ -161,7 +161,7 @@ fn row_words(alloc: Global, plan: &Plan, row: Option<&Row>) -> Result<String, Al
     match row {
         Some(row) => {
             let (first, size, port) = (row.first.value, row.size, row.port);
-            let next = name_or_dash(plan, row.next);
+            let next = node_name(plan, row.next);
             format!(in alloc; "first {first} size {size} via {next} port {port}")
         }
         None => "-".to_string(alloc),
@@ -301,7 +301,7 @@ fn lack_line(
     ensures { IfOk result (λ line. string_bytes line ≡ lack_line side plan.now node eid.value) }
 {
     let table = table_word(side);
-    let owner = name_or_dash(plan, node);
+    let owner = node_name(plan, node);
     let eid = eid.value;
     format!(in alloc; "{table} rows of {owner}: none is for endpoint ID {eid}.\n")
 }

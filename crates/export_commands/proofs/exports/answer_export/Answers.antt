@@ -5,18 +5,18 @@ use Rattle.net_plan.specs.declared.plan.Plan.{Plan}
 use Rattle.command_answers.specs.declared.refused.Refused.{Refused}
 use Rattle.command_answers.specs.Answers.{Stream, AreGiven}
 use Rattle.export_commands.specs.declared.exports.Export.{Export}
-use Rattle.export_commands.specs.declared.telling.Exported.{Exported}
+use Rattle.command_answers.specs.declared.bytes_answer.BytesAnswer.{BytesAnswer}
 use Rattle.export_commands.specs.Exporting.{AnswersExportOn, AnswersExportSo, IsUnexportedOn, IsUnexportedFor}
 use Rattle.plan_exports.specs.declared.links.Link.{Link}
 use Rattle.export_commands.proofs.exports.answer_export.Goals as goal
 
 module _ (export : Export) (links : List Link) (plan : Plan) (cert : Certificate) (plans certificates : Stream) (given : AreGiven plans certificates plan cert) where
-  answers_given : (result : Result Exported Refused) → IfOk result (λ (a : Exported). AnswersExportOn export links plan cert a.status a.bytes.items)
-      → IfOk result (λ (a : Exported). AnswersExportSo export links plans certificates a.status a.bytes.items)
+  answers_given : (result : Result BytesAnswer Refused) → IfOk result (λ (a : BytesAnswer). AnswersExportOn export links plan cert a.status a.bytes.items)
+      → IfOk result (λ (a : BytesAnswer). AnswersExportSo export links plans certificates a.status a.bytes.items)
   answers_given (Ok a) answers = (plan, cert, given, answers)
   answers_given (Err why) answers = tt
 
-  unanswered_given : (result : Result Exported Refused) → IfErr result (IsUnexportedOn export links plan) → IfErr result (IsUnexportedFor export links plans certificates)
+  unanswered_given : (result : Result BytesAnswer Refused) → IfErr result (IsUnexportedOn export links plan) → IfErr result (IsUnexportedFor export links plans certificates)
   unanswered_given (Ok a) why = tt
   unanswered_given (Err reason) why = inr (plan, cert, given, why)
 

@@ -1,4 +1,4 @@
-use Rattle.std.proofs.Common.{rules, ◌≡◌, ◌+◌, ◌++◌, [], ◌∷◌, List, ℕ, string_bytes, take, sym, subst}
+use Rattle.std.proofs.Common.{◌≡◌, ◌+◌, ◌++◌, [], ◌∷◌, List, ℕ, string_bytes, take, sym, subst}
 use Rattle.std.proofs.lemmas.List.{take_more}
 use Rattle.fault_texts.specs.FaultListLines.{AreRunLines, IsRunLine}
 use Rattle.fault_texts.proofs.RunLines.{one_more}

@@ -1,10 +1,8 @@
-use Rattle.std.proofs.Common.{List, ℕ, inr, subst}
+use Rattle.std.proofs.Common.{inr}
 use Rattle.serde_json.specs.View.{view}
 use Rattle.command_answers.specs.Answers.{stream}
 use Rattle.command_answers.proofs.GivenTexts.{gave_plan}
-use Rattle.json_commands.specs.declared.form.Form.{Form}
-use Rattle.json_commands.specs.Certified.{command_of}
-use Rattle.json_commands.specs.Unread.{IsPlanUnreadSaid}
+use Rattle.json_commands.proofs.UnreadSaid.{plan_said}
 use Rattle.json_commands.proofs.Sources.{of_plan}
 use Rattle.json_commands.proofs.certified.said_of_sources.Goals as goal
 
@@ -21,12 +19,10 @@ returns-in-Ok-clause-in_order g c = λ without.
     let plans = stream g.P.Source.account c.args.plan.now c.plan_or_text.new.plan in
     absurd (without given.plan (gave_plan plans given.text.items given.plan c.in-Ok.ensures.given))
 
-pub returns-in_ok-unread_plan-in-Err-clause-says : goal.returns-in_ok-unread_plan-in-Err-clause-says
-returns-in_ok-unread_plan-in-Err-clause-says g c =
-    let name = c.args.name.now in
+pub returns-in_ok-unread_input-in-Err-clause-says : goal.returns-in_ok-unread_input-in-Err-clause-says
+returns-in_ok-unread_input-in-Err-clause-says g c =
     let plans = stream g.P.Source.account c.args.plan.now c.plan_or_text.new.plan in
-    let why = c.in-Err.unread in
-    let told = c.in_ok-unread_plan-in-Err in
-    let d = view told.field-0.value in
-    let by = subst (λ (k : List ℕ). IsPlanUnreadSaid c.form_of-form.result k name plans why d) c.command_of-command.ensures (told.ensures.1 plans c.in-Err.ensures.unread) in
-    inr (why, c.in-Err.ensures.unread, told.ensures.0, subst (λ (f : Form). IsPlanUnreadSaid f (command_of c.args.asked.now) name plans why d) c.form_of-form.ensures by)
+    let told = c.in_ok-unread_input-in-Err in
+    let none = c.in-Err.ensures.unread in
+    let said = plan_said _ _ _ _ c.args.name.now c.in-Err.unread (view told.field-0.value) c.form_of-form.ensures c.command_of-command.ensures plans none told.ensures.1 in
+    inr (c.in-Err.unread, none, told.ensures.0, said)

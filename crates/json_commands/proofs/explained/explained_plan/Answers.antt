@@ -1,4 +1,4 @@
-use Rattle.std.proofs.Common.{inl, inr}
+use Rattle.std.proofs.Common.{inl}
 use Rattle.json_commands.proofs.explained.explained_plan.Goals as goal
 
 pub returns-in_ok-sound_said-in-Ok : goal.returns-in_ok-sound_said-in-Ok

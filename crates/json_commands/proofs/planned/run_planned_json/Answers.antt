@@ -1,22 +1,11 @@
-use Rattle.std.proofs.Common.{◌≡◌}
-use Rattle.command_answers.specs.declared.refused.Refused.TheVariants as refused
-use Rattle.command_answers.specs.Answers.{stream}
-use Rattle.command_answers.proofs.Told.{quiet_told, ends_so, breaks_or_gives}
-use Rattle.json_commands.specs.Planned.{SaysInJson}
+use Rattle.command_answers.proofs.Told.{concludes_on_output, quiet_told}
 use Rattle.json_commands.proofs.planned.run_planned_json.Goals as goal
 
-pub returns-clause-says : goal.returns-clause-says
-returns-clause-says g c =
+pub returns-clause-concludes : goal.returns-clause-concludes
+returns-clause-concludes g c =
     let answered = c.answer_planned-answered in
-    let plans = stream g.P.Source.account c.args.plan.now answered.new.plan in
-    ends_so (SaysInJson c.args.asked c.args.name.now plans) c.tell.result _ _ (λ why. why ≡ refused.NoMemory) answered.result answered.ensures.answers answered.ensures.refused
-    c.tell.ensures.told c.tell.ensures.refuses
-
-pub returns-clause-unwritten : goal.returns-clause-unwritten
-returns-clause-unwritten g c =
-    let answered = c.answer_planned-answered in
-    let plans = stream g.P.Source.account c.args.plan.now answered.new.plan in
-    breaks_or_gives (SaysInJson c.args.asked c.args.name.now plans) c.tell.result _ _ answered.result answered.ensures.answers answered.ensures.refused c.tell.ensures.told c.tell.ensures.refuses
+    let told = c.tell.ensures in
+    concludes_on_output _ _ _ _ _ _ answered.result answered.ensures.answers answered.ensures.refused told.told told.refuses told.silent told.no_memory
 
 pub returns-clause-quiet : goal.returns-clause-quiet
 returns-clause-quiet g c =

@@ -4,7 +4,7 @@ use Rattle.net_plan.specs.declared.certificate.Certificate.{Certificate}
 use Rattle.net_sim.specs.Assignments.{AssignmentValue, IsAssignmentOf, assignment_value}
 use Rattle.net_sim.specs.AssignmentRuns.{CanBeCarriedOut, IsAcceptedThroughout, AssignsAll}
 use Rattle.plan_commands.specs.Assigning.{IsAssignmentText}
-use Rattle.plan_texts.specs.AssignmentLines.{assignment_lines}
+use Rattle.run_texts.specs.AssignmentLines.{assignment_lines}
 use Rattle.plan_commands.proofs.Named.{assignment_named}
 use Rattle.plan_commands.proofs.assign.requests_text.Goals as goal
 

@@ -1,31 +1,28 @@
-use Rattle.std.proofs.Common.{◌≡◌, ◌<◌, ◌∷◌, [], List, length, map, subst, sym, arith, rules}
+use Rattle.std.proofs.Common.{◌≡◌, ◌<◌, ◌∷◌, [], List, length, map, subst, sym, rules}
 use Rattle.std.specs.Prelude.{Contains, slice_get, Some}
 use Rattle.plan_differences.specs.declared.difference.Difference.{Difference}
 use Rattle.plan_differences.specs.declared.difference.Difference.TheVariants.{Removed}
 use Rattle.plan_differences.specs.Facts.{fact_value}
 use Rattle.plan_differences.specs.Differences.{AreToldIn, IsDifference, IsOfOld}
-use Rattle.plan_differences.proofs.Items.{value_at}
 use Rattle.plan_differences.proofs.Parts.{none_of_kept, nothing_in, one_removed, some_changed_so}
 use Rattle.plan_differences.proofs.difference.differences_of_old.Goals as goal
 
 pub returns-then-contains : goal.returns-then-contains
 returns-then-contains c =
-    let olds = map fact_value c.args.olds.now in
-    let news = map fact_value c.args.news.now in
-    let f = fact_value c.index-olds-index.result in
-    let within : c.args.index < length c.args.olds.now = omega arith in
-    let here : slice_get olds c.args.index ≡ Some f = value_at fact_value c.args.olds.now c.args.index c.index-olds-index.result within c.index-olds-index.is in
+    let olds = map fact_value c.args.olds.now.facts.now in
+    let news = map fact_value c.args.news.now.facts.now in
+    let f = fact_value c.fact_at-fact.result.now in
+    let here : slice_get olds c.args.index ≡ Some f = c.fact_at-fact.ensures in
     let kept : Contains news f = search rules in
     let empty : c.new.result.items ≡ [] = search rules in
     subst (λ (told : List Difference). AreToldIn (IsDifference olds news) (IsOfOld c.args.index) told) (sym empty) (none_of_kept olds news c.args.index f here kept)
 
 pub returns-then-is_empty : goal.returns-then-is_empty
 returns-then-is_empty c =
-    let olds = map fact_value c.args.olds.now in
-    let news = map fact_value c.args.news.now in
-    let f = fact_value c.index-olds-index.result in
-    let within : c.args.index < length c.args.olds.now = omega arith in
-    let here : slice_get olds c.args.index ≡ Some f = value_at fact_value c.args.olds.now c.args.index c.index-olds-index.result within c.index-olds-index.is in
+    let olds = map fact_value c.args.olds.now.facts.now in
+    let news = map fact_value c.args.news.now.facts.now in
+    let f = fact_value c.fact_at-fact.result.now in
+    let here : slice_get olds c.args.index ≡ Some f = c.fact_at-fact.ensures in
     let gone : ¬ Contains news f = search rules in
     let zero : length c.in_ok-others.others.items ≡ 0 = search rules in
     let none : c.in_ok-others.others.items ≡ [] = nothing_in c.in_ok-others.others.items zero in
@@ -35,12 +32,11 @@ returns-then-is_empty c =
 
 pub returns : goal.returns
 returns c =
-    let olds = map fact_value c.args.olds.now in
-    let news = map fact_value c.args.news.now in
-    let f = fact_value c.index-olds-index.result in
-    let within : c.args.index < length c.args.olds.now = omega arith in
-    let here : slice_get olds c.args.index ≡ Some f = value_at fact_value c.args.olds.now c.args.index c.index-olds-index.result within c.index-olds-index.is in
+    let olds = map fact_value c.args.olds.now.facts.now in
+    let news = map fact_value c.args.news.now.facts.now in
+    let f = fact_value c.fact_at-fact.result.now in
+    let here : slice_get olds c.args.index ≡ Some f = c.fact_at-fact.ensures in
     let gone : ¬ Contains news f = search rules in
     let some : 0 < length c.in_ok-others.others.items = search rules in
-    let same : c.deref.result.now ≡ c.in_ok-others.others.items = search rules in
-    some_changed_so olds news c.args.index f c.in_ok-others.others.items c.deref.result.now c.changes.result here gone c.in_ok-others.ensures some same c.changes.ensures
+    let same : c.deref-2.result.now ≡ c.in_ok-others.others.items = search rules in
+    some_changed_so olds news c.args.index f c.in_ok-others.others.items c.deref-2.result.now c.changes.result here gone c.in_ok-others.ensures some same c.changes.ensures

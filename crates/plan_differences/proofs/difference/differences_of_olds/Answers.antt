@@ -8,8 +8,8 @@ use Rattle.plan_differences.proofs.difference.differences_of_olds.Goals as goal
 
 pub loop-index-preserved : goal.loop-index-preserved
 loop-index-preserved c =
-    let olds = map fact_value c.args.olds.now in
-    let news = map fact_value c.args.news.now in
+    let olds = map fact_value c.args.olds.now.facts.now in
+    let news = map fact_value c.args.news.now.facts.now in
     let i = c.loop-index.index in
     let xs = c.loop-index.told.items in
     let ys = c.in_ok-differences_of_old.field-0.items in
@@ -19,7 +19,7 @@ loop-index-preserved c =
 
 pub returns : goal.returns
 returns c =
-    let olds = map fact_value c.args.olds.now in
-    let news = map fact_value c.args.news.now in
-    let all : c.loop-index.index ≡ length olds = omega (arith, length-map c.args.olds.now fact_value) in
+    let olds = map fact_value c.args.olds.now.facts.now in
+    let news = map fact_value c.args.news.now.facts.now in
+    let all : c.loop-index.index ≡ length olds = omega (arith, length-map c.args.olds.now.facts.now fact_value) in
     subst (λ n. AreToldIn (IsDifference olds news) (IsBefore n) c.loop-index.told.items) all c.loop-index.invariant

@@ -1,9 +1,10 @@
-use Rattle.std.proofs.Common.{map}
+use Rattle.std.proofs.Common.{map, take}
+use Rattle.std.specs.Prelude.{Contains}
 use Rattle.plan_differences.specs.Facts.{fact_value}
 use Rattle.plan_differences.specs.Things.{thing_of}
 use Rattle.plan_differences.specs.Differences.{IsOnlyOf}
-use Rattle.plan_differences.proofs.Ascending.{AreBelow}
+use Rattle.plan_differences.proofs.Indexing.{AreAscending}
 use Rattle.plan_differences.proofs.difference.only_of.Given as goal
 
-abbrev pub invariant-loop-index : goal.invariant-loop-index
-invariant-loop-index l = AreBelow (IsOnlyOf (map fact_value l.news) (map fact_value l.olds) (thing_of (fact_value l.fact))) l.index l.others.items
+abbrev pub invariant-loop-listed : goal.invariant-loop-listed
+invariant-loop-listed l = AreAscending (IsOnlyOf (map fact_value l.those.facts.now) (map fact_value l.these.facts.now) (thing_of (fact_value l.fact))) (Contains (take l.listed-index l.places)) l.others.items

@@ -1,23 +1,9 @@
-use Rattle.command_answers.specs.Answers.{stream}
-use Rattle.command_answers.specs.Moves.{ArePlansUnread}
-use Rattle.plan_differences.specs.Diffs.{DiffsSo}
-use Rattle.command_answers.proofs.Told.{ends_so, breaks_in_answer}
+use Rattle.command_answers.proofs.Told.{concludes}
 use Rattle.plan_differences.proofs.run.run_diff.Goals as goal
 
-pub returns-clause-tells : goal.returns-clause-tells
-returns-clause-tells g c =
+pub returns-clause-concludes : goal.returns-clause-concludes
+returns-clause-concludes g c =
     let answered = c.answer_diff-answered in
-    let befores = stream g.P.Source.account c.args.before.now answered.new.before in
-    let afters = stream g.Q.Source.account c.args.after.now answered.new.after in
-    ends_so (DiffsSo befores afters) c.tell.result _ _ (λ why. ArePlansUnread why befores afters)
-    answered.result answered.ensures.answers answered.ensures.unread c.tell.ensures.told c.tell.ensures.refuses
-
-pub returns-clause-unwritten : goal.returns-clause-unwritten
-returns-clause-unwritten g c =
-    let answered = c.answer_diff-answered in
-    let befores = stream g.P.Source.account c.args.before.now answered.new.before in
-    let afters = stream g.Q.Source.account c.args.after.now answered.new.after in
-    let output = stream g.O.Sink.account c.args.output.now c.tell.new.output in
-    let errors = stream g.E.Sink.account c.args.errors.now c.tell.new.errors in
-    breaks_in_answer (DiffsSo befores afters) c.tell.result output errors _ answered.result answered.ensures.answers
-    c.tell.ensures.told c.tell.ensures.untouched (λ text h. absurd h.4)
+    let told = c.tell.ensures in
+    concludes _ _ _ _ _ _ _ answered.result answered.ensures.answers answered.ensures.unread told.told told.refuses told.untouched told.silent told.no_memory
+    (λ text h. absurd h.4)

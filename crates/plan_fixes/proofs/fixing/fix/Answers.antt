@@ -1,4 +1,4 @@
-use Rattle.std.proofs.Common.{ℕ, List, Some, string_bytes, sym, subst}
+use Rattle.std.proofs.Common.{ℕ, List, Some, sym, subst}
 use Rattle.plan_fixes.specs.Fixes.{AreFixes, LeadsOn}
 use Rattle.plan_fixes.proofs.Led.{led_on}
 use Rattle.plan_fixes.proofs.fixing.fix.Goals as goal

@@ -1,5 +1,5 @@
 use Rattle.std.proofs.Common.{◌∙◌, ap}
-use Rattle.plan_texts.specs.WayLines.{address_on}
+use Rattle.net_tables.specs.Names.{address_on}
 use Rattle.plan_texts.proofs.ways.address_of_step.Goals as goal
 
 pub returns : goal.returns

@@ -1,4 +1,4 @@
-use Rattle.std.proofs.Common.{rules, ◌≡◌, ◌∙◌, List, ℕ, Result, Ok, Err, map, refl, subst, string_bytes}
+use Rattle.std.proofs.Common.{rules, ◌≡◌, ◌∙◌, List, ℕ, Ok, Err, map, refl, subst, string_bytes}
 use Rattle.std.specs.Prelude.{IfOk}
 use Rattle.std.specs.Cow.{cow_str_bytes}
 use Rattle.net_plan.specs.declared.event.Event.{Event}
@@ -15,9 +15,9 @@ returns-clause-answers g c =
     let wanted = string_bytes c.in_ok-wanted.wanted in
     let Q : List Event → Type 0 = λ es. IfOk c.answer_on_lines.result (λ (a : Answer). AnswersLinesOn read.plan read.certificate (map event_value es) c.deref.result.now a.status (cow_str_bytes a.text)) in
     let R : List ℕ → Type 0 = λ t. IfOk c.answer_on_lines.result (λ (a : Answer). AnswersLinesOn read.plan read.certificate (map event_value read.events.items) t a.status (cow_str_bytes a.text)) in
-    let plans = stream g.P.Source.account c.args.plan.now c.read_files.new.plan in
-    let certificates = stream g.C.Source.account c.args.certificate.now c.read_files.new.certificate in
-    let happenings = stream g.V.Source.account c.args.events.now c.read_files.new.events in
+    let plans = stream g.P.Source.account c.args.plan.now c.read_run.new.plan in
+    let certificates = stream g.C.Source.account c.args.certificate.now c.read_run.new.certificate in
+    let happenings = stream g.V.Source.account c.args.events.now c.read_run.new.events in
     let expectations = stream g.L.Source.account c.args.lines.now c.given_lines.new.lines in
     answers_given read.plan read.certificate read.events.items wanted plans certificates happenings expectations read.ensures.given read.ensures.events c.in_ok-wanted.ensures.given c.answer_on_lines.result
     (subst R c.deref.ensures (subst Q c.as_slice.ensures.value c.answer_on_lines.ensures.answers))

@@ -1,7 +1,7 @@
-use Rattle.std.proofs.Common.{◌∙◌, ◌++◌, map, length, ap, string_bytes, arith}
+use Rattle.std.proofs.Common.{◌∙◌, ◌++◌, map, length, ap, arith}
 use Rattle.std.proofs.lemmas.List.{length-map, take_all}
 use Rattle.net_sim.specs.Outcomes.{outcome_value}
-use Rattle.plan_texts.specs.OutcomeLines.{outcome_lines}
+use Rattle.run_texts.specs.OutcomeLines.{outcome_lines}
 use Rattle.play_commands.proofs.Simulated.{all_lines}
 use Rattle.play_commands.proofs.expect.outcome_lines.Goals as goal
 

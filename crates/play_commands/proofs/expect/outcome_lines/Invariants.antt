@@ -1,6 +1,6 @@
 use Rattle.std.proofs.Common.{◌≡◌, map, take, string_bytes}
 use Rattle.net_sim.specs.Outcomes.{outcome_value}
-use Rattle.plan_texts.specs.OutcomeLines.{outcome_lines}
+use Rattle.run_texts.specs.OutcomeLines.{outcome_lines}
 use Rattle.play_commands.proofs.expect.outcome_lines.Given as goal
 
 abbrev pub invariant-loop-index : goal.invariant-loop-index

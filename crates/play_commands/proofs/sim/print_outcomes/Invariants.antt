@@ -1,7 +1,7 @@
 use Rattle.std.proofs.Common.{◌≡◌, map, take, string_bytes}
 use Rattle.net_sim.specs.Outcomes.{outcome_value}
 use Rattle.command_answers.specs.Gathering.{AppendsAllBut}
-use Rattle.plan_texts.specs.OutcomeLines.{outcome_lines}
+use Rattle.run_texts.specs.OutcomeLines.{outcome_lines}
 use Rattle.play_commands.proofs.sim.print_outcomes.Given as goal
 
 abbrev pub invariant-loop-index : goal.invariant-loop-index

@@ -1,4 +1,4 @@
-use Rattle.std.proofs.Common.{◌≡◌, length, map, take, Some, refl, sym, subst}
+use Rattle.std.proofs.Common.{◌≡◌, length, map, Some, refl, sym, subst}
 use Rattle.std.specs.Prelude.{slice_get}
 use Rattle.std.proofs.lemmas.Option.{slice_get_read}
 use Rattle.net_rollout.specs.Steps.{IsCertified}

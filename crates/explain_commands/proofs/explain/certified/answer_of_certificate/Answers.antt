@@ -9,4 +9,4 @@ returns-in-Ok-clause-answers g c =
 pub returns-in-Err-clause-answers : goal.returns-in-Err-clause-answers
 returns-in-Err-clause-answers g c =
     let given = c.args.given.now in
-    of_unread c.args.name.now c.args.certified_by.now given.text.items given.plan _ c.in-Err.unread c.unread_certificate.result c.in-Err.ensures.unread c.unread_certificate.ensures.answers
+    of_unread c.args.name.now c.args.certified_by.now given.text.items given.plan _ c.in-Err.unread c.unread_answer.result c.in-Err.ensures.unread c.unread_answer.ensures.answers

@@ -1,8 +1,7 @@
-use Rattle.std.proofs.Common.{◌≡◌, ◌++◌, ◌∙◌, List, ℕ, Some, string_bytes, ap, sym, subst}
+use Rattle.std.proofs.Common.{◌≡◌, ◌++◌, ◌∙◌, List, ℕ, Some, string_bytes, ap, subst}
 use Rattle.std.specs.Prelude.{IfOk}
 use Rattle.net_rules.specs.declared.certify_error.CertifyError.TheVariants as error
-use Rattle.explain_commands.specs.Explaining.{AreMoreTold, both_words}
-use Rattle.plan_texts.specs.Lines.{fault_text}
+use Rattle.explain_commands.specs.Explaining.{AreMoreTold}
 use Rattle.fault_texts.specs.Places.{IsPlaceTold, obstacle_pointer}
 use Rattle.explain_commands.proofs.Explained.{fault_written}
 use Rattle.explain_commands.proofs.explain.certified.fault_text.Goals as goal

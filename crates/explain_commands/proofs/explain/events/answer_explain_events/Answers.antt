@@ -16,7 +16,7 @@ returns-in-Err-clause-answers g c =
     let plans = stream g.P.Source.account c.args.plan.now c.plan_or_text.new.plan in
     let certificates = stream g.C.Source.account c.args.certificate.now c.args.certificate.now in
     let happenings = stream g.V.Source.account c.args.events.now c.args.events.now in
-    without_plan c.args.name.now c.args.certified_by.now plans certificates happenings c.in-Err.unread c.unread_plan.result c.in-Err.ensures.unread c.unread_plan.ensures.answers
+    without_plan c.args.name.now c.args.certified_by.now plans certificates happenings c.in-Err.unread c.unread_answer.result c.in-Err.ensures.unread c.unread_answer.ensures.answers
 
 pub returns-in-Ok-clause-in_order : goal.returns-in-Ok-clause-in_order
 returns-in-Ok-clause-in_order g c = λ without.

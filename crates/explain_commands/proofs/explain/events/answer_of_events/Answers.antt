@@ -19,4 +19,4 @@ returns-in_ok-sound_text-in-Ok-clause-answers g c =
 pub returns-in-Err-clause-answers : goal.returns-in-Err-clause-answers
 returns-in-Err-clause-answers g c =
     let happenings = stream g.V.Source.account c.args.events.now c.events_or_text.new.events in
-    no_events c.args.plan.now c.args.certificate.now happenings c.in-Err.unread c.unread_events.result c.requires.accepted c.in-Err.ensures.unread c.unread_events.ensures.answers
+    no_events c.args.plan.now c.args.certificate.now happenings c.in-Err.unread c.unread_answer.result c.requires.accepted c.in-Err.ensures.unread c.unread_answer.ensures.answers

@@ -14,4 +14,4 @@ returns-in-Err-clause-answers g c =
     let given = c.args.given.now in
     let certificates = stream g.C.Source.account c.args.certificate.now c.certificate_or_text.new.certificate in
     let happenings = stream g.V.Source.account c.args.events.now c.args.events.now in
-    without_certificate c.args.name.now c.args.certified_by.now given.text.items given.plan certificates happenings c.in-Err.unread c.unread_certificate.result c.in-Err.ensures.unread c.unread_certificate.ensures.answers
+    without_certificate c.args.name.now c.args.certified_by.now given.text.items given.plan certificates happenings c.in-Err.unread c.unread_answer.result c.in-Err.ensures.unread c.unread_answer.ensures.answers

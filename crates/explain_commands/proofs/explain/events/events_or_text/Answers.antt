@@ -1,16 +1,12 @@
 use Rattle.net_json.specs.EventReading.{events}
 use Rattle.net_json.specs.EventText.{AreEventsOf}
 use Rattle.net_plan.specs.PlanValues.{plan_value, node_names}
-use Rattle.command_answers.proofs.UnreadInputs.{unread_by, none_stands}
+use Rattle.net_pointers.specs.Asks.{events_text}
+use Rattle.command_answers.proofs.UnreadInputs.{unread_by}
 use Rattle.explain_commands.proofs.explain.events.events_or_text.Goals as goal
 
 pub returns-in-Ok-clause-unread : goal.returns-in-Ok-clause-unread
 returns-in-Ok-clause-unread g c =
     let read = c.in-Ok.ensures in
     let p = plan_value c.args.plan.now in
-    unread_by (events (node_names p.nodes)) (AreEventsOf p) _ c.in-Ok.text.items c.events_in.result read.all read.end read.within c.events_in.ensures.unread
-
-pub returns-in-Ok-clause-none : goal.returns-in-Ok-clause-none
-returns-in-Ok-clause-none g c =
-    let p = plan_value c.args.plan.now in
-    none_stands (events (node_names p.nodes)) (AreEventsOf p) c.in-Ok.text.items c.events_in.result c.in-Ok.ensures.within c.events_in.ensures.unread
+    unread_by (events_text (node_names p.nodes)) (events (node_names p.nodes)) (AreEventsOf p) _ c.in-Ok.text.items c.events_in.result read.all read.end read.within c.events_in.ensures.unread

@@ -14,7 +14,7 @@ pub returns-in-Err-clause-answers : goal.returns-in-Err-clause-answers
 returns-in-Err-clause-answers g c =
     let befores = stream g.P.Source.account c.args.before.now c.plan_or_text.new.plan in
     let afters = stream g.Q.Source.account c.args.after.now c.args.after.now in
-    without_before c.args.name.now c.args.new_name.now befores afters c.in-Err.unread c.unread_plan.result c.in-Err.ensures.unread c.unread_plan.ensures.answers
+    without_before c.args.name.now c.args.new_name.now befores afters c.in-Err.unread c.unread_answer.result c.in-Err.ensures.unread c.unread_answer.ensures.answers
 
 pub returns-in-Ok-clause-in_order : goal.returns-in-Ok-clause-in_order
 returns-in-Ok-clause-in_order g c = λ without.

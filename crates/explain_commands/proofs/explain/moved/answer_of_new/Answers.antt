@@ -9,4 +9,4 @@ returns-in-Ok-clause-answers g c =
 
 pub returns-in-Err-clause-answers : goal.returns-in-Err-clause-answers
 returns-in-Err-clause-answers g c =
-    without_after (file_of c.args.name.now c.args.before.now) c.args.new_name.now _ c.in-Err.unread c.unread_plan.result c.in-Err.ensures.unread c.unread_plan.ensures.answers
+    without_after (file_of c.args.name.now c.args.before.now) c.args.new_name.now _ c.in-Err.unread c.unread_answer.result c.in-Err.ensures.unread c.unread_answer.ensures.answers

@@ -1,38 +1,26 @@
 use Rattle.std.proofs.Common.{◌≡◌, ◌∙◌, ◌+◌, ◌++◌, ◌∷◌, [], ap, length, arith}
 use Rattle.std.proofs.lemmas.List.{length_push}
-use Rattle.pdr_repository.specs.BlockTermini.{block_tid, block_records}
 use Rattle.net_plan.specs.declared.event.Event.{Event}
 use Rattle.net_plan.specs.declared.event.Event.TheVariants as event
-use Rattle.net_sim.specs.Dealing.{resting}
+use Rattle.net_tables.specs.TwoPlans.{one_plan}
 use Rattle.net_sim.specs.Networks.{checked_of}
-use Rattle.command_answers.proofs.Places.{checked_orders}
+use Rattle.command_answers.proofs.Places.{starts_in}
 use Rattle.play_commands.proofs.Scripted.{has_begun, has_gone_on, of_walk_first, of_walk_more, begins_walk, plays_in, made_to_end, made_to_limit}
-use Rattle.play_commands.proofs.Simulated.{many_planned, planned_by}
 use Rattle.play_commands.proofs.script.making.made_events.Goals as goal
-
-pub planned_termini-requires : goal.planned_termini-requires
-planned_termini-requires c =
-    checked_orders c.args.checked.0 c.plan.result.now c.args.checked.1 c.certificate.result.now c.plan.ensures.accepted c.plan.ensures.plan c.certificate.ensures.certificate
-
-pub new-requires : goal.new-requires
-new-requires c = record {
-  boxes = many_planned (resting block_tid block_records) c.in_ok-termini.termini.items _
-      (planned_by _ c.args.checked.0 c.plan.result.now c.args.checked.1 c.certificate.result.now c.in_ok-termini.ensures c.plan.ensures.plan c.certificate.ensures.certificate);
-}
 
 pub loop-count-init : goal.loop-count-init
 loop-count-init c =
     let plan = c.args.checked.0 in
     let cert = c.args.checked.1 in
     let script = c.args.script.now in
-    let walk : Event = event.Walk c.args.node script.eid c.new-2.result c.bytes.result in
+    let walk : Event = event.Walk c.args.node script.eid c.new.result c.bytes.result in
     let one : c.push.new.self.items ≡ walk ∷ [] = c.in_ok-push.ensures.items ∙ ap (λ es. es ++ walk ∷ []) c.new-events.ensures.items in
-    let planned = planned_by _ plan c.plan.result.now cert c.certificate.result.now c.in_ok-termini.ensures c.plan.ensures.plan c.certificate.ensures.certificate in
-    let checked = c.in_ok-network.ensures.checked in (
+    let started = starts_in (one_plan plan, cert) c.of_plan.result _ c.of_plan.ensures c.in_ok-network.ensures.stands in
+    let checked = c.in_ok-network.ensures.checked ∙ c.of_plan.ensures in (
       walk,
-      begins_walk c.args.node script.eid.value _ _ _ _ c.new-2.ensures c.bytes.ensures,
+      begins_walk c.args.node script.eid.value _ _ _ _ c.new.ensures c.bytes.ensures,
       of_walk_first walk c.push.new.self.items one,
-      has_begun plan cert c.push.new.self.items walk c.in_ok-last.last _ _ one (c.in_ok-network.ensures.stands planned)
+      has_begun plan cert c.push.new.self.items walk c.in_ok-last.last _ _ one started
           (plays_in plan cert (checked_of c.in_ok-network.network) _ _ _ _ checked c.in_ok-last.ensures.walks),
       c.in_ok-last.ensures.checked ∙ checked,
       ap length one,

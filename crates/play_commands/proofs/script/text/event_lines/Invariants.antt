@@ -1,6 +1,6 @@
-use Rattle.std.proofs.Common.{◌≡◌, ◌++◌, codes, string_bytes, take}
+use Rattle.std.proofs.Common.{◌≡◌, ◌++◌, string_bytes, take}
 use Rattle.std.specs.List.{flat_map}
-use Rattle.play_commands.specs.ScriptTexts.{event_text, next_text}
+use Rattle.play_commands.specs.ScriptTexts.{next_text}
 use Rattle.play_commands.proofs.script.text.event_lines.Given as goal
 
 abbrev pub invariant-loop-event : goal.invariant-loop-event

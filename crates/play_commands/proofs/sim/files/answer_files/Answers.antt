@@ -9,9 +9,9 @@ use Rattle.play_commands.proofs.sim.files.answer_files.Goals as goal
 pub returns-in_err-plan-clause-plays : goal.returns-in_err-plan-clause-plays
 returns-in_err-plan-clause-plays g c =
     let failed = c.in_err-plan in
-    let plans = stream g.P.Source.account c.args.plan.now c.read_files.new.plan in
-    let certificates = stream g.C.Source.account c.args.certificate.now c.read_files.new.certificate in
-    let happenings = stream g.V.Source.account c.args.events.now c.read_files.new.events in
+    let plans = stream g.P.Source.account c.args.plan.now c.read_run.new.plan in
+    let certificates = stream g.C.Source.account c.args.certificate.now c.read_run.new.certificate in
+    let happenings = stream g.V.Source.account c.args.events.now c.read_run.new.events in
     let output = stream g.O.Sink.account c.args.output.now c.args.output.now in
     let ended : c.from_residual.result ≡ Err failed.field-0.0 = search rules in
     rw ended (plays_unread (TellsRun plans certificates happenings) (IsSimFault plans certificates happenings) (IsSimAnswer plans certificates happenings) (λ why. AreUnreadAmong why plans certificates happenings) _ output failed.field-0.0 (λ none. none) failed.ensures.unread refl)
@@ -19,9 +19,9 @@ returns-in_err-plan-clause-plays g c =
 pub returns-clause-plays : goal.returns-clause-plays
 returns-clause-plays g c =
     let read = c.in_ok-plan in
-    let plans = stream g.P.Source.account c.args.plan.now c.read_files.new.plan in
-    let certificates = stream g.C.Source.account c.args.certificate.now c.read_files.new.certificate in
-    let happenings = stream g.V.Source.account c.args.events.now c.read_files.new.events in
+    let plans = stream g.P.Source.account c.args.plan.now c.read_run.new.plan in
+    let certificates = stream g.C.Source.account c.args.certificate.now c.read_run.new.certificate in
+    let happenings = stream g.V.Source.account c.args.events.now c.read_run.new.events in
     let output = stream g.O.Sink.account c.args.output.now c.play.new.output in
     let events = map event_value read.events.items in
     let same = c.play.new.output ≡ c.args.output.now in

@@ -1,74 +1,8 @@
-use Rattle.std.proofs.Common.{◌≡◌, Result, subst}
-use Rattle.command_answers.specs.declared.refused.Refused.{Refused}
-use Rattle.command_answers.specs.declared.status.Status.{Status}
-use Rattle.command_answers.specs.Answers.{stream}
-use Rattle.play_commands.specs.MoveSimulating.{TellsMovedRun, IsPlayFault, IsPlayAnswer, IsPlayUnread}
-use Rattle.play_commands.specs.Simulating.{PlaysSo}
-use Rattle.play_commands.proofs.Playing.{ends_itself, never_unwritten, never_in_part, ends_refused, left_unwritten, left_in_part}
+use Rattle.play_commands.proofs.Playing.{concludes}
 use Rattle.play_commands.proofs.sim.moves.simulate_move.Goals as goal
 
-pub returns-in-Ok-clause-simulates : goal.returns-in-Ok-clause-simulates
-returns-in-Ok-clause-simulates g c =
-    let befores = stream g.P.Source.account c.args.before.now c.answer_move_files.new.before in
-    let afters = stream g.Q.Source.account c.args.after.now c.answer_move_files.new.after in
-    let certificates = stream g.C.Source.account c.args.certificate.now c.answer_move_files.new.certificate in
-    let happenings = stream g.V.Source.account c.args.events.now c.answer_move_files.new.events in
-    let output = stream g.O.Sink.account c.args.output.now c.answer_move_files.new.output in
-    let P : Result Status Refused → Type 0 = λ r. PlaysSo (TellsMovedRun befores afters certificates happenings) (IsPlayFault befores afters certificates happenings) (IsPlayAnswer befores afters certificates happenings) (λ why. IsPlayUnread why befores afters certificates happenings) (c.answer_move_files.new.output ≡ c.args.output.now) r output in
-    let plays = subst P c.in-Ok.is c.answer_move_files.ensures.plays in
-    ends_itself (TellsMovedRun befores afters certificates happenings) (IsPlayFault befores afters certificates happenings) (IsPlayAnswer befores afters certificates happenings) (λ why. IsPlayUnread why befores afters certificates happenings) (c.answer_move_files.new.output ≡ c.args.output.now) output c.in-Ok.status _ plays
-
-pub returns-in-Ok-clause-unwritten : goal.returns-in-Ok-clause-unwritten
-returns-in-Ok-clause-unwritten g c =
-    let befores = stream g.P.Source.account c.args.before.now c.answer_move_files.new.before in
-    let afters = stream g.Q.Source.account c.args.after.now c.answer_move_files.new.after in
-    let certificates = stream g.C.Source.account c.args.certificate.now c.answer_move_files.new.certificate in
-    let happenings = stream g.V.Source.account c.args.events.now c.answer_move_files.new.events in
-    let output = stream g.O.Sink.account c.args.output.now c.answer_move_files.new.output in
-    let P : Result Status Refused → Type 0 = λ r. PlaysSo (TellsMovedRun befores afters certificates happenings) (IsPlayFault befores afters certificates happenings) (IsPlayAnswer befores afters certificates happenings) (λ why. IsPlayUnread why befores afters certificates happenings) (c.answer_move_files.new.output ≡ c.args.output.now) r output in
-    let plays = subst P c.in-Ok.is c.answer_move_files.ensures.plays in
-    λ is. absurd (never_unwritten (TellsMovedRun befores afters certificates happenings) (IsPlayFault befores afters certificates happenings) (IsPlayAnswer befores afters certificates happenings) (λ why. IsPlayUnread why befores afters certificates happenings) (c.answer_move_files.new.output ≡ c.args.output.now) output c.in-Ok.status plays is)
-
-pub returns-in-Ok-clause-partly_runs : goal.returns-in-Ok-clause-partly_runs
-returns-in-Ok-clause-partly_runs g c =
-    let befores = stream g.P.Source.account c.args.before.now c.answer_move_files.new.before in
-    let afters = stream g.Q.Source.account c.args.after.now c.answer_move_files.new.after in
-    let certificates = stream g.C.Source.account c.args.certificate.now c.answer_move_files.new.certificate in
-    let happenings = stream g.V.Source.account c.args.events.now c.answer_move_files.new.events in
-    let output = stream g.O.Sink.account c.args.output.now c.answer_move_files.new.output in
-    let P : Result Status Refused → Type 0 = λ r. PlaysSo (TellsMovedRun befores afters certificates happenings) (IsPlayFault befores afters certificates happenings) (IsPlayAnswer befores afters certificates happenings) (λ why. IsPlayUnread why befores afters certificates happenings) (c.answer_move_files.new.output ≡ c.args.output.now) r output in
-    let plays = subst P c.in-Ok.is c.answer_move_files.ensures.plays in
-    λ is. absurd (never_in_part (TellsMovedRun befores afters certificates happenings) (IsPlayFault befores afters certificates happenings) (IsPlayAnswer befores afters certificates happenings) (λ why. IsPlayUnread why befores afters certificates happenings) (c.answer_move_files.new.output ≡ c.args.output.now) output c.in-Ok.status plays is)
-
-pub returns-in-Err-clause-simulates : goal.returns-in-Err-clause-simulates
-returns-in-Err-clause-simulates g c =
-    let befores = stream g.P.Source.account c.args.before.now c.answer_move_files.new.before in
-    let afters = stream g.Q.Source.account c.args.after.now c.answer_move_files.new.after in
-    let certificates = stream g.C.Source.account c.args.certificate.now c.answer_move_files.new.certificate in
-    let happenings = stream g.V.Source.account c.args.events.now c.answer_move_files.new.events in
-    let output = stream g.O.Sink.account c.args.output.now c.answer_move_files.new.output in
-    let P : Result Status Refused → Type 0 = λ r. PlaysSo (TellsMovedRun befores afters certificates happenings) (IsPlayFault befores afters certificates happenings) (IsPlayAnswer befores afters certificates happenings) (λ why. IsPlayUnread why befores afters certificates happenings) (c.answer_move_files.new.output ≡ c.args.output.now) r output in
-    let plays = subst P c.in-Err.is c.answer_move_files.ensures.plays in
-    ends_refused (TellsMovedRun befores afters certificates happenings) (IsPlayFault befores afters certificates happenings) (IsPlayAnswer befores afters certificates happenings) (λ why. IsPlayUnread why befores afters certificates happenings) (c.answer_move_files.new.output ≡ c.args.output.now) output c.in-Err.refused c.refuse.result _ c.refuse.ensures.refuses plays
-
-pub returns-in-Err-clause-unwritten : goal.returns-in-Err-clause-unwritten
-returns-in-Err-clause-unwritten g c =
-    let befores = stream g.P.Source.account c.args.before.now c.answer_move_files.new.before in
-    let afters = stream g.Q.Source.account c.args.after.now c.answer_move_files.new.after in
-    let certificates = stream g.C.Source.account c.args.certificate.now c.answer_move_files.new.certificate in
-    let happenings = stream g.V.Source.account c.args.events.now c.answer_move_files.new.events in
-    let output = stream g.O.Sink.account c.args.output.now c.answer_move_files.new.output in
-    let P : Result Status Refused → Type 0 = λ r. PlaysSo (TellsMovedRun befores afters certificates happenings) (IsPlayFault befores afters certificates happenings) (IsPlayAnswer befores afters certificates happenings) (λ why. IsPlayUnread why befores afters certificates happenings) (c.answer_move_files.new.output ≡ c.args.output.now) r output in
-    let plays = subst P c.in-Err.is c.answer_move_files.ensures.plays in
-    left_unwritten (TellsMovedRun befores afters certificates happenings) (IsPlayFault befores afters certificates happenings) (IsPlayAnswer befores afters certificates happenings) (λ why. IsPlayUnread why befores afters certificates happenings) (c.answer_move_files.new.output ≡ c.args.output.now) output c.in-Err.refused c.refuse.result _ c.refuse.ensures.refuses plays
-
-pub returns-in-Err-clause-partly_runs : goal.returns-in-Err-clause-partly_runs
-returns-in-Err-clause-partly_runs g c =
-    let befores = stream g.P.Source.account c.args.before.now c.answer_move_files.new.before in
-    let afters = stream g.Q.Source.account c.args.after.now c.answer_move_files.new.after in
-    let certificates = stream g.C.Source.account c.args.certificate.now c.answer_move_files.new.certificate in
-    let happenings = stream g.V.Source.account c.args.events.now c.answer_move_files.new.events in
-    let output = stream g.O.Sink.account c.args.output.now c.answer_move_files.new.output in
-    let P : Result Status Refused → Type 0 = λ r. PlaysSo (TellsMovedRun befores afters certificates happenings) (IsPlayFault befores afters certificates happenings) (IsPlayAnswer befores afters certificates happenings) (λ why. IsPlayUnread why befores afters certificates happenings) (c.answer_move_files.new.output ≡ c.args.output.now) r output in
-    let plays = subst P c.in-Err.is c.answer_move_files.ensures.plays in
-    left_in_part (TellsMovedRun befores afters certificates happenings) (IsPlayFault befores afters certificates happenings) (IsPlayAnswer befores afters certificates happenings) (λ why. IsPlayUnread why befores afters certificates happenings) (c.answer_move_files.new.output ≡ c.args.output.now) output c.in-Err.refused c.refuse.result c.refuse.ensures.unwritten plays
+pub returns-clause-concludes : goal.returns-clause-concludes
+returns-clause-concludes g c =
+    let answered = c.answer_move_files-answered in
+    let ended = c.end.ensures in
+    concludes _ _ _ _ _ _ _ _ answered.result c.end.result answered.ensures.plays ended.ended ended.refuses ended.unwritten ended.silent

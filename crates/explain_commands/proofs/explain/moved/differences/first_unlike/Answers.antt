@@ -1,6 +1,3 @@
-use Rattle.net_rules.specs.MoveObstacles.{NamesDifference}
-use Rattle.net_rules.specs.declared.move_error.MoveError.TheVariants.{Differ}
-use Rattle.std.proofs.Common.{subst}
 use Rattle.explain_commands.proofs.Differing.{both_have}
 use Rattle.explain_commands.proofs.explain.moved.differences.first_unlike.Goals as goal
 

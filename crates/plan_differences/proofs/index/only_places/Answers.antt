@@ -1,0 +1,27 @@
+use Rattle.std.proofs.Common.{◌≡◌, ◌<◌, [], length, map, subst, sym, arith, rules, Some}
+use Rattle.std.specs.Prelude.{slice_get}
+use Rattle.std.proofs.lemmas.List.{length-map}
+use Rattle.plan_differences.specs.Facts.{fact_value}
+use Rattle.plan_differences.specs.Indexes.{IsOnlyWith, places_at}
+use Rattle.plan_differences.proofs.Indexing.{AreOfWordsBelow, all_noted, noted_if, none_noted}
+use Rattle.plan_differences.proofs.Items.{value_at}
+use Rattle.plan_differences.proofs.index.only_places.Goals as goal
+
+pub loop-place-init : goal.loop-place-init
+loop-place-init c = λ words.
+    let Has = IsOnlyWith (map fact_value c.args.others.now.facts.now) in
+    let none : places_at c.new-places.result words ≡ [] = search rules in
+    subst (AreOfWordsBelow Has (map fact_value c.args.facts.now) words 0) (sym none) (none_noted Has (map fact_value c.args.facts.now) words)
+
+pub loop-place-preserved : goal.loop-place-preserved
+loop-place-preserved c = λ words.
+    let facts = map fact_value c.args.facts.now in
+    let k = c.loop-place.place in
+    let f = fact_value c.index-facts-place.result in
+    let within : k < length c.args.facts.now = omega arith in
+    let here : slice_get facts k ≡ Some f = value_at fact_value c.args.facts.now k c.index-facts-place.result within c.index-facts-place.is in
+    noted_if (IsOnlyWith (map fact_value c.args.others.now.facts.now)) facts words f k _ _ here (c.in_ok-note_only.ensures words) (c.loop-place.invariant words)
+
+pub returns : goal.returns
+returns c = λ words.
+    all_noted (IsOnlyWith (map fact_value c.args.others.now.facts.now)) (map fact_value c.args.facts.now) words c.loop-place.place (places_at c.loop-place.places words) (omega (arith, length-map c.args.facts.now fact_value)) (c.loop-place.invariant words)

@@ -1,6 +1,0 @@
-use Rattle.std.proofs.Common.{◌∙◌, ap}
-use Rattle.plan_texts.specs.WayLines.{first_address}
-use Rattle.plan_texts.proofs.ways.address_on.Goals as goal
-
-pub returns-in-Some : goal.returns-in-Some
-returns-in-Some c = rw c.in-Some.is (c.first_address.ensures ∙ ap (λ ports. first_address ports c.in-Some.bus) c.ports_at.ensures)

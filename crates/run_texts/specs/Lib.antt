@@ -1,0 +1,2 @@
+pub mod AssignmentLines
+pub mod OutcomeLines
