@@ -206,11 +206,33 @@ def sensor_with(handle, sensor_id):
     return {"handle": handle, "next": 0, "bytes": (struct.pack("<IBBHH", handle, 1, 4, 0, len(body)) + body).hex()}
 
 
-def sensors(size):
-    """A terminus of sensors, each with a sensor ID of its own, and no terminus locator."""
-    records = [sensor_with(1 + it, it * 7919 % 65_536) for it in range(size)]
+def plan_of_records(records):
+    """A plan of one terminus with these records."""
     node = plans.node_at(0, "endpoint", [plans.port_on("b", 0)], [], {"tid": 1, "records": records})
-    return {"plan.json": plan_of([plans.bus_named("b")], [node])}, ["lint", "plan.json"]
+    return plan_of([plans.bus_named("b")], [node])
+
+
+def plan_of_sensors(sensor_ids):
+    """A plan of one terminus with a sensor for each sensor ID, and no terminus locator."""
+    return plan_of_records([sensor_with(handle, it) for handle, it in enumerate(sensor_ids, 1)])
+
+
+def sensors(size):
+    """Sensors, each with a sensor ID of its own."""
+    return {"plan.json": plan_of_sensors(it * 7919 % 65_536 for it in range(size))}, ["lint", "plan.json"]
+
+
+def changed_records(size):
+    """The words that tell two plans apart, each record of which is another."""
+    files = {"old.json": plan_of_sensors(range(size)), "new.json": plan_of_sensors(range(1, 1 + size))}
+    return files, ["diff", "old.json", "new.json"]
+
+
+def records_of_one_handle(size):
+    """The same where all records have one handle: half of the new ones are the old plan's too, and it has one other."""
+    old = [sensor_with(1, it) for it in range(1 + size // 2)]
+    new = [sensor_with(1, size - it) for it in range(size)]
+    return {"old.json": plan_of_records(old), "new.json": plan_of_records(new)}, ["diff", "old.json", "new.json"]
 
 
 ROWS = [
@@ -238,4 +260,6 @@ ROWS = [
     ("walkers that begin", walkers, 512),
     ("messages that come to walkers", messages_to_walkers, 512),
     ("sensors of different IDs", sensors, 512),
+    ("diff of many records", changed_records, 128),
+    ("diff of many records of one handle", records_of_one_handle, 128),
 ]

@@ -1,8 +1,5 @@
 #!/usr/bin/env python3
-"""Measures `sim` on long lists of events, and prints tables.
-
-Beside each list stands a run that ends after all texts were read, since a last event names an unknown node.
-"""
+"""Measures `sim` on long lists of events, and prints tables."""
 
 import os
 import sys
@@ -12,15 +9,7 @@ import events
 import measuring
 
 COUNTS = (10_000, 100_000)
-COLUMNS = (
-    "events",
-    "text, bytes",
-    "sim, ms",
-    "texts read, ms",
-    "memory, MB",
-    "sim, M instr.",
-    "texts read, M instr.",
-)
+COLUMNS = ("events", "text, bytes", "sim, ms", "memory, MB", "sim, M instr.")
 
 
 def wanted(outcomes):
@@ -33,24 +22,18 @@ def figures(folder, kind, count):
     riser = measuring.TOP / "examples/riser"
     command = [measuring.program(), "sim", str(riser / "plan.json"), str(riser / "certificate.json")]
     made = events.KINDS[kind](count)
-    listed = [event for event, _ in made]
-    whole = measuring.write(f"{folder}/events.json", events.text_of(listed))
-    listed[-1] = {"do": "answer", "node": "nobody"}
-    unknown = measuring.write(f"{folder}/unknown.json", events.text_of(listed))
+    whole = measuring.write(f"{folder}/events.json", events.text_of([event for event, _ in made]))
     printed = f"{folder}/printed"
     measuring.run([*command, whole], output=printed)
     with open(printed) as it:
         if it.read() != wanted(outcome for _, outcome in made):
             sys.exit(f"{kind} {count}: the outcomes are not those of the events")
     played = measuring.cost_of([*command, whole])
-    read = measuring.cost_of([*command, unknown], "unreadable events: J06")
     return [
         (os.path.getsize(whole), 1),
         (played.seconds, 1e-3),
-        (read.seconds, 1e-3),
         (played.memory, 1e6),
         (played.instructions, 1e6),
-        (read.instructions, 1e6),
     ]
 
 

@@ -1,8 +1,8 @@
 #!/usr/bin/env python3
 """Measures `certify` and `check` on large plans of the given kinds, or all, and prints tables.
 
-Beside `check` stand two runs of it that end before any rule is tested: one with a certificate whose unknown name is
-found once both texts are read, and one with a certificate that is unreadable at once, so that the plan alone is read.
+Beside `check` stand two runs that end before any rule is tested: `walk` at a node that the plan does not have, which is
+found once both texts are read, and `check` with a certificate that is unreadable at once, so that the plan alone is read.
 """
 
 import os
@@ -20,9 +20,6 @@ COLUMNS = (
     + ["memory, MB"]
     + [f"{it}, M instr." for it in COMMANDS]
 )
-# No plan here has owners, so no certificate has levels.
-NO_LEVELS = '"levels":[]'
-UNKNOWN_LEVEL = '"levels":[{"level":1,"node":"nobody"}]'
 
 
 def costs_of(folder, kind, count):
@@ -31,14 +28,11 @@ def costs_of(folder, kind, count):
     plan = measuring.write(f"{folder}/plan.json", plans.text_of(kind, count))
     certificate = f"{folder}/certificate.json"
     measuring.run([program, "certify", plan], output=certificate)
-    with open(certificate) as it:
-        text = it.read().replace(NO_LEVELS, UNKNOWN_LEVEL)
-    unknown = measuring.write(f"{folder}/unknown.json", text)
     at_once = measuring.write(f"{folder}/at_once.json", "[]")
     costs = [
         measuring.cost_of([program, "certify", plan]),
         measuring.cost_of([program, "check", plan, certificate]),
-        measuring.cost_of([program, "check", plan, unknown], "unreadable certificate: J06"),
+        measuring.cost_of([program, "walk", plan, certificate, "nobody", "16"], "unreadable node: J06"),
         measuring.cost_of([program, "check", plan, at_once], "unreadable certificate: J02"),
     ]
     return [os.path.getsize(plan), os.path.getsize(certificate)], costs
