@@ -3,9 +3,7 @@ use Rattle.std.proofs.Common.{◌≡◌, ℕ, zero, suc, ◌+◌, ◌<◌, ◌==
 use Rattle.std.specs.Prelude.{Option, Some, None, nat_lt}
 use Rattle.std.proofs.lemmas.Bool.{cases_Bool, cases_lt}
 use Rattle.std.proofs.lemmas.Bool.Decides.{nat_tests}
-use Rattle.std.proofs.lemmas.List.Sorted.{Contains-permutation, IsPermutation-sym}
-use Rattle.std.specs.List.Sorted.{IsPermutation}
-use Rattle.mctp_bridge.specs.Rows.{Covers, Routes, HasSameRoutes}
+use Rattle.mctp_bridge.specs.Rows.{Covers, Routes}
 use Rattle.mctp_bridge.specs.declared.device_kind.DeviceKind.{DeviceKind}
 use Rattle.mctp_bridge.specs.declared.device_kind.DeviceKind.TheVariants as device
 use Rattle.mctp_bridge.specs.declared.row.Hop.{Hop}
@@ -28,6 +26,7 @@ use Rattle.audited_captures.proofs.Booleans.{both_left, both_right}
 use Rattle.audited_captures.proofs.PacketLaws.{among_left, among_right, among_split}
 use Rattle.audited_captures.proofs.PlannedReadings.{matches}
 use Rattle.audited_captures.proofs.WholeAudits.{audit_matches}
+use Rattle.mctp_bridge.proofs.Apart.{routes_moved}
 
 -- ---- the entries of one row
 
@@ -145,15 +144,6 @@ module _ (plan : Plan) (n e : ℕ) where
         let later = of_row table neighbors f rest there is in
         (suc later.0, later.1, omega (arith, later.2), later.3, later.4, later.5))
   ]
-
-along : (rows others : List TableRow) → IsPermutation rows others → (e : ℕ) (hop : Hop) → Routes rows e hop → Routes others e hop
-along rows others same e hop (k, row, lt, is, routed) =
-    let there = Contains-permutation rows others row same (k, lt, is) in
-    (there.0, row, there.1, there.2, routed)
-
--- the order of rows doesn't change their routes
-routes_moved : (rows others : List TableRow) → IsPermutation rows others → HasSameRoutes rows others
-routes_moved rows others same e hop = (along rows others same e hop, along others rows (IsPermutation-sym rows others same) e hop)
 
 like_for : (e : ℕ) (planned found : EntryValue) → IsLike planned found → IsFor e planned → IsFor e found
 like_for e planned found like (low, high, byte) = (omega (arith, low, like.first), omega (arith, high, like.first, like.size), byte)

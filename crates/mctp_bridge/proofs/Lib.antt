@@ -1,4 +1,4 @@
-mod Apart
+pub mod Apart
 mod Halving
 mod Fronts
 mod PieceSteps

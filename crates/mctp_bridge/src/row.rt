@@ -2,7 +2,7 @@
 ghost use Rattle.std.specs.Prelude.{◌≡◌, ◌+◌, ◌↔◌, IsTrue};
 ghost use Rattle.mctp_bridge.specs.Rows.{IsEmpty, IsOutside, AreApart, Covers};
 
-use mctp_transport::Eid;
+use mctp_transport::{Eid, EidRun};
 
 /// Where a row sends packets.
 #[derive(Clone, Copy, Debug, PartialEq, Eq)]
@@ -25,11 +25,21 @@ pub struct TableRow {
 }
 
 impl TableRow {
+    /// The endpoint IDs of the row. It covers those that are at most 255.
+    fn eids(&self) -> EidRun
+        ensures { result ≡ record { first = self.now.first; size = self.now.size } }
+    {
+        EidRun {
+            first: self.first,
+            size: self.size,
+        }
+    }
+
     /// Whether the row covers the endpoint ID.
     pub fn covers(&self, eid: Eid) -> bool
         ensures { IsTrue result ↔ Covers self.now eid.value }
     {
-        self.first.value <= eid.value && u16::from(eid.value) < self.end()
+        self.eids().contains(eid)
     }
 
     /// Whether it covers no endpoint ID.
@@ -51,16 +61,13 @@ impl TableRow {
     pub(crate) fn is_apart_from(&self, other: &TableRow) -> bool
         ensures { IsTrue result ↔ AreApart self.now other.now }
     {
-        self.size == 0
-            || other.size == 0
-            || self.end() <= u16::from(other.first.value)
-            || other.end() <= u16::from(self.first.value)
+        self.eids().is_apart_from(other.eids())
     }
 
     /// The number after the last endpoint ID that a row's size reaches.
     pub(crate) fn end(&self) -> u16
         ensures { result ≡ self.now.first.value + self.now.size }
     {
-        u16::from(self.first.value) + u16::from(self.size)
+        self.eids().end()
     }
 }

@@ -19,3 +19,4 @@ pub mod InOrder
 pub mod Sending
 pub mod SomeAnswers
 pub mod Spellings
+pub mod EidRuns

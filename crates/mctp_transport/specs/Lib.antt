@@ -1,4 +1,5 @@
 pub mod Wire
+pub mod EidRuns
 pub mod PacketValues
 pub mod Bits
 pub mod First

@@ -1,7 +1,7 @@
 //! A certificate: what a plan's author claims of it.
-ghost use Rattle.std.specs.Prelude.{◌+◌, ◌<◌, ◌≤◌};
+ghost use Rattle.std.specs.Prelude.{◌≡◌, ◌+◌, ◌<◌, ◌≤◌};
 
-use mctp_transport::Eid;
+use mctp_transport::{Eid, EidRun};
 
 /// A run of endpoint IDs of one rank.
 #[derive(Clone, Copy, Debug, PartialEq, Eq)]
@@ -16,6 +16,18 @@ pub struct RankRange {
     pub ghost rank_within: { rank ≤ 255 },
     pub ghost size_within: { size ≤ 255 },
     pub ghost within: { first.value + size ≤ 256 },
+}
+
+impl RankRange {
+    /// The endpoint IDs of the range.
+    pub fn eids(&self) -> EidRun
+        ensures { result ≡ record { first = self.now.first; size = self.now.size } }
+    {
+        EidRun {
+            first: self.first,
+            size: self.size,
+        }
+    }
 }
 
 /// The ranks that a certificate gives one node; an endpoint ID in none of the ranges has rank 0.

@@ -42,10 +42,10 @@ pub enum Event {
     },
     /// A walker puts in its next request, or once more the one that has no answer yet.
     Ask {
-        walker: u32,
+        walker: usize,
     },
     /// A walker is asked what it has collected so far.
     Collected {
-        walker: u32,
+        walker: usize,
     },
 }

@@ -1,9 +1,9 @@
 //! Buses, and nodes with their ports, routing tables, owners and pools.
-ghost use Rattle.std.specs.Prelude.{◌≤◌, vec_len};
+ghost use Rattle.std.specs.Prelude.{◌≡◌, ◌≤◌, vec_len};
 
 use crate::name::Name;
 use crate::terminus::PlannedTerminus;
-use mctp_transport::Eid;
+use mctp_transport::{Eid, EidRun};
 
 /// An MCTP bus segment.
 #[derive(Debug, Drop)]
@@ -47,6 +47,18 @@ pub struct Row {
     pub next: usize,
 }
 
+impl Row {
+    /// The endpoint IDs that the row covers.
+    pub fn eids(&self) -> EidRun
+        ensures { result ≡ record { first = self.now.first; size = self.now.size } }
+    {
+        EidRun {
+            first: self.first,
+            size: self.size,
+        }
+    }
+}
+
 /// An EID pool (DSP0236): the endpoint IDs, one after another, that a bridge gives to the nodes behind it.
 #[derive(Clone, Copy, Debug, PartialEq, Eq)]
 pub struct Pool {
@@ -54,6 +66,18 @@ pub struct Pool {
     pub first: Eid,
     /// How many it has from there.
     pub size: u8,
+}
+
+impl Pool {
+    /// The endpoint IDs of the pool.
+    pub fn eids(self) -> EidRun
+        ensures { result ≡ record { first = self.first; size = self.size } }
+    {
+        EidRun {
+            first: self.first,
+            size: self.size,
+        }
+    }
 }
 
 /// A node of a plan: a bridge or an endpoint.

@@ -29,7 +29,6 @@ pub mod IndexLaws
 pub mod ChainLaws
 mod ChainPlaces
 pub mod EidMoves
-mod EidRuns
 mod AlikeLaws
 mod WayLaws
 mod LoopLaws

@@ -30,7 +30,7 @@ use Rattle.net_runs.specs.Walkers.{WalkerValue, WalkedState, Ask, Asked, Happeni
 use Rattle.net_runs.specs.WalkedGoing.{IsLawfulWalker}
 use Rattle.net_runs.proofs.AtRest.{IsAtRest, rest_is_settled, packet_there, packet_others}
 use Rattle.net_runs.proofs.Bringing.{Brings, IsOfMessage, all_brought}
-use Rattle.net_runs.proofs.FirstAsks.{never}
+use Rattle.net_runs.proofs.FirstAsks.{never_refused}
 use Rattle.net_runs.proofs.Fitting.{TakesOn, takes_on}
 use Rattle.net_tables.specs.Lawful as ways
 use Rattle.net_runs.proofs.Reaching.{Reaches, reaches_on, one_turn}
@@ -214,7 +214,7 @@ module _ (tables : Tables) (cert : Certificate) (lawful : ways.IsLawful tables c
               let last : Reaches tables (At b.before) new =
               one_turn tables (At b.before) (Happening (Move b.number false))
               (Happened (Entered b.number ready.walker.node (answering_key ready.walker) (Whole a.message)) (Some (record { number = 1; result = Ok t.step }))) new (λ node bytes e. cc) (
-                never tables (At b.before) (Move b.number false),
+                never_refused tables (At b.before) (Move b.number false),
                 (
                   b.step,
                   record {

@@ -197,14 +197,14 @@ may_switch before after cert w node within none N07 (inl one) = let e : Some aft
 may_switch before after cert w node within none N07 (inr has) = let e : true ≡ false = sym has ∙ none in cc
 
 -- what happens to the network is refused there alone
-pub never : (tables : Tables) (w : WalkedState) (event : EventValue) (why : WalkRefusal) → ¬ IsWalkRefused tables.plan w (Happening event) why
-never tables w event (Also why) refused = refused
-never tables w event N08 refused = refused
-never tables w event N09 refused = refused
-never tables w event N10 refused = refused
-never tables w event N11 refused = refused
-never tables w event N12 refused = refused
-never tables w event N13 refused = refused
+pub never_refused : (tables : Tables) (w : WalkedState) (event : EventValue) (why : WalkRefusal) → ¬ IsWalkRefused tables.plan w (Happening event) why
+never_refused tables w event (Also why) refused = refused
+never_refused tables w event N08 refused = refused
+never_refused tables w event N09 refused = refused
+never_refused tables w event N10 refused = refused
+never_refused tables w event N11 refused = refused
+never_refused tables w event N12 refused = refused
+never_refused tables w event N13 refused = refused
 
 pub can_switch_and_ask : (before after : Plan) (cert : Certificate) → CanSwitchAndAsk before after cert
 can_switch_and_ask before after cert at node own eid tag count n inside within there home holds has small_own small few_tag least most =
@@ -221,7 +221,7 @@ can_switch_and_ask before after cert at node own eid tag count n inside within t
         (may_begin tables cert unswitched node own eid tag count n within there home holds has small_own small few_tag least most, (refl, refl)),
         (
           (
-            never tables w (Switch at),
+            never_refused tables w (Switch at),
             ((may_switch before after cert w.network at inside refl, (refl, refl)), (λ k walker message stands (flight, is). absurd (cc)), refl, refl),
           ),
           (step, tt),

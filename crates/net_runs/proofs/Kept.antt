@@ -11,7 +11,8 @@ use Rattle.net_runs.specs.States.{NetworkState, Flight, at_start, destination, r
 use Rattle.net_tables.specs.TwoPlans.{Tables}
 use Rattle.net_runs.specs.Runs.{Turn, RunFrom, after_all, PutsIn, WasPutIn}
 use Rattle.net_tables.specs.Lawful.{IsLawful}
-use Rattle.net_runs.proofs.Nexts.{IsNumbered, HasMoved, IsNew, IsNext, MayBeGiven, step_is_next}
+use Rattle.net_runs.proofs.Nexts.{HasMoved, IsNew, IsNext, MayBeGiven, step_is_next}
+use Rattle.net_runs.specs.WalkedGoing.{HasNumberedFlights}
 
 abbrev pub IsWithinHops : Certificate → Flight → Type 0
 IsWithinHops cert f = f.hops + rank cert f.node (destination f) ≤ rank cert f.origin (destination f)
@@ -20,7 +21,7 @@ IsWithinHops cert f = f.hops + rank cert f.node (destination f) ≤ rank cert f.
 pub record Kept (tables : Tables) (cert : Certificate) (Known : PacketValue → Type 0) (w : NetworkState) : Type 0 where
   pub flights : (number : ℕ) (f : Flight) → w.flight number ≡ Some f → IsWithinHops cert f × Known f.packet
   pub arrivals : (n : ℕ) → EachArrival (λ p. Holds tables.plan n p.destination × Known p) (w.history n)
-  pub numbers : IsNumbered w
+  pub numbers : HasNumberedFlights w
 
 pub at_start_keeps : (tables : Tables) (cert : Certificate) (Known : PacketValue → Type 0) → Kept tables cert Known (at_start tables.plan cert)
 at_start_keeps tables cert Known = record { flights = λ number f is. absurd (cc); arrivals = λ n. tt; numbers = λ number f is. absurd (cc) }

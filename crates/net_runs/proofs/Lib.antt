@@ -25,7 +25,7 @@ mod Replies
 mod Walking
 mod NewRequests
 pub mod WalksOver
-mod FirstAsks
+pub mod FirstAsks
 mod SettledOrNot
 mod WalkedSteps
 mod WalkedGoings

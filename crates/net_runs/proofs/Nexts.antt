@@ -15,10 +15,7 @@ use Rattle.net_tables.specs.TwoPlans.{Tables, rows_by}
 use Rattle.net_runs.specs.Events.{EventValue, Put, Move, Lose, Expire, AnswerAt, Switch, OutcomeValue, PutIn, Moved, Entered, Stopped, Lost, Expired, Answered, Silent, Switched, Refused}
 use Rattle.net_runs.specs.Networks.{Step, Happens, Moves, IsDecided}
 use Rattle.net_runs.specs.Runs.{IsPutOf, IsAmongFlights}
-
--- no flight has a number that is still to be given
-abbrev pub IsNumbered : NetworkState → Type 0
-IsNumbered w = (number : ℕ) (f : Flight) → w.flight number ≡ Some f → number ≤ w.made
+use Rattle.net_runs.specs.WalkedGoing.{HasNumberedFlights}
 
 abbrev pub IsThere : NetworkState → Flight → Type 0
 IsThere w f = (number : ℕ) × (w.flight number ≡ Some f)
@@ -50,7 +47,7 @@ MayBeGiven tables w n (TimeUp key) = Unit {0}
 pub record IsNext (tables : Tables) (w : NetworkState) (puts : PacketValue → Type 0) (new : NetworkState) : Type 0 where
   pub flights : (number : ℕ) (g : Flight) → new.flight number ≡ Some g → IsThere w g ⊎ (HasMoved tables w g ⊎ IsNew puts g)
   pub given : (n : ℕ) → (new.history n ≡ w.history n) ⊎ ((i : Input) × (new.history n ≡ after (w.history n) i) × MayBeGiven tables w n i)
-  pub numbers : IsNumbered w → IsNumbered new
+  pub numbers : HasNumberedFlights w → HasNumberedFlights new
   pub made : w.made ≤ new.made
 
 -- a flight of the changed network is the changed one or an older one
@@ -83,7 +80,7 @@ without_is_within w number = record {
 pub made_is_within : (w : NetworkState) → IsWithin w (with_made w (w.made + 1))
 made_is_within w = record { flights = λ k f is. is; histories = λ n. refl; made = omega arith }
 
-within_numbers : (w v : NetworkState) → IsWithin w v → IsNumbered w → IsNumbered v
+within_numbers : (w v : NetworkState) → IsWithin w v → HasNumberedFlights w → HasNumberedFlights v
 within_numbers w v within numbered number f is = let h = numbered number f (within.flights number f is) in let m = within.made in omega arith
 
 -- what a terminus makes of a message changes no flight and no history
@@ -139,7 +136,7 @@ module _ (tables : Tables) (w : NetworkState) (puts : PacketValue → Type 0) wh
     made = within.made;
   }
 
-  flight_is_next : (v : NetworkState) (k : ℕ) (f : Flight) → IsWithin w v → HasMoved tables w f → (IsNumbered w → k ≤ v.made) → IsNext tables w puts (with_flight v k f)
+  flight_is_next : (v : NetworkState) (k : ℕ) (f : Flight) → IsWithin w v → HasMoved tables w f → (HasNumberedFlights w → k ≤ v.made) → IsNext tables w puts (with_flight v k f)
   flight_is_next v k f within moved small = record {
     flights = λ number g is. elim (changed_or_older k number f g (v.flight number) is) [
       | inl (same, _) ↦ let P : Flight → Type 0 = λ h. HasMoved tables w h in inr (inl (subst P same moved))
@@ -154,7 +151,7 @@ module _ (tables : Tables) (w : NetworkState) (puts : PacketValue → Type 0) wh
   }
 
   -- moving a flight
-  pub moves_is_next : (v : NetworkState) (k : ℕ) (f : Flight) (outcome : OutcomeValue) (new : NetworkState) → IsWithin w v → v.switched ≡ w.switched → IsThere w f → (IsNumbered w → k ≤ v.made)
+  pub moves_is_next : (v : NetworkState) (k : ℕ) (f : Flight) (outcome : OutcomeValue) (new : NetworkState) → IsWithin w v → v.switched ≡ w.switched → IsThere w f → (HasNumberedFlights w → k ≤ v.made)
       → Moves tables v k f outcome new → IsNext tables w puts new
   moves_is_next v k f (Entered j node key answer) new within same there small (Deliver, holds, (number, at, whose, hears, is)) =
       let P : NetworkState → Type 0 = IsNext tables w puts in
@@ -179,7 +176,7 @@ module _ (tables : Tables) (w : NetworkState) (puts : PacketValue → Type 0) wh
   pub record IsPutInto (v : NetworkState) : Type 0 where
     pub flights : (number : ℕ) (f : Flight) → v.flight number ≡ Some f → IsThere w f ⊎ IsNew puts f
     pub histories : (n : ℕ) → v.history n ≡ w.history n
-    pub numbers : IsNumbered w → IsNumbered v
+    pub numbers : HasNumberedFlights w → HasNumberedFlights v
     pub made : w.made ≤ v.made
 
   pub none_is_put : (v : NetworkState) → SameFlights w v → IsPutInto v

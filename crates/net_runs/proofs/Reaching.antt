@@ -7,7 +7,7 @@ use Rattle.net_runs.specs.Events.{EventValue, Put, OutcomeValue}
 use Rattle.net_runs.specs.Networks.{Step}
 use Rattle.net_runs.specs.Walkers.{WalkedState, WalkedEvent, WalkedOutcome, Happening, Happened}
 use Rattle.net_runs.specs.WalkedRuns.{WalkedStep, WalkedTurn, WalkedRunFrom, walked_after, IsForNone}
-use Rattle.net_runs.proofs.FirstAsks.{never}
+use Rattle.net_runs.proofs.FirstAsks.{never_refused}
 
 -- the event puts nothing in by itself
 abbrev pub PutsNothing : WalkedEvent → Type 0
@@ -50,7 +50,7 @@ module _ (tables : Tables) where
       → Reaches w (record { network = new; walker = w.walker; begun = w.begun })
   network_turn w event outcome new puts step none =
       one_turn w (Happening event) (Happened outcome None) (record { network = new; walker = w.walker; begun = w.begun }) (λ node bytes e. puts node bytes (same_event event (Put node bytes) e))
-      (never tables w event, (step, none, refl, refl))
+      (never_refused tables w event, (step, none, refl, refl))
     where
       same_event : (a b : EventValue) → Happening a ≡ Happening b → a ≡ b
       same_event a b e = cc

@@ -28,7 +28,7 @@ use Rattle.net_runs.proofs.SettledOrNot.{both_settled_or_not, key_or_not}
 use Rattle.pdr_repository.proofs.SomeTakings.{takes_something}
 use Rattle.net_runs.proofs.Sent.{message_packets}
 use Rattle.net_runs.proofs.Steps.{some_step, holds_or_not, true_or_not}
-use Rattle.net_runs.proofs.FirstAsks.{never}
+use Rattle.net_runs.proofs.FirstAsks.{never_refused}
 use Rattle.net_tables.proofs.Elements.{holder_within}
 
 -- ---- the least refusal
@@ -337,7 +337,7 @@ module _ (tables : Tables) (w : WalkedState) (can : CanGoOn tables.plan w) where
       Happened outcome None,
       record { network = new; walker = w.walker; begun = w.begun },
       (
-        never tables w event,
+        never_refused tables w event,
         (step, (λ k walker message is. none k (let h = can.walkers.numbered k walker is in omega arith) walker message is), refl, refl),
       ),
     )
@@ -349,7 +349,7 @@ module _ (tables : Tables) (w : WalkedState) (can : CanGoOn tables.plan w) where
           Happened outcome (Some (record { number = k; result = t.result })),
           record { network = new; walker = with_walker w.walker k next; begun = w.begun },
           (
-            never tables w event,
+            never_refused tables w event,
             (
               step,
               record {

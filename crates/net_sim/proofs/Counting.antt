@@ -20,7 +20,7 @@ then_some : {A B : Type 0} (f : A → Option B) (o : Option A) (b : B) → optio
 then_some f None b e = absurd (cc)
 then_some f (Some a) b e = (a, refl, e)
 
-map_some : {A B : Type 0} (f : A → B) (o : Option A) (b : B) → option_map f o ≡ Some b → (a : A) × (o ≡ Some a) × (f a ≡ b)
+pub map_some : {A B : Type 0} (f : A → B) (o : Option A) (b : B) → option_map f o ≡ Some b → (a : A) × (o ≡ Some a) × (f a ≡ b)
 map_some f None b e = absurd (cc)
 map_some f (Some a) b e = (a, refl, same_Some (f a) b e)
 

@@ -22,7 +22,8 @@ use Rattle.net_sim.specs.WalkedStanding.{NetworkValue, WalkedPlays, WalkedWants}
 use Rattle.net_sim.proofs.Dealt.{all_at}
 use Rattle.net_sim.proofs.Finding.{walker_place, mapped_there}
 use Rattle.net_sim.proofs.Moving.{enters_there, decided_as, wants_move}
-use Rattle.net_sim.proofs.Walking.{never_refused, walker_changes, happens, happens_wants}
+use Rattle.net_runs.proofs.FirstAsks.{never_refused}
+use Rattle.net_sim.proofs.Walking.{walker_changes, happens, happens_wants}
 
 -- a write of the element that is there changes nothing
 pub set_same : {A : Type 0} (xs : List A) (i : ℕ) (x : A) → slice_get xs i ≡ Some x → slice_set xs i x ≡ xs

@@ -2,10 +2,9 @@
 use Rattle.std.proofs.Common.{◌≡◌, ◌≢◌, ◌↔◌, ℕ, ◌<◌, List, length, map, get_or, All, Option, Some, None, refl, sym, ◌∙◌, ap, subst}
 use Rattle.std.specs.Prelude.{slice_get, option_map, option_and_then}
 use Rattle.std.proofs.lemmas.List.Elements.{All-map}
-use Rattle.std.proofs.lemmas.Option.{slice_get-map, slice_get-get_or, slice_get_within, none-some}
+use Rattle.std.proofs.lemmas.Option.{slice_get-map, slice_get-get_or, none-some}
 use Rattle.mctp_transport.specs.PacketValues.{KeyValue}
 use Rattle.net_plan.specs.declared.plan.Plan.{Plan}
-use Rattle.net_plan.specs.declared.nodes.Node.{Node}
 use Rattle.net_tables.specs.Routing.{Holds}
 use Rattle.net_runs.specs.Termini.{TerminusState, WaitingMessage}
 use Rattle.net_runs.specs.States.{NetworkState, Flight}
@@ -14,6 +13,7 @@ use Rattle.net_sim.specs.Flights.{flight_at}
 use Rattle.net_sim.specs.Standing.{TrafficValue, HasNetworkState}
 use Rattle.net_sim.specs.Settling.{IsTo, IsNotTo, NoneWaits, IsClearAt}
 use Rattle.net_sim.proofs.Dealt.{all_at}
+use Rattle.net_tables.proofs.Elements.{holder_within}
 
 module _ {F : Type 0} (see : F → Option Flight) (fs : List F) (key : KeyValue) (d : ℕ) where
   abbrev seen : Option F → Option Flight
@@ -47,14 +47,6 @@ waits_if_there : (key : KeyValue) (o : Option TerminusState) → ((t : TerminusS
 waits_if_there key None each = tt
 waits_if_there key (Some t) each = each t refl
 
--- a node beyond the plan holds nothing
-pub held_within : (plan : Plan) (n e : ℕ) → Holds plan n e → n < length plan.nodes.items
-held_within plan n e holds = by (slice_get plan.nodes.items n) refl holds
-  where
-    by : (o : Option Node) → slice_get plan.nodes.items n ≡ o → option_map (λ (x : Node). x.eid.value) o ≡ Some e → n < length plan.nodes.items
-    by None at is = absurd (cc)
-    by (Some node) at is = slice_get_within plan.nodes.items n node at
-
 -- each holder is clear of a key that is settled
 pub settled_clear : (plan : Plan) (w : NetworkState) (key : KeyValue) (d : ℕ) → IsSettled plan w key d → (n : ℕ) → Holds plan n d → IsClearAt w key n
 settled_clear plan w key d settled n holds = (settled.quiet.not_open n holds, waits_if_there key (w.terminus n) (λ t is. settled.none_waits n t holds is))
@@ -69,9 +61,9 @@ module _ (plan : Plan) (v : TrafficValue) (w : NetworkState) (key : KeyValue) (d
     settles places clear = record {
       quiet = record {
         no_flight = λ number f is same to. none_flies see fs key d places number f (sym (at number) ∙ is) (same, to);
-        not_open = λ n holds. (clear n (held_within plan n d holds) holds).0;
+        not_open = λ n holds. (clear n (holder_within plan n d holds) holds).0;
       };
-      none_waits = λ n t holds is. none_waits_there key (w.terminus n) t is (clear n (held_within plan n d holds) holds).1;
+      none_waits = λ n t holds is. none_waits_there key (w.terminus n) t is (clear n (holder_within plan n d holds) holds).1;
     }
 
     pub settled_places : IsSettled plan w key d → All (λ x. IsNotTo key d (see x)) fs

@@ -5,7 +5,6 @@ use Rattle.std.specs.List.{count_by, filter}
 use Rattle.std.proofs.lemmas.Bool.Decides.{Decides-eqb}
 use Rattle.std.proofs.lemmas.List.Sums.{count_by-le-length, sum_by-cons, sum_by_push, sum_by-set}
 use Rattle.std.proofs.lemmas.List.Elements.{All-head, All-tail}
-use Rattle.std.proofs.lemmas.Option.{same_Some}
 use Rattle.std.specs.Cmp.{booleans_Decides}
 use Rattle.mctp_transport.specs.PacketValues.{KeyValue, key_of}
 use Rattle.mctp_transport.specs.Packets.{key_value}
@@ -19,11 +18,7 @@ use Rattle.net_sim.specs.declared.flights.Flight.{Flight}
 use Rattle.net_sim.specs.declared.flights.Slot.{Slot}
 use Rattle.net_sim.specs.declared.waiting.Waiting.{Waiting}
 use Rattle.net_sim.specs.declared.key_counts.KeyCounts.{KeyCounts}
-use Rattle.net_sim.proofs.Counting.{these_are}
-
-map_some : {A B : Type 0} (f : A → B) (o : Option A) (b : B) → option_map f o ≡ Some b → (a : A) × (o ≡ Some a) × (f a ≡ b)
-map_some f None b e = absurd (cc)
-map_some f (Some a) b e = (a, refl, same_Some (f a) b e)
+use Rattle.net_sim.proofs.Counting.{map_some, these_are}
 
 abbrev pub one_if : Bool → ℕ
 one_if b = cond b 1 0

@@ -11,12 +11,13 @@ use Rattle.net_tables.specs.TwoPlans.{Tables}
 use Rattle.net_runs.specs.States.{NetworkState}
 use Rattle.net_runs.specs.Events.{EventValue, Put, Move, Lose, Expire, AnswerAt, Switch, OutcomeValue, Entered}
 use Rattle.net_runs.specs.Networks.{Step}
-use Rattle.net_runs.specs.Walkers.{WalkerValue, WalkedState, WalkedEvent, WalkedOutcome, Happening, Happened, WalkRefused, WalkRefusal, Also, N08, N09, N10, N11, N12, N13, IsWalkRefused, IsFirstWalkRefusal, with_walker}
+use Rattle.net_runs.specs.Walkers.{WalkerValue, WalkedState, WalkedEvent, WalkedOutcome, Happening, Happened, WalkRefused, WalkRefusal, IsFirstWalkRefusal, with_walker}
 use Rattle.net_runs.specs.WalkedRuns.{IsForNone}
 use Rattle.net_tables.proofs.Elements.{set_there, set_elsewhere, push_last}
 use Rattle.net_sim.specs.Standing.{TrafficValue, HasNetworkState, Plays, Wants}
 use Rattle.net_sim.specs.WalkedStanding.{NetworkValue, StandsForWalked, WalkedPlays, WalkedWants}
 use Rattle.net_sim.proofs.Slots.{push_elsewhere}
+use Rattle.net_runs.proofs.FirstAsks.{never_refused}
 
 -- the number after two that are the same, or not
 next_eqb : (k i : ℕ) → eqb (k + 1) (i + 1) ≡ eqb k i
@@ -97,16 +98,6 @@ wants_as tables v u e e' same = subst (λ (x : WalkedEvent). WalkedWants tables 
 pub walk_refused : (tables : Tables) (v : NetworkValue) (event : WalkedEvent) (why : WalkRefusal)
     → ((w : WalkedState) → StandsForWalked v w → IsFirstWalkRefusal tables.plan w event why) → WalkedPlays tables v event (WalkRefused why) v
 walk_refused tables v event why first w s = (w, (first w s, refl), s)
-
--- what happens to the network is refused there alone
-pub never_refused : (tables : Tables) (w : WalkedState) (event : EventValue) (why : WalkRefusal) → ¬ IsWalkRefused tables.plan w (Happening event) why
-never_refused tables w event (Also why) refused = refused
-never_refused tables w event N08 refused = refused
-never_refused tables w event N09 refused = refused
-never_refused tables w event N10 refused = refused
-never_refused tables w event N11 refused = refused
-never_refused tables w event N12 refused = refused
-never_refused tables w event N13 refused = refused
 
 -- only a move brings a packet in
 only_moves_bring : (tables : Tables) (w next : NetworkState) (event : EventValue) (flight node : ℕ) (key : KeyValue) (answer : Answer)

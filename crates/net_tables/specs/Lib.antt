@@ -1,6 +1,5 @@
 pub mod Routing
 pub mod TwoPlans
-pub mod EidRuns
 pub mod Rows
 pub mod Ranks
 pub mod Repositories

@@ -1,9 +1,7 @@
 //! What a plan and its certificate say of nodes and their rows, as the rules and the runs of networks read it.
 #![tactic(auto)]
 
-mod eid_run;
 pub mod lookup;
 mod node_tables;
 
-pub use eid_run::EidRun;
 pub use node_tables::{routing_table, routing_tables};

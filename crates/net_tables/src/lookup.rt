@@ -8,7 +8,6 @@ ghost use Rattle.net_tables.specs.Ownership.{owner_of, given_level, level, pool_
 ghost use Rattle.net_tables.specs.Ranks.{rank_in, ranges_of};
 ghost use Rattle.net_tables.specs.Repositories.{terminus_of, records_of, places_of};
 
-use crate::eid_run::EidRun;
 use mctp_bridge::DeviceKind;
 use mctp_transport::Eid;
 use net_plan::{
@@ -141,14 +140,14 @@ pub fn is_in_pool_of(plan: &Plan, node: usize, eid: Eid) -> bool
 pub fn is_in_pool(pool: Pool, eid: Eid) -> bool
     ensures { IsTrue result ↔ IsInPool pool eid.value }
 {
-    EidRun::of_pool(pool).contains(eid)
+    pool.eids().contains(eid)
 }
 
 /// The number after that of the pool's last endpoint ID.
 pub fn pool_end(pool: Pool) -> u16
     ensures { result ≡ pool.first.value + pool.size }
 {
-    EidRun::of_pool(pool).end()
+    pool.eids().end()
 }
 
 /// The ports of a node, none where there is no such node.
@@ -238,14 +237,14 @@ pub fn has_row(plan: &Plan, node: usize, eid: Eid) -> bool
 pub fn covers(row: &Row, eid: Eid) -> bool
     ensures { IsTrue result ↔ Covers row.now eid.value }
 {
-    EidRun::of_row(row).contains(eid)
+    row.eids().contains(eid)
 }
 
 /// The number after that of the row's last endpoint ID.
 pub fn row_end(row: &Row) -> u16
     ensures { result ≡ row.now.first.value + row.now.size }
 {
-    EidRun::of_row(row).end()
+    row.eids().end()
 }
 
 /// The terminus of a node; none where it has none, and where there is no such node.
@@ -327,5 +326,5 @@ pub fn rank_in_ranges(ranges: &[RankRange], eid: u8) -> u8
 pub fn range_end(range: &RankRange) -> u16
     ensures { result ≡ range.now.first.value + range.now.size }
 {
-    EidRun::of_range(range).end()
+    range.eids().end()
 }

@@ -17,4 +17,5 @@ pub use fields::named_fields;
 pub use held::{Held, NamedField};
 pub use made::{MakeError, made_record};
 pub use said::{is_record_of, is_type, says};
+pub use sized::bits_of;
 pub use telling::description;

@@ -2,9 +2,10 @@
 ghost use Rattle.std.specs.Prelude.{◌≡◌, ◌<◌, ◌^◌, get_or};
 ghost use Rattle.record_fields.specs.Named.{bits_of};
 
-/// The number that at most four bytes are, the lowest first.
+/// The number that the first four bytes spell, the lowest first, or fewer bytes where there are no more.
 pub fn bits_of(bytes: &[u8]) -> u64
-    ensures { result ≡ bits_of bytes.now }
+    ensures range { result < 2 ^ 32 }
+    ensures bits { result ≡ bits_of bytes.now }
 {
     byte(bytes, 0) + 256 * byte(bytes, 1) + 65536 * byte(bytes, 2) + 16777216 * byte(bytes, 3)
 }

@@ -1,6 +1,6 @@
 //! H05 and H11: the sensor IDs of sensors, and the readable ranges of numeric ones.
 ghost use Rattle.std.specs.Prelude.{◌≡◌, ◌<◌, ◌≤◌, ◌↔◌, ◌^◌, ◌/◌, ◌%◌, ℕ, length, IsTrue};
-ghost use Rattle.std.specs.Prelude.{IfSome, IsSomeAnd, Some, get_or};
+ghost use Rattle.std.specs.Prelude.{IfSome, IsSomeAnd, Some};
 ghost use Rattle.pdr_record.specs.Layouts.{NumericValue, IsNumeric, width_of};
 ghost use Rattle.pdr_record.specs.Numbers.{size_code};
 ghost use Rattle.pdr_record.specs.NumericValues.{numeric_value};
@@ -13,6 +13,7 @@ use mctp_transport::Wire;
 use net_plan::{Plan, PlannedRecord};
 use net_tables::lookup::record_at;
 use pdr_record::{Body, NUMERIC_SENSOR, NumericSensor, SensorDataSize, has_type};
+use record_fields::bits_of;
 
 /// Whether a node's record is a sensor's, and an earlier one is one of the same sensor ID.
 pub fn shares_sensor_id(plan: &Plan, indexes: &[RecordIndex], node: usize, index: usize) -> bool
@@ -141,16 +142,5 @@ fn number(bytes: &[u8]) -> u64
     ensures range { result < 2 ^ 32 }
     ensures number { result ≡ number_of bytes.now }
 {
-    byte(bytes, 0) + 256 * byte(bytes, 1) + 65536 * byte(bytes, 2) + 16777216 * byte(bytes, 3)
-}
-
-/// A byte, 0 behind the end.
-fn byte(bytes: &[u8], at: usize) -> u64
-    ensures range { result < 256 }
-    ensures byte { result ≡ get_or bytes.now at 0 }
-{
-    match bytes.get(at) {
-        Some(byte) => u64::from(*byte),
-        None => 0,
-    }
+    bits_of(bytes)
 }

@@ -10,7 +10,6 @@ use crate::rule::Rule;
 use crate::spot::Spot;
 use mctp_transport::Eid;
 use net_plan::{Plan, Pool};
-use net_tables::EidRun;
 use net_tables::lookup::{is_bridge, is_in_pool_of, owner_at, pool_at, pool_end};
 
 /// Where the node's endpoint ID lies outside the pool of its owner, or in a pool of a bridge with the same owner.
@@ -158,5 +157,5 @@ fn lies_apart_from_pool_of(plan: &Plan, node: usize, pool: Pool) -> bool
 fn are_apart(pool: Pool, other: Pool) -> bool
     ensures { IsTrue result ↔ ((e : ℕ) → IsInPool pool e → ¬ IsInPool other e) }
 {
-    EidRun::of_pool(pool).is_apart_from(EidRun::of_pool(other))
+    pool.eids().is_apart_from(other.eids())
 }

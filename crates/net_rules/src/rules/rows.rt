@@ -8,7 +8,6 @@ use crate::covered_eids::CoveredEids;
 use crate::rule::Rule;
 use crate::spot::Spot;
 use net_plan::{Plan, Row};
-use net_tables::EidRun;
 use net_tables::lookup::{bus_at, is_bridge, is_on_bus, row_end, rows_at};
 
 /// Where a row is empty or reaches beyond the endpoint IDs that can be held.
@@ -77,7 +76,7 @@ pub(crate) fn is_apart_from_all(row: &Row, others: &[Row]) -> bool
 fn are_apart(row: &Row, other: &Row) -> bool
     ensures { IsTrue result ↔ AreApart row.now other.now }
 {
-    EidRun::of_row(row).is_apart_from(EidRun::of_row(other))
+    row.eids().is_apart_from(other.eids())
 }
 
 /// The first of the node's rows that names no neighbor.

@@ -42,8 +42,8 @@ impl<'a, T: Terminus> Network<'a, T> {
                 tag,
                 count,
             } => self.begin(*node, *eid, *tag, *count),
-            Event::Ask { walker } => self.ask(*walker as usize),
-            Event::Collected { walker } => Ok(self.tell(*walker as usize)),
+            Event::Ask { walker } => self.ask(*walker),
+            Event::Collected { walker } => Ok(self.tell(*walker)),
         }
     }
 }

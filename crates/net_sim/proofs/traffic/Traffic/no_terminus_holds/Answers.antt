@@ -1,7 +1,7 @@
 use Rattle.std.proofs.Common.{ℕ, ◌≡◌, ◌≢◌, length, Option, Some, None, refl, ◌∙◌, ap, arith, below_more}
 use Rattle.net_plan.specs.declared.plan.Plan.{Plan}
 use Rattle.net_tables.specs.Routing.{Holds}
-use Rattle.net_sim.proofs.Settled.{held_within}
+use Rattle.net_tables.proofs.Elements.{holder_within}
 use Rattle.net_sim.proofs.traffic.Traffic.no_terminus_holds.Goals as goal
 
 none_of : {A : Type 0} (o : Option A) → ¬ (o ≢ None) → o ≡ None
@@ -29,6 +29,6 @@ returns g c = λ w s.
     let now = c.args.self.now in
     let many : c.len-node-end.result ≡ length now.router.tables.plan.nodes.items =
     c.len-node-end.ensures ∙ (c.plan.result.now.nodes.ok.0 ∙ ap (λ (p : Plan). length p.nodes.items) c.plan.ensures.plan) in (
-      λ told n holds. c.loop-node.invariant w s n (omega (arith, held_within now.router.tables.plan n c.args.eid.value holds, many, c.loop-node-test.false)) holds,
+      λ told n holds. c.loop-node.invariant w s n (omega (arith, holder_within now.router.tables.plan n c.args.eid.value holds, many, c.loop-node-test.false)) holds,
       λ none. refl,
     )

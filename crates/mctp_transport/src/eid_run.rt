@@ -1,49 +1,19 @@
-//! Endpoint IDs in a row: those of a row, of a pool, or of a rank range.
+//! Endpoint IDs in a row.
 ghost use Rattle.std.specs.Prelude.{◌≡◌, ◌+◌, ◌↔◌, ℕ, IsTrue};
-ghost use Rattle.net_tables.specs.EidRuns.{IsInRun};
+ghost use Rattle.mctp_transport.specs.EidRuns.{IsInRun};
 
-use mctp_transport::Eid;
-use net_plan::{Pool, RankRange, Row};
+use crate::address::Eid;
 
 /// Endpoint IDs in a row, from the first on. They may pass 255, where none is left.
 #[derive(Clone, Copy)]
 pub struct EidRun {
+    /// One byte: the first endpoint ID.
     pub first: Eid,
-    /// How many.
+    /// One byte: how many endpoint IDs.
     pub size: u8,
 }
 
 impl EidRun {
-    /// Those of a row.
-    pub fn of_row(row: &Row) -> Self
-        ensures { result ≡ record { first = row.now.first; size = row.now.size } }
-    {
-        EidRun {
-            first: row.first,
-            size: row.size,
-        }
-    }
-
-    /// Those of a pool.
-    pub fn of_pool(pool: Pool) -> Self
-        ensures { result ≡ record { first = pool.first; size = pool.size } }
-    {
-        EidRun {
-            first: pool.first,
-            size: pool.size,
-        }
-    }
-
-    /// Those of a rank range.
-    pub fn of_range(range: &RankRange) -> Self
-        ensures { result ≡ record { first = range.now.first; size = range.now.size } }
-    {
-        EidRun {
-            first: range.first,
-            size: range.size,
-        }
-    }
-
     /// The number after that of the last one.
     pub fn end(self) -> u16
         ensures { result ≡ self.first.value + self.size }

@@ -1,6 +1,6 @@
 -- Endpoint IDs in a row.
 use Rattle.std.specs.Prelude.{ℕ, ◌+◌, ◌<◌, ◌≤◌}
-use Rattle.net_tables.specs.declared.eid_run.EidRun.{EidRun}
+use Rattle.mctp_transport.specs.declared.eid_run.EidRun.{EidRun}
 
 -- e is one of the run's
 abbrev pub IsInRun : EidRun → ℕ → Type 0
