@@ -1,12 +1,11 @@
 -- What is read of a certificate is what the relation tells.
 use Rattle.std.proofs.Common.{◌≡◌, ℕ, suc, ◌+◌, ◌≤◌, List, [], ◌∷◌, length, Bool, true, false, cond, nat_le, nat_lt, ◌&&◌, Some, None, Ok, refl, sym, ap, ◌∙◌, subst, true≢false, codes, arith}
-use Rattle.std.proofs.lemmas.Bool.{leb-true, le-leb}
+use Rattle.std.proofs.lemmas.Bool.{and_from, leb-true, le-leb}
 use Rattle.std.proofs.lemmas.List.Elements.{All-from_recursion, recursion_from_All}
 use Rattle.std.proofs.lemmas.List.Kept.{AllPairs-cons}
 use Rattle.std.specs.List.{AllByRecursion, list_all}
 use Rattle.serde_json.specs.Data.{Data, Items, no_items, item}
-use Rattle.net_plan.specs.CertificateValues.{IsAscending, are_known}
-use Rattle.net_plan.specs.CertificateValues.{LevelValue, PlacesValue, RangeValue, NodeRanksValue, CertificateValue}
+use Rattle.net_plan.specs.CertificateValues.{IsAscending, are_known, LevelValue, PlacesValue, RangeValue, NodeRanksValue, CertificateValue}
 use Rattle.net_plan.specs.PlanValues.{PlanValue, node_names}
 use Rattle.net_json.specs.CertificateReading.{nodes_differ, ascends, entries_differ, tested, certificate}
 use Rattle.net_json.specs.CertificateText.{IsLevelOf, ArePlacesOf, IsRangeOf, AreRanksOf, IsCertificateOf}
@@ -23,7 +22,7 @@ use Rattle.net_json.specs.Tables.{a_number, a_node_name, a_level, a_node_places,
 use Rattle.net_json.specs.declared.error.ValueFault.TheVariants.{UnknownName, Doubled}
 use Rattle.net_json.specs.declared.shape.Named.TheVariants.{Nodes}
 use Rattle.net_json.proofs.Fitting.{none_fits, fits_none, forget, unrefused}
-use Rattle.net_json.proofs.Makes.{Made, MadeAt, number_makes, number_made, index_made, at_makes, list_makes, any_makes, one_there, one_back, both_true}
+use Rattle.net_json.proofs.Makes.{Made, MadeAt, number_makes, number_made, index_made, at_makes, list_makes, any_makes, one_there, one_back}
 use Rattle.net_json.proofs.OneEach.{at_tells, at_told}
 use Rattle.net_json.proofs.WordsLaw.{number_at as number_told}
 use Rattle.net_json.proofs.Telling.{Tells, any, same_Ok, then_Ok, demanded, both}
@@ -194,21 +193,19 @@ module _ (nodes : List (List ℕ)) where
 
   ascending : (ds : Items) (rs : List NodeRanksValue) → list_all (λ r. ascends 0 r.ranges) rs ≡ true → AreItems AreRangesOf ds rs → AreItems (AreRanksOf nodes) ds rs
   ascending no_items [] e h = tt
-  ascending no_items (r ∷ rs) e h = absurd h
-  ascending (item d ds) [] e h = absurd h
   ascending (item d ds) (r ∷ rs) e h =
       let p = both (ascends 0 r.ranges) (list_all (λ (r : NodeRanksValue). ascends 0 r.ranges) rs) e in
       (record { keys = h.0.keys; node = h.0.node; ranges = h.0.ranges; ascending = (ascends_sound 0 r.ranges p.0).1 }, ascending ds rs p.1 h.1)
+  ascending ds rs e h = absurd h
 
   ascended : (ds : Items) (rs : List NodeRanksValue) → AreItems (AreRanksOf nodes) ds rs → (list_all (λ r. ascends 0 r.ranges) rs ≡ true) × AreItems AreRangesOf ds rs
   ascended no_items [] h = (refl, tt)
-  ascended no_items (r ∷ rs) h = absurd h
-  ascended (item d ds) [] h = absurd h
   ascended (item d ds) (r ∷ rs) h =
       let rest = ascended ds rs h.1 in (
-        both_true (ascends 0 r.ranges) (list_all (λ (r : NodeRanksValue). ascends 0 r.ranges) rs) (ascends_whole 0 r.ranges (all_low r.ranges) h.0.ascending) rest.0,
+        and_from (ascends 0 r.ranges) (list_all (λ (r : NodeRanksValue). ascends 0 r.ranges) rs) (ascends_whole 0 r.ranges (all_low r.ranges) h.0.ascending) rest.0,
         (record { keys = h.0.keys; node = h.0.node; ranges = h.0.ranges }, rest.1),
       )
+  ascended ds rs h = absurd h
 
 -- ---- certificates
 

@@ -1,5 +1,6 @@
 -- That no name stands twice.
 use Rattle.std.proofs.Common.{◌≡◌, ◌≢◌, ℕ, suc, List, [], ◌∷◌, ◌++◌, Bool, true, false, not, ◌&&◌, ◌||◌, refl, sym, ap, ◌∙◌, true≢false, arith, AllPairs}
+use Rattle.std.proofs.lemmas.Bool.{not-true}
 use Rattle.std.proofs.lemmas.List.Elements.{All-from_recursion, recursion_from_All}
 use Rattle.std.proofs.lemmas.List.Kept.{AllPairs-cons}
 use Rattle.std.proofs.lemmas.Slice.Eq.{bytes_eq-Decides}
@@ -8,10 +9,6 @@ use Rattle.std.specs.Str.{bytes_eq}
 use Rattle.net_json.specs.Json.{is_among}
 use Rattle.net_json.specs.Names.{are_new, names_differ}
 use Rattle.net_json.proofs.Telling.{both}
-
-not_true : (b : Bool) → not b ≡ true → b ≡ false
-not_true false e = refl
-not_true true e = absurd (true≢false (sym e))
 
 -- a name that is not among these and one more is not among these, and not that one
 not_among-push : (seen : List (List ℕ)) (n q : List ℕ) → is_among (seen ++ n ∷ []) q ≡ false → (is_among seen q ≡ false) × (n ≢ q)
@@ -54,7 +51,7 @@ new_sound seen (n ∷ ns) e =
     let p = both (not (is_among seen n)) (are_new (seen ++ n ∷ []) ns) e in
     let rest = new_sound (seen ++ n ∷ []) ns p.1 in
     let before = unseen_before seen n ns rest.0 in
-    ((not_true (is_among seen n) p.0, before.0), AllPairs-cons (λ a b. a ≢ b) n ns (All-from_recursion (λ q. n ≢ q) ns before.1) rest.1)
+    ((not-true (is_among seen n) p.0, before.0), AllPairs-cons (λ a b. a ≢ b) n ns (All-from_recursion (λ q. n ≢ q) ns before.1) rest.1)
 
 new_whole : (seen ns : List (List ℕ)) → AreUnseen seen ns → AllPairs (λ a b. a ≢ b) ns → are_new seen ns ≡ true
 new_whole seen [] unseen h = refl

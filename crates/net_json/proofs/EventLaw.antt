@@ -3,9 +3,10 @@ use Rattle.std.proofs.Common.{◌≡◌, ◌≢◌, ℕ, zero, suc, ◌≤◌, �
 use Rattle.std.proofs.lemmas.Slice.Eq.{bytes_eq-Decides}
 use Rattle.std.specs.List.{list_all}
 use Rattle.std.specs.Str.{bytes_eq}
+use Rattle.mctp_transport.specs.PacketValues.{bit}
 use Rattle.serde_json.specs.Data.{Data, string}
 use Rattle.net_json.specs.EventReading.{format_of, events_format, events_tested, events}
-use Rattle.net_json.specs.EventText.{Does, IsPutOf, IsMoveOf, IsLoseOf, IsBit, IsExpireOf, IsAnswerOf, IsSwitchOf, IsWalkOf, IsAskOf, IsCollectedOf, IsEventOf, IsFormat, AreEventsOf}
+use Rattle.net_json.specs.EventText.{Does, IsBit, IsEventOf, IsFormat, AreEventsOf}
 use Rattle.net_plan.specs.EventValues.{EventEntry, put, move, lose, expire, answer, switch, walk, ask, collected, is_known_event}
 use Rattle.net_json.specs.Finding.{first_fault, refused}
 use Rattle.net_json.specs.Fitting.{IsOneOf, HasAt, Either, Fits, ChoiceFits}
@@ -32,10 +33,8 @@ use Rattle.net_json.proofs.Telling.{Tells, any, same_Ok, then_Ok, demanded}
 
 pub format_found : (d : Data) (n : ℕ) → IsNumberWithin 1 3 d n → IsFormat d (format_of n)
 format_found d zero h = let low : 1 ≤ 0 = h.1 in absurd (omega arith)
-format_found d (suc zero) h = h.0
-format_found d (suc (suc zero)) h = h.0
-format_found d (suc (suc (suc zero))) h = h.0
 format_found d (suc (suc (suc (suc n)))) h = let high : suc (suc (suc (suc n))) ≤ 3 = h.2 in absurd (omega arith)
+format_found d n h = h.0
 
 abbrev number_of : Format → ℕ
 number_of One = 1
@@ -44,13 +43,11 @@ number_of Three = 3
 
 numbered : (d : Data) (f : Format) → IsFormat d f → IsNumberWithin 1 3 d (number_of f)
 numbered d One h = (h, omega arith, omega arith)
-numbered d Two h = (h, omega arith, omega arith)
-numbered d Three h = (h, omega arith, omega arith)
+numbered d f h = (h, omega arith, omega arith)
 
 number_back : (f : Format) → format_of (number_of f) ≡ f
 number_back One = refl
-number_back Two = refl
-number_back Three = refl
+number_back f = refl
 
 format_at : (k : Known) → MadeAt k (codes "format") (a_number 1 3) (number_at (codes "format") 1 3) any (IsNumberWithin 1 3)
 format_at k = number_made k (codes "format") 1 3
@@ -61,13 +58,8 @@ format_same k d f h = ap format_of ((format_at k).same d (number_of f) (h.0, h.1
 -- ---- the owner's bit
 
 bit_found : (d : Data) (n : ℕ) → IsNumberWithin 0 1 d n → IsBit d (n == 1)
-bit_found d zero h = h.0
-bit_found d (suc zero) h = h.0
 bit_found d (suc (suc n)) h = let high : suc (suc n) ≤ 1 = h.2 in absurd (omega arith)
-
-abbrev bit : Bool → ℕ
-bit true = 1
-bit false = 0
+bit_found d n h = h.0
 
 bit_within : (d : Data) (b : Bool) → IsBit d b → IsNumberWithin 0 1 d (bit b)
 bit_within d true h = (h, omega arith, omega arith)
@@ -152,52 +144,6 @@ module _ (nodes : List (List ℕ)) where
   count_law : MadeAt known (codes "count") (a_number 8 4079) (number_at (codes "count") 8 4079) any (IsNumberWithin 8 4079)
   count_law = number_made known (codes "count") 8 4079
 
-  -- ---- there
-
-  put_there : (d : Data) → Fits (Some known) a_put d → IsPutOf nodes d (node_at find d) (hex_at d)
-  put_there d h = record { keys = h.0; does = only (codes "put") d h.1.0; at_node = node_law.there d h.1.1.0; packet = bytes_law.there d h.1.1.1.0 }
-
-  move_there : (d : Data) → Fits (Some known) a_move d → IsMoveOf d (word_at (codes "flight") d) (truth_at (codes "keep") d)
-  move_there d h = record { keys = h.0; does = only (codes "move") d h.1.0; number = flight_law.there d h.1.1.0; kept = keep_law.there d h.1.1.1.0 }
-
-  lose_there : (d : Data) → Fits (Some known) a_lose d → IsLoseOf d (word_at (codes "flight") d)
-  lose_there d h = record { keys = h.0; does = only (codes "lose") d h.1.0; number = flight_law.there d h.1.1.0 }
-
-  expire_there : (d : Data) → Fits (Some known) an_expire d → IsExpireOf nodes d (node_at find d) (number_at (codes "source") 0 255 d) (number_at (codes "tag") 0 7 d) (number_at (codes "owner") 0 1 d == 1)
-  expire_there d h =
-      let o = owner_law.there d h.1.1.1.1.1.0 in
-      record {
-        keys = h.0;
-        does = only (codes "expire") d h.1.0;
-        at_node = node_law.there d h.1.1.0;
-        from = source_law.there d h.1.1.1.0;
-        tagged = tag_law.there d h.1.1.1.1.0;
-        owned = (o.0, o.1, bit_found o.0 (number_at (codes "owner") 0 1 d) o.2);
-      }
-
-  answer_there : (d : Data) → Fits (Some known) an_answer d → IsAnswerOf nodes d (node_at find d)
-  answer_there d h = record { keys = h.0; does = only (codes "answer") d h.1.0; at_node = node_law.there d h.1.1.0 }
-
-  switch_there : (f : Format) (d : Data) → f ≢ One → Fits (Some known) a_switch d → IsSwitchOf f nodes d (node_at find d)
-  switch_there f d later h = record { later = later; keys = h.0; does = only (codes "switch") d h.1.0; at_node = node_law.there d h.1.1.0 }
-
-  walk_there : (d : Data) → Fits (Some known) a_walk d → IsWalkOf Three nodes d (node_at find d) (number_at (codes "eid") 8 254 d) (number_at (codes "tag") 0 7 d) (number_at (codes "count") 8 4079 d)
-  walk_there d h = record {
-    third = refl;
-    keys = h.0;
-    does = only (codes "walk") d h.1.0;
-    at_node = node_law.there d h.1.1.0;
-    asked = eid_law.there d h.1.1.1.0;
-    tagged = tag_law.there d h.1.1.1.1.0;
-    counted = count_law.there d h.1.1.1.1.1.0;
-  }
-
-  ask_there : (d : Data) → Fits (Some known) an_ask d → IsAskOf Three d (word_at (codes "walker") d)
-  ask_there d h = record { third = refl; keys = h.0; does = only (codes "ask") d h.1.0; number = walker_law.there d h.1.1.0 }
-
-  collected_there : (d : Data) → Fits (Some known) a_collected d → IsCollectedOf Three d (word_at (codes "walker") d)
-  collected_there d h = record { third = refl; keys = h.0; does = only (codes "collected") d h.1.0; number = walker_law.there d h.1.1.0 }
-
   -- what is made where the word is none of format 1
   abbrev later_by : List ℕ → Data → EventEntry
   later_by w d =
@@ -242,15 +188,32 @@ module _ (nodes : List (List ℕ)) where
 
   event_there : (f : Format) (d : Data) → Fits (Some known) (an_event f) d → IsEventOf f nodes d (event_made find d)
   event_there f d h = event_is (IsEventOf f nodes) f (record {
-    puts = put_there;
-    moves = move_there;
-    loses = lose_there;
-    expires = expire_there;
-    answers = answer_there;
-    switches = switch_there f;
-    walks = λ d third h. subst (λ f. IsEventOf f nodes d (walk_made find d)) (sym third) (walk_there d h);
-    asks = λ d third h. subst (λ f. IsEventOf f nodes d (ask (word_at (codes "walker") d))) (sym third) (ask_there d h);
-    collects = λ d third h. subst (λ f. IsEventOf f nodes d (collected (word_at (codes "walker") d))) (sym third) (collected_there d h);
+    puts = λ d h. record { keys = h.0; does = only (codes "put") d h.1.0; at_node = node_law.there d h.1.1.0; packet = bytes_law.there d h.1.1.1.0 };
+    moves = λ d h. record { keys = h.0; does = only (codes "move") d h.1.0; number = flight_law.there d h.1.1.0; kept = keep_law.there d h.1.1.1.0 };
+    loses = λ d h. record { keys = h.0; does = only (codes "lose") d h.1.0; number = flight_law.there d h.1.1.0 };
+    expires = λ d h.
+        let o = owner_law.there d h.1.1.1.1.1.0 in
+        record {
+          keys = h.0;
+          does = only (codes "expire") d h.1.0;
+          at_node = node_law.there d h.1.1.0;
+          from = source_law.there d h.1.1.1.0;
+          tagged = tag_law.there d h.1.1.1.1.0;
+          owned = (o.0, o.1, bit_found o.0 (number_at (codes "owner") 0 1 d) o.2);
+        };
+    answers = λ d h. record { keys = h.0; does = only (codes "answer") d h.1.0; at_node = node_law.there d h.1.1.0 };
+    switches = λ d later h. record { later = later; keys = h.0; does = only (codes "switch") d h.1.0; at_node = node_law.there d h.1.1.0 };
+    walks = λ d third h. record {
+      third = third;
+      keys = h.0;
+      does = only (codes "walk") d h.1.0;
+      at_node = node_law.there d h.1.1.0;
+      asked = eid_law.there d h.1.1.1.0;
+      tagged = tag_law.there d h.1.1.1.1.0;
+      counted = count_law.there d h.1.1.1.1.1.0;
+    };
+    asks = λ d third h. record { third = third; keys = h.0; does = only (codes "ask") d h.1.0; number = walker_law.there d h.1.1.0 };
+    collects = λ d third h. record { third = third; keys = h.0; does = only (codes "collected") d h.1.0; number = walker_law.there d h.1.1.0 };
   }) d h
 
   event_passes : (f : Format) (d : Data) → Fits (Some known) (an_event f) d → passes (event_made find d) ≡ true
@@ -268,41 +231,6 @@ module _ (nodes : List (List ℕ)) where
 
   -- ---- back
 
-  put_back : (d : Data) (n : ℕ) (b : List ℕ) → IsPutOf nodes d n b → Fits (Some known) a_put d
-  put_back d n b h = (h.keys, (one (codes "put") d h.does, (node_law.back d n h.at_node, (bytes_law.back d b h.packet, tt))), tt)
-
-  move_back : (d : Data) (n : ℕ) (b : Bool) → IsMoveOf d n b → Fits (Some known) a_move d
-  move_back d n b h = (h.keys, (one (codes "move") d h.does, (flight_law.back d n h.number, (keep_law.back d b h.kept, tt))), tt)
-
-  lose_back : (d : Data) (n : ℕ) → IsLoseOf d n → Fits (Some known) a_lose d
-  lose_back d n h = (h.keys, (one (codes "lose") d h.does, (flight_law.back d n h.number, tt)), tt)
-
-  expire_back : (d : Data) (n s t : ℕ) (o : Bool) → IsExpireOf nodes d n s t o → Fits (Some known) an_expire d
-  expire_back d n s t o h = (
-    h.keys,
-    (one (codes "expire") d h.does, (node_law.back d n h.at_node, (source_law.back d s h.from, (tag_law.back d t h.tagged, (owner_law.back d (bit o) (h.owned.0, h.owned.1, bit_within h.owned.0 o h.owned.2), tt))))),
-    tt,
-  )
-
-  answer_back : (d : Data) (n : ℕ) → IsAnswerOf nodes d n → Fits (Some known) an_answer d
-  answer_back d n h = (h.keys, (one (codes "answer") d h.does, (node_law.back d n h.at_node, tt)), tt)
-
-  switch_back : (f : Format) (d : Data) (n : ℕ) → IsSwitchOf f nodes d n → Fits (Some known) a_switch d
-  switch_back f d n h = (h.keys, (one (codes "switch") d h.does, (node_law.back d n h.at_node, tt)), tt)
-
-  walk_back : (f : Format) (d : Data) (n e t c : ℕ) → IsWalkOf f nodes d n e t c → Fits (Some known) a_walk d
-  walk_back f d n e t c h = (
-    h.keys,
-    (one (codes "walk") d h.does, (node_law.back d n h.at_node, (eid_law.back d e h.asked, (tag_law.back d t h.tagged, (count_law.back d c h.counted, tt))))),
-    tt,
-  )
-
-  ask_back : (f : Format) (d : Data) (n : ℕ) → IsAskOf f d n → Fits (Some known) an_ask d
-  ask_back f d n h = (h.keys, (one (codes "ask") d h.does, (walker_law.back d n h.number, tt)), tt)
-
-  collected_back : (f : Format) (d : Data) (n : ℕ) → IsCollectedOf f d n → Fits (Some known) a_collected d
-  collected_back f d n h = (h.keys, (one (codes "collected") d h.does, (walker_law.back d n h.number, tt)), tt)
-
   -- an event with a word that its format has
   chosen : (f : Format) (w : List ℕ) (d : Data) → Does w d → is_among (keys_of (event_choices f)) w ≡ true → ChoiceFits (Some known) (event_choices f) w d → Fits (Some known) (an_event f) d
   chosen f w d does among h = (does.0, does.1, ((w, does.2, among_Contains (keys_of (event_choices f)) w among), subst (λ e. ChoiceFits (Some known) (event_choices f) (text_of e) d) (sym does.2) h))
@@ -311,17 +239,20 @@ module _ (nodes : List (List ℕ)) where
   walks_back f w d third does among h = subst (λ f. Fits (Some known) (an_event f) d) (sym third) (chosen Three w d does among h)
 
   event_back : (f : Format) (d : Data) (e : EventEntry) → IsEventOf f nodes d e → Fits (Some known) (an_event f) d
-  event_back f d (put n b) h = chosen f (codes "put") d h.does refl (put_back d n b h)
-  event_back f d (move n b) h = chosen f (codes "move") d h.does refl (move_back d n b h)
-  event_back f d (lose n) h = chosen f (codes "lose") d h.does refl (lose_back d n h)
-  event_back f d (expire n s t o) h = chosen f (codes "expire") d h.does refl (expire_back d n s t o h)
-  event_back f d (answer n) h = chosen f (codes "answer") d h.does refl (answer_back d n h)
+  event_back f d (put n b) h = chosen f (codes "put") d h.does refl (h.keys, (one (codes "put") d h.does, (node_law.back d n h.at_node, (bytes_law.back d b h.packet, tt))), tt)
+  event_back f d (move n b) h = chosen f (codes "move") d h.does refl (h.keys, (one (codes "move") d h.does, (flight_law.back d n h.number, (keep_law.back d b h.kept, tt))), tt)
+  event_back f d (lose n) h = chosen f (codes "lose") d h.does refl (h.keys, (one (codes "lose") d h.does, (flight_law.back d n h.number, tt)), tt)
+  event_back f d (expire n s t o) h =
+      let owned = owner_law.back d (bit o) (h.owned.0, h.owned.1, bit_within h.owned.0 o h.owned.2) in
+      chosen f (codes "expire") d h.does refl (h.keys, (one (codes "expire") d h.does, (node_law.back d n h.at_node, (source_law.back d s h.from, (tag_law.back d t h.tagged, (owned, tt))))), tt)
+  event_back f d (answer n) h = chosen f (codes "answer") d h.does refl (h.keys, (one (codes "answer") d h.does, (node_law.back d n h.at_node, tt)), tt)
   event_back One d (switch n) h = absurd (h.later refl)
-  event_back Two d (switch n) h = chosen Two (codes "switch") d h.does refl (switch_back Two d n h)
-  event_back Three d (switch n) h = chosen Three (codes "switch") d h.does refl (switch_back Three d n h)
-  event_back f d (walk n e t c) h = walks_back f (codes "walk") d h.third h.does refl (walk_back f d n e t c h)
-  event_back f d (ask n) h = walks_back f (codes "ask") d h.third h.does refl (ask_back f d n h)
-  event_back f d (collected n) h = walks_back f (codes "collected") d h.third h.does refl (collected_back f d n h)
+  event_back Two d (switch n) h = chosen Two (codes "switch") d h.does refl (h.keys, (one (codes "switch") d h.does, (node_law.back d n h.at_node, tt)), tt)
+  event_back Three d (switch n) h = chosen Three (codes "switch") d h.does refl (h.keys, (one (codes "switch") d h.does, (node_law.back d n h.at_node, tt)), tt)
+  event_back f d (walk n e t c) h =
+      walks_back f (codes "walk") d h.third h.does refl (h.keys, (one (codes "walk") d h.does, (node_law.back d n h.at_node, (eid_law.back d e h.asked, (tag_law.back d t h.tagged, (count_law.back d c h.counted, tt))))), tt)
+  event_back f d (ask n) h = walks_back f (codes "ask") d h.third h.does refl (h.keys, (one (codes "ask") d h.does, (walker_law.back d n h.number, tt)), tt)
+  event_back f d (collected n) h = walks_back f (codes "collected") d h.third h.does refl (h.keys, (one (codes "collected") d h.does, (walker_law.back d n h.number, tt)), tt)
 
   -- ---- the same
 

@@ -1,7 +1,7 @@
 -- What is gathered of an event, as a value.
 use Rattle.std.proofs.Common.{◌≡◌, ◌∙◌, ◌+◌, ◌≤◌, ◌&&◌, ◌||◌, ℕ, List, [], ◌∷◌, map, Bor, Bool, Vec, Global, true, false, not, cond, is_some, Option, Some, None, codes, ap, sym, subst, refl, arith}
 use Rattle.std.specs.List.{list_any}
-use Rattle.json.specs.Json.{Json, object, Members, no_members}
+use Rattle.json.specs.Json.{Json, object, Members}
 use Rattle.json.specs.Find.{get_member}
 use Rattle.mctp_transport.specs.declared.address.Tag.{Tag}
 use Rattle.serde_json.specs.Data.{Data}
@@ -15,10 +15,7 @@ use Rattle.net_json.specs.Keys.{put_keys, move_keys, lose_keys, expire_keys, ans
 use Rattle.net_json.specs.PlanText.{IsByte, IsWord}
 use Rattle.net_json.specs.Trees.{data_of}
 use Rattle.net_json.specs.declared.event_parts.EventParts.{EventParts}
-use Rattle.net_json.proofs.Gathered.{none_plain, at_gathered, all_keys, only_keys, object_plain, placed_at, look, at_key, here}
-
-pub no_parts : AreParts (event_slots (record { does = None; node = None; bytes = None; flight = None; keep = None; source = None; tag = None; owner = None; eid = None; count = None; walker = None })) no_members
-no_parts = record { plain = none_plain _; read = (refl, (refl, (refl, (refl, (refl, (refl, (refl, (refl, (refl, (refl, (refl, tt))))))))))) }
+use Rattle.net_json.proofs.Gathered.{at_gathered, all_keys, only_keys, object_plain, placed_at, look, at_key, here}
 
 -- ---- as many keys as an event has
 
@@ -93,43 +90,23 @@ module _ (p : EventParts) (ms : Members) (h : AreParts (event_slots p) ms) where
   put_of find node bytes index count is_node is_bytes is_index does =
       let node_here = here (codes "node") (λ d name. IsName d name.now) p.node ms (there (codes "node")) node is_node in
       let bytes_here = here (codes "bytes") (λ d v. IsHex d v.items) p.bytes ms (there (codes "bytes")) bytes is_bytes in
-      let keyed = exactly put_keys 2 count (ap given does.1) (rw (does.1, node_here.1, bytes_here.1) refl) (rw (does.1, node_here.1, bytes_here.1) refl) in (
-        λ names places. record {
-          keys = keyed.0;
-          does = at_gathered (codes "do") IsString (codes "put") ms does;
-          at_node = placed_at names find places node.now index is_index ms node_here;
-          packet = at_gathered (codes "bytes") IsHex bytes.items ms bytes_here;
-        },
-        keyed.1,
-      )
+      let keyed = exactly put_keys 2 count (ap given does.1) (rw (does.1, node_here.1, bytes_here.1) refl) (rw (does.1, node_here.1, bytes_here.1) refl) in
+      (λ names places. record { keys = keyed.0; does = at_gathered (codes "do") IsString (codes "put") ms does; at_node = placed_at names find places node.now index is_index (data_of (object ms)) node_here.2; packet = bytes_here.2 }, keyed.1)
 
   pub move_of : (find : List ℕ → Option ℕ) (flight : ℕ) (keep : Bool) → keys_given p ≡ 2 → p.flight ≡ Some flight → p.keep ≡ Some keep → IsGathered (codes "do") IsString (Some (codes "move")) ms
       → IsEventBy find (data_of (object ms)) (move flight keep) × IsPlain (object ms)
   move_of find flight keep count is_flight is_keep does =
       let flight_here = here (codes "flight") IsWord p.flight ms (there (codes "flight")) flight is_flight in
       let keep_here = here (codes "keep") IsTruth p.keep ms (there (codes "keep")) keep is_keep in
-      let keyed = exactly move_keys 2 count (ap given does.1) (rw (does.1, flight_here.1, keep_here.1) refl) (rw (does.1, flight_here.1, keep_here.1) refl) in (
-        λ names places. record {
-          keys = keyed.0;
-          does = at_gathered (codes "do") IsString (codes "move") ms does;
-          number = at_gathered (codes "flight") IsWord flight ms flight_here;
-          kept = at_gathered (codes "keep") IsTruth keep ms keep_here;
-        },
-        keyed.1,
-      )
+      let keyed = exactly move_keys 2 count (ap given does.1) (rw (does.1, flight_here.1, keep_here.1) refl) (rw (does.1, flight_here.1, keep_here.1) refl) in
+      (λ names places. record { keys = keyed.0; does = at_gathered (codes "do") IsString (codes "move") ms does; number = flight_here.2; kept = keep_here.2 }, keyed.1)
 
   pub lose_of : (find : List ℕ → Option ℕ) (flight : ℕ) → keys_given p ≡ 1 → p.flight ≡ Some flight → IsGathered (codes "do") IsString (Some (codes "lose")) ms
       → IsEventBy find (data_of (object ms)) (lose flight) × IsPlain (object ms)
   lose_of find flight count is_flight does =
       let flight_here = here (codes "flight") IsWord p.flight ms (there (codes "flight")) flight is_flight in
-      let keyed = exactly lose_keys 1 count (ap given does.1) (rw (does.1, flight_here.1) refl) (rw (does.1, flight_here.1) refl) in (
-        λ names places. record {
-          keys = keyed.0;
-          does = at_gathered (codes "do") IsString (codes "lose") ms does;
-          number = at_gathered (codes "flight") IsWord flight ms flight_here;
-        },
-        keyed.1,
-      )
+      let keyed = exactly lose_keys 1 count (ap given does.1) (rw (does.1, flight_here.1) refl) (rw (does.1, flight_here.1) refl) in
+      (λ names places. record { keys = keyed.0; does = at_gathered (codes "do") IsString (codes "lose") ms does; number = flight_here.2 }, keyed.1)
 
   pub expire_of : (find : List ℕ → Option ℕ) (node : Bor (List ℕ)) (source : ℕ) (tag : Tag) (owner : Bool) (index : ℕ) → keys_given p ≡ 4 → p.node ≡ Some node → p.source ≡ Some source → p.tag ≡ Some tag → p.owner ≡ Some owner → find node.now ≡ Some index → IsGathered (codes "do") IsString (Some (codes "expire")) ms
       → IsEventBy find (data_of (object ms)) (expire index source tag.value owner) × IsPlain (object ms)
@@ -138,44 +115,22 @@ module _ (p : EventParts) (ms : Members) (h : AreParts (event_slots p) ms) where
       let source_here = here (codes "source") IsByte p.source ms (there (codes "source")) source is_source in
       let tag_here = here (codes "tag") (λ d tag. IsNumberWithin 0 7 d tag.value) p.tag ms (there (codes "tag")) tag is_tag in
       let owner_here = here (codes "owner") IsBit p.owner ms (there (codes "owner")) owner is_owner in
-      let keyed = exactly expire_keys 4 count (ap given does.1) (rw (does.1, node_here.1, source_here.1, tag_here.1, owner_here.1) refl) (rw (does.1, node_here.1, source_here.1, tag_here.1, owner_here.1) refl) in (
-        λ names places. record {
-          keys = keyed.0;
-          does = at_gathered (codes "do") IsString (codes "expire") ms does;
-          at_node = placed_at names find places node.now index is_index ms node_here;
-          from = at_gathered (codes "source") IsByte source ms source_here;
-          tagged = at_gathered (codes "tag") (IsNumberWithin 0 7) tag.value ms tag_here;
-          owned = at_gathered (codes "owner") IsBit owner ms owner_here;
-        },
-        keyed.1,
-      )
+      let keyed = exactly expire_keys 4 count (ap given does.1) (rw (does.1, node_here.1, source_here.1, tag_here.1, owner_here.1) refl) (rw (does.1, node_here.1, source_here.1, tag_here.1, owner_here.1) refl) in
+      (λ names places. record { keys = keyed.0; does = at_gathered (codes "do") IsString (codes "expire") ms does; at_node = placed_at names find places node.now index is_index (data_of (object ms)) node_here.2; from = source_here.2; tagged = tag_here.2; owned = owner_here.2 }, keyed.1)
 
   pub answer_of : (find : List ℕ → Option ℕ) (node : Bor (List ℕ)) (index : ℕ) → keys_given p ≡ 1 → p.node ≡ Some node → find node.now ≡ Some index → IsGathered (codes "do") IsString (Some (codes "answer")) ms
       → IsEventBy find (data_of (object ms)) (answer index) × IsPlain (object ms)
   answer_of find node index count is_node is_index does =
       let node_here = here (codes "node") (λ d name. IsName d name.now) p.node ms (there (codes "node")) node is_node in
-      let keyed = exactly answer_keys 1 count (ap given does.1) (rw (does.1, node_here.1) refl) (rw (does.1, node_here.1) refl) in (
-        λ names places. record {
-          keys = keyed.0;
-          does = at_gathered (codes "do") IsString (codes "answer") ms does;
-          at_node = placed_at names find places node.now index is_index ms node_here;
-        },
-        keyed.1,
-      )
+      let keyed = exactly answer_keys 1 count (ap given does.1) (rw (does.1, node_here.1) refl) (rw (does.1, node_here.1) refl) in
+      (λ names places. record { keys = keyed.0; does = at_gathered (codes "do") IsString (codes "answer") ms does; at_node = placed_at names find places node.now index is_index (data_of (object ms)) node_here.2 }, keyed.1)
 
   pub switch_of : (find : List ℕ → Option ℕ) (node : Bor (List ℕ)) (index : ℕ) → keys_given p ≡ 1 → p.node ≡ Some node → find node.now ≡ Some index → IsGathered (codes "do") IsString (Some (codes "switch")) ms
       → IsEventBy find (data_of (object ms)) (switch index) × IsPlain (object ms)
   switch_of find node index count is_node is_index does =
       let node_here = here (codes "node") (λ d name. IsName d name.now) p.node ms (there (codes "node")) node is_node in
-      let keyed = exactly switch_keys 1 count (ap given does.1) (rw (does.1, node_here.1) refl) (rw (does.1, node_here.1) refl) in (
-        λ names places. record {
-          later = λ e. cc;
-          keys = keyed.0;
-          does = at_gathered (codes "do") IsString (codes "switch") ms does;
-          at_node = placed_at names find places node.now index is_index ms node_here;
-        },
-        keyed.1,
-      )
+      let keyed = exactly switch_keys 1 count (ap given does.1) (rw (does.1, node_here.1) refl) (rw (does.1, node_here.1) refl) in
+      (λ names places. record { later = λ e. cc; keys = keyed.0; does = at_gathered (codes "do") IsString (codes "switch") ms does; at_node = placed_at names find places node.now index is_index (data_of (object ms)) node_here.2 }, keyed.1)
 
   pub walk_of : (find : List ℕ → Option ℕ) (node : Bor (List ℕ)) (eid : ℕ) (tag : Tag) (count : ℕ) (index : ℕ) → keys_given p ≡ 4 → p.node ≡ Some node → p.eid ≡ Some eid → p.tag ≡ Some tag → p.count ≡ Some count → find node.now ≡ Some index → IsGathered (codes "do") IsString (Some (codes "walk")) ms
       → IsEventBy find (data_of (object ms)) (walk index eid tag.value count) × IsPlain (object ms)
@@ -184,47 +139,23 @@ module _ (p : EventParts) (ms : Members) (h : AreParts (event_slots p) ms) where
       let eid_here = here (codes "eid") (IsNumberWithin 8 254) p.eid ms (there (codes "eid")) eid is_eid in
       let tag_here = here (codes "tag") (λ d tag. IsNumberWithin 0 7 d tag.value) p.tag ms (there (codes "tag")) tag is_tag in
       let count_here = here (codes "count") (IsNumberWithin 8 4079) p.count ms (there (codes "count")) count is_count in
-      let keyed = exactly walk_keys 4 number (ap given does.1) (rw (does.1, node_here.1, eid_here.1, tag_here.1, count_here.1) refl) (rw (does.1, node_here.1, eid_here.1, tag_here.1, count_here.1) refl) in (
-        λ names places. record {
-          third = refl;
-          keys = keyed.0;
-          does = at_gathered (codes "do") IsString (codes "walk") ms does;
-          at_node = placed_at names find places node.now index is_index ms node_here;
-          asked = at_gathered (codes "eid") (IsNumberWithin 8 254) eid ms eid_here;
-          tagged = at_gathered (codes "tag") (IsNumberWithin 0 7) tag.value ms tag_here;
-          counted = at_gathered (codes "count") (IsNumberWithin 8 4079) count ms count_here;
-        },
-        keyed.1,
-      )
+      let keyed = exactly walk_keys 4 number (ap given does.1) (rw (does.1, node_here.1, eid_here.1, tag_here.1, count_here.1) refl) (rw (does.1, node_here.1, eid_here.1, tag_here.1, count_here.1) refl) in
+      (λ names places. record { third = refl; keys = keyed.0; does = at_gathered (codes "do") IsString (codes "walk") ms does; at_node = placed_at names find places node.now index is_index (data_of (object ms)) node_here.2; asked = eid_here.2; tagged = tag_here.2; counted = count_here.2 }, keyed.1)
 
   pub ask_of : (find : List ℕ → Option ℕ) (walker : ℕ) → keys_given p ≡ 1 → p.walker ≡ Some walker → IsGathered (codes "do") IsString (Some (codes "ask")) ms
       → IsEventBy find (data_of (object ms)) (ask walker) × IsPlain (object ms)
   ask_of find walker count is_walker does =
       let walker_here = here (codes "walker") IsWord p.walker ms (there (codes "walker")) walker is_walker in
-      let keyed = exactly ask_keys 1 count (ap given does.1) (rw (does.1, walker_here.1) refl) (rw (does.1, walker_here.1) refl) in (
-        λ names places. record {
-          third = refl;
-          keys = keyed.0;
-          does = at_gathered (codes "do") IsString (codes "ask") ms does;
-          number = at_gathered (codes "walker") IsWord walker ms walker_here;
-        },
-        keyed.1,
-      )
+      let keyed = exactly ask_keys 1 count (ap given does.1) (rw (does.1, walker_here.1) refl) (rw (does.1, walker_here.1) refl) in
+      (λ names places. record { third = refl; keys = keyed.0; does = at_gathered (codes "do") IsString (codes "ask") ms does; number = walker_here.2 }, keyed.1)
 
   pub collected_of : (find : List ℕ → Option ℕ) (walker : ℕ) → keys_given p ≡ 1 → p.walker ≡ Some walker → IsGathered (codes "do") IsString (Some (codes "collected")) ms
       → IsEventBy find (data_of (object ms)) (collected walker) × IsPlain (object ms)
   collected_of find walker count is_walker does =
       let walker_here = here (codes "walker") IsWord p.walker ms (there (codes "walker")) walker is_walker in
-      let keyed = exactly collected_keys 1 count (ap given does.1) (rw (does.1, walker_here.1) refl) (rw (does.1, walker_here.1) refl) in (
-        λ names places. record {
-          third = refl;
-          keys = keyed.0;
-          does = at_gathered (codes "do") IsString (codes "collected") ms does;
-          number = at_gathered (codes "walker") IsWord walker ms walker_here;
-        },
-        keyed.1,
-      )
+      let keyed = exactly collected_keys 1 count (ap given does.1) (rw (does.1, walker_here.1) refl) (rw (does.1, walker_here.1) refl) in
+      (λ names places. record { third = refl; keys = keyed.0; does = at_gathered (codes "do") IsString (codes "collected") ms does; number = walker_here.2 }, keyed.1)
 
 -- the word that was read at `do`
 pub word_here : (p : EventParts) (text : Bor (List ℕ)) (word : List ℕ) → p.does ≡ Some text → text.now ≡ word → (ms : Members) → AreParts (event_slots p) ms → IsGathered (codes "do") IsString (Some word) ms
-word_here p text word is same ms h = subst (λ word. IsGathered (codes "do") IsString (Some word) ms) same (here (codes "do") (λ d text. IsString d text.now) p.does ms h.read.0 text is)
+word_here p text word is same ms h = subst (λ word. IsGathered (codes "do") IsString (Some word) ms) same (subst (λ o. IsGathered (codes "do") (λ d text. IsString d text.now) o ms) is h.read.0)

@@ -1,22 +1,21 @@
 -- Nothing is wrong with a value exactly where it is one of the grammar.
 use Rattle.std.proofs.Common.{◌≡◌, ◌⊎◌, inl, inr, ℕ, suc, cond, is_some, ◌||◌, ◌≤◌, List, Bool, true, false, not, nat_lt, Option, Some, None, option_map, option_and_then, MatchOption, IfOk, Result, Ok, Err, refl, sym, ap, ◌∙◌, true≢false}
-use Rattle.std.proofs.lemmas.Bool.{leb-true, le-leb, ltb-false, le-ltb}
+use Rattle.std.proofs.lemmas.Bool.{or_right, leb-true, le-leb, ltb-false, le-ltb}
 use Rattle.std.proofs.lemmas.Option.{none-some}
 use Rattle.std.proofs.lemmas.Slice.Eq.{bytes_eq-Decides}
 use Rattle.std.specs.Option.{option_or}
 use Rattle.std.specs.Str.{bytes_eq}
-use Rattle.serde_json.specs.Data.{Data, null, boolean, number, string, array, object, Items, no_items, item}
+use Rattle.serde_json.specs.Data.{Data, null, string, array, object, Items, no_items, item}
 use Rattle.serde_json.specs.Find.{get}
 use Rattle.net_json.specs.Json.{demand, items_count, keyed, found, is_among, name_text}
 use Rattle.net_json.specs.JsonWords.{HasKeys}
 use Rattle.net_json.specs.Reading.{then_with}
 use Rattle.net_json.specs.declared.error.ValueFault.{ValueFault}
 use Rattle.net_json.specs.declared.error.ValueFault.TheVariants.{OutOfRange, OverLimit, UnknownName}
-use Rattle.net_json.proofs.KeysLaw.{keys_sound, keys_whole, among_Contains, Contains_among, or_true}
+use Rattle.net_json.proofs.KeysLaw.{keys_sound, keys_whole, among_Contains, Contains_among}
 use Rattle.net_json.proofs.WordsLaw.{name_tells, hex_tells, address_tells, kind_tells}
 use Rattle.net_json.proofs.Telling.{Tells, any, no_value, number_tells, truth_tells}
-use Rattle.net_json.specs.Finding.{fault_of, names_of, known_name, word_fault, word_among, has_key, is_within, short_list, unless_null, range_end, is_late, passes, own_fault}
-use Rattle.net_json.specs.Finding.{Step, key, index, Located, located, under, here, in_items, in_list, inside, in_fields, in_choices, first_fault, refused}
+use Rattle.net_json.specs.Finding.{fault_of, names_of, known_name, word_fault, word_among, has_key, is_within, short_list, unless_null, range_end, is_late, passes, own_fault, Step, key, index, Located, located, under, here, in_items, in_list, inside, in_fields, in_choices, first_fault, refused}
 use Rattle.net_json.specs.Fitting.{IsWord, IsOneOf, EachIs, IsWithin, Passes, Either, Fits, FieldsFit, ChoiceFits}
 use Rattle.net_json.specs.Grammar.{Grammar, plain, one_of, a_list, an_optional, an_object, a_choice, Fields, no_fields, field, keys_of, Known}
 use Rattle.net_json.specs.Names.{text_of}
@@ -101,11 +100,7 @@ word_whole known word.Address d h = untold address_tells d h.0 h.1
 
 among_sound : (words : List (List ℕ)) (d : Data) → fault_of (word_among words d) ≡ None → IsOneOf words d
 among_sound words (string s) e = (s, refl, among_Contains words s (demanded OutOfRange (is_among words s) e))
-among_sound words null e = absurd (none-some _ (sym e))
-among_sound words (boolean b) e = absurd (none-some _ (sym e))
-among_sound words (number n) e = absurd (none-some _ (sym e))
-among_sound words (array ds) e = absurd (none-some _ (sym e))
-among_sound words (object ms) e = absurd (none-some _ (sym e))
+among_sound words d e = absurd (none-some _ (sym e))
 
 among_whole : (words : List (List ℕ)) (d : Data) → IsOneOf words d → fault_of (word_among words d) ≡ None
 among_whole words d h = ap (λ v. fault_of (word_among words v)) h.1 ∙ ap (λ b. fault_of (demand OutOfRange b)) (Contains_among words h.0 h.2)
@@ -122,11 +117,7 @@ within_whole (Some most) n h = le-leb n most h
 
 short_sound : (most : Option ℕ) (d : Data) → fault_of (short_list most d) ≡ None → (ds : Items) × (d ≡ array ds) × IsWithin most (items_count ds)
 short_sound most (array ds) e = (ds, refl, within_sound most (items_count ds) (demanded OverLimit (is_within most (items_count ds)) e))
-short_sound most null e = absurd (none-some _ (sym e))
-short_sound most (boolean b) e = absurd (none-some _ (sym e))
-short_sound most (number n) e = absurd (none-some _ (sym e))
-short_sound most (string s) e = absurd (none-some _ (sym e))
-short_sound most (object ms) e = absurd (none-some _ (sym e))
+short_sound most d e = absurd (none-some _ (sym e))
 
 items_sound : (f : Data → Option Located) (P : Data → Type 0) → ((d : Data) → f d ≡ None → P d) → (n : ℕ) (ds : Items) → in_items f n ds ≡ None → EachIs P ds
 items_sound f P h n no_items e = tt
@@ -152,7 +143,7 @@ is_there None e = absurd (true≢false (sym e))
 each_there : (fs : Fields) (d : Data) → ((k : List ℕ) → is_among (keys_of fs) k ≡ true → is_some (get k d) ≡ true) → There fs d
 each_there no_fields d h = tt
 each_there (field k g fs) d h =
-    (is_there (get k d) (h k (ap (λ b. b || is_among (keys_of fs) k) ((bytes_eq-Decides k k).1 refl))), each_there fs d (λ l among. h l (or_true (bytes_eq l k) (is_among (keys_of fs) l) among)))
+    (is_there (get k d) (h k (ap (λ b. b || is_among (keys_of fs) k) ((bytes_eq-Decides k k).1 refl))), each_there fs d (λ l among. h l (or_right (bytes_eq l k) (is_among (keys_of fs) l) among)))
 
 all_there : (fs : Fields) (d : Data) → HasKeys (keys_of fs) d → There fs d
 all_there fs d h = each_there fs d (λ k among. ap (λ e. is_some (get k e)) h.1 ∙ (h.2 k).1 (among_Contains (keys_of fs) k among))
@@ -194,19 +185,11 @@ has_sound k (object ms) e = by (get k (object ms)) refl e
     by : (o : Option Data) → get k (object ms) ≡ o → fault_of (then_with (found o) (λ _. Ok (tt {0}))) ≡ None → (stands : Data) × (get k (object ms) ≡ Some stands)
     by (Some stands) is e = (stands, is)
     by None is e = absurd (none-some _ (sym e))
-has_sound k null e = absurd (none-some _ (sym e))
-has_sound k (boolean b) e = absurd (none-some _ (sym e))
-has_sound k (number n) e = absurd (none-some _ (sym e))
-has_sound k (string s) e = absurd (none-some _ (sym e))
-has_sound k (array ds) e = absurd (none-some _ (sym e))
+has_sound k d e = absurd (none-some _ (sym e))
 
 has_whole : (k : List ℕ) (d stands : Data) → get k d ≡ Some stands → fault_of (has_key k d) ≡ None
 has_whole k (object ms) stands is = ap (λ o. fault_of (then_with (found o) (λ _. Ok (tt {0})))) is
-has_whole k null stands is = absurd (none-some _ is)
-has_whole k (boolean b) stands is = absurd (none-some _ is)
-has_whole k (number n) stands is = absurd (none-some _ is)
-has_whole k (string s) stands is = absurd (none-some _ is)
-has_whole k (array ds) stands is = absurd (none-some _ is)
+has_whole k d stands is = absurd (none-some _ is)
 
 -- ---- `null`
 
@@ -215,29 +198,18 @@ no_keys known no_fields d none = refl
 no_keys known (field k g fs) d none = rw (none k) (no_keys known fs d none)
 
 pub inside_null : (known : Option Known) (g : Grammar) → inside known g null ≡ None
-inside_null known (plain w) = refl
-inside_null known (one_of words) = refl
-inside_null known (a_list most g) = refl
 inside_null known (an_optional g) = inside_null known g
 inside_null known (an_object rule fs) = no_keys known fs null (λ k. refl)
-inside_null known (a_choice k g cs) = refl
+inside_null known g = refl
 
 -- a value is `null`, or it is not
 optional_sound : (o : Option ValueFault) (d : Data) → unless_null d o ≡ None → (d ≡ null) ⊎ (o ≡ None)
 optional_sound o null e = inl refl
-optional_sound o (boolean b) e = inr e
-optional_sound o (number n) e = inr e
-optional_sound o (string s) e = inr e
-optional_sound o (array ds) e = inr e
-optional_sound o (object ms) e = inr e
+optional_sound o d e = inr e
 
 optional_whole : (o : Option ValueFault) (d : Data) → o ≡ None → unless_null d o ≡ None
 optional_whole o null e = refl
-optional_whole o (boolean b) e = e
-optional_whole o (number n) e = e
-optional_whole o (string s) e = e
-optional_whole o (array ds) e = e
-optional_whole o (object ms) e = e
+optional_whole o d e = e
 
 -- ---- by induction
 
@@ -301,8 +273,6 @@ mutual
   own_whole known (a_choice k g cs) d h = has_whole k d h.0 h.1
 
   inside_whole : (known : Option Known) (g : Grammar) (d : Data) → Fits known g d → inside known g d ≡ None
-  inside_whole known (plain w) d h = refl
-  inside_whole known (one_of words) d h = refl
   inside_whole known (a_list most g) d h =
       ap (in_list (first_fault known g)) h.1 ∙ items_whole (first_fault known g) (λ e. Fits known g e) (λ e fits. joined known g e (own_whole known g e fits) (inside_whole known g e fits)) 0 h.0 h.3
   inside_whole known (an_optional g) d (inl e) = ap (inside known g) e ∙ inside_null known g
@@ -313,6 +283,7 @@ mutual
       ∙ nothing (under (key k) (first_fault known g h.0)) (in_choices known cs (text_of h.0) d)
       (ap (under (key k)) (joined known g h.0 (own_whole known g h.0 h.2.0) (inside_whole known g h.0 h.2.0)))
       (choices_whole known cs (text_of h.0) d h.2.1)
+  inside_whole known g d h = refl
 
   fields_whole : (known : Option Known) (fs : Fields) (d : Data) → FieldsFit known fs d → in_fields known fs d ≡ None
   fields_whole known no_fields d h = refl
@@ -337,13 +308,8 @@ fits_none known g d h = joined known g d (own_whole known g d h) (inside_whole k
 
 -- a value whose names are known is one whatever they are the names of
 word_forget : (k : Known) (w : Word) (d : Data) → IsWord (Some k) w d → IsWord None w d
-word_forget k (word.Number least most) d h = h
-word_forget k word.Name d h = h
 word_forget k (word.Named names) d h = (h.0, h.1, tt)
-word_forget k word.Truth d h = h
-word_forget k word.Kind d h = h
-word_forget k word.Hex d h = h
-word_forget k word.Address d h = h
+word_forget k w d h = h
 
 each_forget : (P Q : Data → Type 0) → ((d : Data) → P d → Q d) → (ds : Items) → EachIs P ds → EachIs Q ds
 each_forget P Q h no_items each = tt

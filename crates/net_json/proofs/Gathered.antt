@@ -1,5 +1,6 @@
 -- Members that are gathered one after another.
 use Rattle.std.proofs.Common.{◌≡◌, ℕ, ◌^◌, ◌<◌, ◌≤◌, List, [], ◌∷◌, ◌++◌, length, map, subst, Bool, true, false, not, ◌&&◌, ◌||◌, cond, is_some, Option, Some, None, IfSome, option_map, Ok, refl, sym, ap, ◌∙◌, true≢false, append-nil, append_assoc, codes, IsUtf8, arith}
+use Rattle.std.proofs.lemmas.Bool.{and_from, not-false}
 use Rattle.std.proofs.lemmas.List.{length-map}
 use Rattle.std.proofs.lemmas.Slice.Eq.{bytes_eq-Decides}
 use Rattle.std.specs.List.{list_any}
@@ -8,10 +9,10 @@ use Rattle.json.specs.Find.{later_or, get_member}
 use Rattle.json.specs.Token.{Token}
 use Rattle.json.specs.Json.{Json, object, Items, no_items, item, Members, no_members, member, parse_map, value}
 use Rattle.json.specs.Strict.{keys}
-use Rattle.json.proofs.Grammar.{left, skip_value-shorter, value_is}
+use Rattle.json.proofs.Grammar.{value_is}
 use Rattle.hex.specs.Hex.{decode_of}
 use Rattle.serde_json.specs.Data as whole
-use Rattle.serde_json.specs.Data.{Data, Num, unsigned, negative, float, number}
+use Rattle.serde_json.specs.Data.{Data, Num, unsigned, number}
 use Rattle.serde_json.specs.Find.{as_u64}
 use Rattle.serde_json.specs.Read.{number_of}
 use Rattle.net_json.specs.Gathered.{with_last, IsPlain, ArePlain, IsGathered, IsRead, Slot, AreRead, AreParts, IsNext, IsMore, IsThere, EachIs, IsArrayOf, IsPlainText}
@@ -25,17 +26,14 @@ use Rattle.net_json.specs.Texts.{IsJsonTextOf}
 use Rattle.net_json.specs.Trees.{data_of, items_of, members_of, or_other, num_of, fits, items_fit, members_fit}
 use Rattle.plain_json.specs.Plain.{IsNextNumber}
 use Rattle.net_json.proofs.JsonNumbers.{numeral_u64}
-use Rattle.net_json.proofs.KeysLaw.{among_Contains, any_false, not_false}
-use Rattle.net_json.proofs.WordsLaw.{first_index}
+use Rattle.net_json.proofs.KeysLaw.{among_Contains, any_false}
+use Rattle.net_json.proofs.WordsLaw.{same_Some, first_index}
 use Rattle.net_json.proofs.Telling.{both}
 use Rattle.net_json.proofs.SingleKeys.{single_sound, whole_tree}
 use Rattle.net_json.proofs.Trees.{get_of, read_whole}
 
 pub no_Some : {A : Type 0} {a : A} → Some a ≡ None → ⊥
 no_Some e = cc
-
-pub same_Some : {A : Type 0} {a b : A} → Some a ≡ Some b → a ≡ b
-same_Some e = cc
 
 pub if_some : {A : Type 0} {P Q : A → Type 0} (o : Option A) → ((x : A) → P x → Q x) → IfSome o P → IfSome o Q
 if_some None f h = tt
@@ -57,10 +55,6 @@ pub one_more : (ms : Members) (k : List ℕ) (j : Json) (r : Option (Members × 
 one_more ms k j None = refl
 one_more ms k j (Some p) = ap (λ js. Some (js, p.1)) (joined_last ms k j p.0)
 
--- a value takes a token at least
-pub value_shorter : (depth : ℕ) (ts r : List Token) (j : Json) → value depth ts ≡ Some (j, r) → length r < length ts
-value_shorter depth ts r j e = skip_value-shorter depth ts r (ap left e)
-
 -- ---- look-ups
 
 latest : (b : Bool) (j : Json) (o p : Option Json) → later_or (cond b (Some j) o) p ≡ cond b (Some j) (later_or o p)
@@ -73,28 +67,23 @@ get_last name (member l i ms) k j = ap (λ o. later_or o (cond (bytes_eq l name)
 
 -- ---- plain members
 
-pub shown : (b c : Bool) → b ≡ true → c ≡ true → (b && c) ≡ true
-shown true true e f = refl
-shown true false e f = f
-shown false c e f = e
-
 fit_last : (ms : Members) (k : List ℕ) (j : Json) → members_fit ms ≡ true → fits j ≡ true → members_fit (with_last ms k j) ≡ true
-fit_last no_members k j e f = shown (fits j) true f refl
-fit_last (member l i ms) k j e f = let p = both (fits i) (members_fit ms) e in shown (fits i) (members_fit (with_last ms k j)) p.0 (fit_last ms k j p.1 f)
+fit_last no_members k j e f = and_from (fits j) true f refl
+fit_last (member l i ms) k j e f = let p = both (fits i) (members_fit ms) e in and_from (fits i) (members_fit (with_last ms k j)) p.0 (fit_last ms k j p.1 f)
 
 single_last : (ms : Members) (k : List ℕ) (j : Json) → members_single ms ≡ true → single j ≡ true → members_single (with_last ms k j) ≡ true
-single_last no_members k j e f = shown (single j) true f refl
-single_last (member l i ms) k j e f = let p = both (single i) (members_single ms) e in shown (single i) (members_single (with_last ms k j)) p.0 (single_last ms k j p.1 f)
+single_last no_members k j e f = and_from (single j) true f refl
+single_last (member l i ms) k j e f = let p = both (single i) (members_single ms) e in and_from (single i) (members_single (with_last ms k j)) p.0 (single_last ms k j p.1 f)
 
 keys_last : (ms : Members) (k : List ℕ) (j : Json) → keys (with_last ms k j) ≡ keys ms ++ k ∷ []
 keys_last no_members k j = refl
 keys_last (member l i ms) k j = ap (λ ks. l ∷ ks) (keys_last ms k j)
 
 new_last : (seen ns : List (List ℕ)) (n : List ℕ) → are_new seen ns ≡ true → is_among (seen ++ ns) n ≡ false → are_new seen (ns ++ n ∷ []) ≡ true
-new_last seen [] n e new = shown (not (is_among seen n)) true (ap (λ s. not (is_among s n)) (sym (append-nil seen)) ∙ ap not new) refl
+new_last seen [] n e new = and_from (not (is_among seen n)) true (ap (λ s. not (is_among s n)) (sym (append-nil seen)) ∙ ap not new) refl
 new_last seen (m ∷ ns) n e new =
     let p = both (not (is_among seen m)) (are_new (seen ++ m ∷ []) ns) e in
-    shown (not (is_among seen m)) (are_new (seen ++ m ∷ []) (ns ++ n ∷ [])) p.0 (new_last (seen ++ m ∷ []) ns n p.1 (ap (λ s. is_among s n) (append_assoc seen (m ∷ []) ns) ∙ new))
+    and_from (not (is_among seen m)) (are_new (seen ++ m ∷ []) (ns ++ n ∷ [])) p.0 (new_last (seen ++ m ∷ []) ns n p.1 (ap (λ s. is_among s n) (append_assoc seen (m ∷ []) ns) ∙ new))
 
 absent : (ms : Members) (k : List ℕ) → get_member k ms ≡ None → is_among (keys ms) k ≡ false
 absent no_members k e = refl
@@ -137,7 +126,7 @@ module _ (known : List (List ℕ)) where
         refl,
         λ k. (
           λ there. among_Contains known k (h.among k (sym (found k) ∙ there)),
-          λ among. found k ∙ not_false (is_some (get_member k ms)) (any_false (λ key. not (is_some (get_member key ms))) known none k among),
+          λ among. found k ∙ not-false (is_some (get_member k ms)) (any_false (λ key. not (is_some (get_member key ms))) known none k among),
         ),
       )
 
@@ -197,9 +186,12 @@ module _ {A : Type 0} (R : Data → A → Type 0) (k : List ℕ) (slots : List S
       → IsNext ts us (λ j. R (data_of j) x × IsPlain j) → IfSome r (λ _. (old ≡ None) × (new ≡ Some x)) → IfSome r (λ _. IsMore depth key ts us (AreParts slots) (AreParts (put k (IsRead R new) slots)))
   next_taken r key depth ts us same at known took = there_taken r key depth ts us same at known (took.0, took.1 depth, took.2)
 
+pub at_gathered : {A : Type 0} (key : List ℕ) (R : Data → A → Type 0) (x : A) (ms : Members) → IsGathered key R (Some x) ms → At key R (data_of (object ms)) x
+at_gathered key R x ms h = (data_of h.0, get_of key (object ms) ∙ ap (option_map data_of) h.1, h.2)
+
 -- what stands at a key at which this was read
-pub here : {A : Type 0} (key : List ℕ) (R : Data → A → Type 0) (o : Option A) (ms : Members) → IsGathered key R o ms → (x : A) → o ≡ Some x → IsGathered key R (Some x) ms
-here key R o ms h x e = subst (λ o. IsGathered key R o ms) e h
+pub here : {A : Type 0} (key : List ℕ) (R : Data → A → Type 0) (o : Option A) (ms : Members) → IsGathered key R o ms → (x : A) → o ≡ Some x → (j : Json) × (get_member key ms ≡ Some j) × At key R (data_of (object ms)) x
+here key R o ms h x e = let there = subst (λ o. IsGathered key R o ms) e h in (there.0, there.1, at_gathered key R x ms there)
 
 -- where nothing stands at the other keys, all keys are among these
 pub only_keys : (known own : List (List ℕ)) (ms : Members) → ArePlain known ms → list_any (λ key. not (is_among own key) && is_some (get_member key ms)) known ≡ false → ArePlain own ms
@@ -209,28 +201,22 @@ only_keys known own ms h none = record {
   single = h.single;
   among = λ k there.
       let one = any_false (λ key. not (is_among own key) && is_some (get_member key ms)) known none k (among_Contains known k (h.among k there)) in
-      not_false (is_among own k) (left_false (not (is_among own k)) (is_some (get_member k ms)) one there);
+      not-false (is_among own k) (left_false (not (is_among own k)) (is_some (get_member k ms)) one there);
 }
   where
     left_false : (a b : Bool) → (a && b) ≡ false → b ≡ true → a ≡ false
     left_false false b e there = refl
     left_false true b e there = absurd (true≢false (sym there ∙ e))
 
-pub at_gathered : {A : Type 0} (key : List ℕ) (R : Data → A → Type 0) (x : A) (ms : Members) → IsGathered key R (Some x) ms → At key R (data_of (object ms)) x
-at_gathered key R x ms h = (data_of h.0, get_of key (object ms) ∙ ap (option_map data_of) h.1, h.2)
-
 -- the first of the nodes that has the name at `node`
-pub placed_at : (names : List (List ℕ)) (find : List ℕ → Option ℕ) → IsIndexOf find names → (name : List ℕ) (place : ℕ) → find name ≡ Some place → (ms : Members) → IsGathered (codes "node") IsName (Some name) ms
-    → At (codes "node") (IsIndexOfName names) (data_of (object ms)) place
-placed_at names find places name place found ms h = at_gathered (codes "node") (IsIndexOfName names) place ms (h.0, h.1, (name, h.2, first_index names name place (sym (places name) ∙ found)))
+pub placed_at : (names : List (List ℕ)) (find : List ℕ → Option ℕ) → IsIndexOf find names → (name : List ℕ) (place : ℕ) → find name ≡ Some place → (d : Data) → At (codes "node") IsName d name → At (codes "node") (IsIndexOfName names) d place
+placed_at names find places name place found d h = (h.0, h.1, (name, h.2, first_index names name place (sym (places name) ∙ found)))
 
 -- ---- values that stand in one token
 
 whole_number_plain : (o : Option Num) (n : ℕ) → as_u64 (or_other o) ≡ Some n → (or_other o ≡ unsigned n) × (is_some o ≡ true)
-whole_number_plain None n e = absurd (no_Some (sym e))
 whole_number_plain (Some (unsigned m)) n e = (ap unsigned (same_Some e), refl)
-whole_number_plain (Some (negative z)) n e = absurd (no_Some (sym e))
-whole_number_plain (Some (float x)) n e = absurd (no_Some (sym e))
+whole_number_plain o n e = absurd (no_Some (sym e))
 
 pub next_is : (j : Json) (P : Json → Type 0) (t : Token) (old new : List Token) → old ≡ t ∷ new → ((depth : ℕ) → value depth (t ∷ new) ≡ Some (j, new)) → P j → IsNext old new P
 next_is j P t old new is read h = (j, λ depth. ap (value depth) is ∙ read depth, h)
@@ -281,24 +267,21 @@ one_more_item js j (Some p) = ap (λ is. Some (is, p.1)) (items_joined_last js j
 module _ {A : Type 0} (R : Json → A → Type 0) where
   pub each_last : (js : Items) (xs : List A) (j : Json) (x : A) → EachIs R js xs → R j x → EachIs R (item_last js j) (xs ++ x ∷ [])
   each_last no_items [] j x h r = (r, tt)
-  each_last no_items (y ∷ ys) j x h r = absurd h
-  each_last (item i js) [] j x h r = absurd h
   each_last (item i js) (y ∷ ys) j x h r = (h.0, each_last js ys j x h.1 r)
+  each_last js xs j x h r = absurd h
 
 array_plain : {A : Type 0} (R : Json → A → Type 0) (js : Items) (xs : List A) → ((j : Json) (x : A) → R j x → IsPlain j) → EachIs R js xs → (items_fit js ≡ true) × (items_single js ≡ true)
 array_plain R no_items [] each h = (refl, refl)
-array_plain R no_items (x ∷ xs) each h = absurd h
-array_plain R (item j js) [] each h = absurd h
 array_plain R (item j js) (x ∷ xs) each h =
     let here = each j x h.0 in
     let rest = array_plain R js xs each h.1 in
-    (shown (fits j) (items_fit js) here.0 rest.0, shown (single j) (items_single js) here.1 rest.1)
+    (and_from (fits j) (items_fit js) here.0 rest.0, and_from (single j) (items_single js) here.1 rest.1)
+array_plain R js xs each h = absurd h
 
 each_item : {A B : Type 0} (R : Data → A → Type 0) (see : B → A) (js : Items) (xs : List B) → EachIs (λ j x. R (data_of j) (see x) × IsPlain j) js xs → AreItems R (items_of js) (map see xs)
 each_item R see no_items [] h = tt
-each_item R see no_items (x ∷ xs) h = absurd h
-each_item R see (item j js) [] h = absurd h
 each_item R see (item j js) (x ∷ xs) h = (h.0.0, each_item R see js xs h.1)
+each_item R see js xs h = absurd h
 
 pub list_of : {A B : Type 0} (R : Data → A → Type 0) (see : B → A) (most : ℕ) (j : Json) (xs : List B) → IsArrayOf (λ j x. R (data_of j) (see x) × IsPlain j) j xs → length xs ≤ most
     → IsShortListOf most R (data_of j) (map see xs) × IsPlain j
@@ -323,6 +306,5 @@ stands_for_plain R text x utf8 h = (data_of h.0, (utf8, read_whole text h.0 h.1 
 -- where two values stand in the same place, so do they in a longer list
 pub each_moved : {A : Type 0} (R S : Data → A → Type 0) (ds : whole.Items) (xs : List A) → ((d : Data) (x : A) → R d x → S d x) → AreItems R ds xs → AreItems S ds xs
 each_moved R S whole.no_items [] move h = tt
-each_moved R S whole.no_items (x ∷ xs) move h = absurd h
-each_moved R S (whole.item d ds) [] move h = absurd h
 each_moved R S (whole.item d ds) (x ∷ xs) move h = (move d x h.0, each_moved R S ds xs move h.1)
+each_moved R S ds xs move h = absurd h

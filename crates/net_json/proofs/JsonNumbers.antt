@@ -3,10 +3,9 @@ use Rattle.std.proofs.Common.{◌≡◌, ℕ, ◌^◌, ◌<◌, ◌==◌, ◌&&�
 use Rattle.std.proofs.lemmas.Bool.{eqb-true, lt-ltb}
 use Rattle.std.specs.Char.{digit_value}
 use Rattle.std.specs.Str.Parse.{AllDigits, IsNumeral, digits_value}
-use Rattle.fast_float.specs.Text.{scan, minus, text_of}
+use Rattle.fast_float.specs.Text.{scan, minus, text_of, Parts, digits_of, nearest, with_sign}
 use Rattle.fast_float.proofs.Writing.{scan-text_of}
 use Rattle.std.specs.Float.{binary64, float_is_finite}
-use Rattle.fast_float.specs.Text.{Parts, digits_of, nearest, with_sign}
 use Rattle.serde_json.specs.Data.{Num, unsigned, negative, float}
 use Rattle.serde_json.specs.Find.{as_u64}
 use Rattle.net_json.specs.Trees.{or_other, num_of}

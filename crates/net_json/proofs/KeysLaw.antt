@@ -1,5 +1,6 @@
 -- That an object has exactly some keys.
 use Rattle.std.proofs.Common.{◌≡◌, ℕ, zero, suc, ◌<◌, arith, List, [], ◌∷◌, length, Bool, true, false, not, ◌||◌, Some, is_some, Ok, Ordering, Less, Equal, Greater, refl, sym, ap, ◌∙◌, true≢false, Contains, IsSome, slice_index_or}
+use Rattle.std.proofs.lemmas.Bool.{not-true, not-false, or_right}
 use Rattle.std.proofs.lemmas.Map.Text.{is_eq-slice_cmp}
 use Rattle.std.proofs.lemmas.Slice.Eq.{bytes_eq-Decides}
 use Rattle.std.proofs.lemmas.Map.Views.{Contains-from_any}
@@ -8,7 +9,7 @@ use Rattle.std.specs.Cmp.Lexicographic.{slice_cmp}
 use Rattle.std.specs.List.{list_any}
 use Rattle.std.specs.Ordering.{match_ordering, is_eq, nat_cmp}
 use Rattle.std.specs.Str.{bytes_eq}
-use Rattle.serde_json.specs.Data.{Data, null, boolean, number, string, array, object, Members, no_members, member}
+use Rattle.serde_json.specs.Data.{Data, object, Members, no_members, member}
 use Rattle.serde_json.specs.Find.{get_member}
 use Rattle.net_json.specs.Json.{is_among, has_unknown_key, lacks_key, keyed, demand}
 use Rattle.net_json.specs.JsonWords.{HasKeys}
@@ -19,14 +20,10 @@ use Rattle.net_json.proofs.Telling.{no_value, then_Ok, demanded}
 pub among_Contains : (keys : List (List ℕ)) (k : List ℕ) → is_among keys k ≡ true → Contains keys k
 among_Contains keys k e = Contains-from_any (λ x y. (bytes_eq-Decides x y).0) k keys e
 
-pub or_true : (a b : Bool) → b ≡ true → (a || b) ≡ true
-or_true true b e = refl
-or_true false b e = e
-
 any_at : (p : List ℕ → Bool) (xs : List (List ℕ)) (i : ℕ) (x : List ℕ) → i < length xs → slice_index_or xs i x ≡ x → p x ≡ true → list_any p xs ≡ true
 any_at p [] i x within is e = absurd (omega arith)
 any_at p (y ∷ ys) zero x within is e = ap (λ b. b || list_any p ys) (ap p is ∙ e)
-any_at p (y ∷ ys) (suc i) x within is e = or_true (p y) (list_any p ys) (any_at p ys i x (omega arith) is e)
+any_at p (y ∷ ys) (suc i) x within is e = or_right (p y) (list_any p ys) (any_at p ys i x (omega arith) is e)
 
 pub Contains_among : (keys : List (List ℕ)) (k : List ℕ) → Contains keys k → is_among keys k ≡ true
 Contains_among keys k h = any_at (bytes_eq k) keys h.0 k h.1 h.2 ((bytes_eq-Decides k k).1 refl)
@@ -74,29 +71,17 @@ any_false p xs none x h = by (p x) refl
 all_false : (p : List ℕ → Bool) (xs : List (List ℕ)) → ((x : List ℕ) → is_among xs x ≡ true → p x ≡ false) → list_any p xs ≡ false
 all_false p [] h = refl
 all_false p (x ∷ xs) h = ap (λ b. b || list_any p xs) (h x (ap (λ b. b || is_among xs x) ((bytes_eq-Decides x x).1 refl)))
-    ∙ all_false p xs (λ y among. h y (or_true (bytes_eq y x) (is_among xs y) among))
-
-pub not_false : (b : Bool) → not b ≡ false → b ≡ true
-not_false true e = refl
-not_false false e = absurd (true≢false e)
+    ∙ all_false p xs (λ y among. h y (or_right (bytes_eq y x) (is_among xs y) among))
 
 keys_sound_at : (keys : List (List ℕ)) (ms : Members) → has_unknown_key keys ms ≡ false → lacks_key keys ms ≡ false → HasKeys keys (object ms)
 keys_sound_at keys ms unknown lacked =
-    (ms, refl, λ k. (λ there. among_Contains keys k (known keys ms unknown k there), λ among. not_false (is_some (get_member k ms)) (any_false (λ key. not (is_some (get_member key ms))) keys lacked k among)))
-
-not_true : (b : Bool) → not b ≡ true → b ≡ false
-not_true false e = refl
-not_true true e = absurd (true≢false (sym e))
+    (ms, refl, λ k. (λ there. among_Contains keys k (known keys ms unknown k there), λ among. not-false (is_some (get_member k ms)) (any_false (λ key. not (is_some (get_member key ms))) keys lacked k among)))
 
 pub keys_sound : (keys : List (List ℕ)) (d : Data) (u : Unit {0}) → keyed keys d ≡ Ok u → HasKeys keys d
 keys_sound keys (object ms) u e =
     let p = then_Ok (demand UnknownKey (not (has_unknown_key keys ms))) (λ _. demand MissingKey (not (lacks_key keys ms))) u e in
-    keys_sound_at keys ms (not_true (has_unknown_key keys ms) (demanded UnknownKey (not (has_unknown_key keys ms)) p.0 p.1)) (not_true (lacks_key keys ms) (demanded MissingKey (not (lacks_key keys ms)) u p.2))
-keys_sound keys null u e = absurd (no_value e)
-keys_sound keys (boolean b) u e = absurd (no_value e)
-keys_sound keys (number n) u e = absurd (no_value e)
-keys_sound keys (string s) u e = absurd (no_value e)
-keys_sound keys (array ds) u e = absurd (no_value e)
+    keys_sound_at keys ms (not-true (has_unknown_key keys ms) (demanded UnknownKey (not (has_unknown_key keys ms)) p.0 p.1)) (not-true (lacks_key keys ms) (demanded MissingKey (not (lacks_key keys ms)) u p.2))
+keys_sound keys d u e = absurd (no_value e)
 
 pub keys_whole : (keys : List (List ℕ)) (d : Data) → HasKeys keys d → keyed keys d ≡ Ok tt
 keys_whole keys d h =

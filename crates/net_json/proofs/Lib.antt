@@ -18,18 +18,12 @@ pub mod LineEnd
 pub mod ReadsBack
 mod JsonNumbers
 pub mod Trees
-mod SingleKeys
+pub mod SingleKeys
 pub mod ShortText
 mod Gathered
-mod RecordParts
-mod RowParts
 mod EventParts
-mod LevelParts
-mod PlaceParts
-mod RankParts
 mod PlainCertificate
 mod PlainEvents
-mod TerminusParts
 mod StandIns
 pub mod FieldKeys
 pub mod Fitting

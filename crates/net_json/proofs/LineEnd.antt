@@ -5,7 +5,7 @@ use Rattle.std.specs.Char.{is_ascii_digit, is_digit, encode_utf8}
 use Rattle.std.specs.List.{prefix_len, starts_with}
 use Rattle.json.specs.Ascii as ascii
 use Rattle.json.specs.Json as json
-use Rattle.json.specs.Lex.{Lexeme, token, Class, quote, backslash, operator, space, other, class, string_token, Mode, between, in_word, in_string, in_escape, lex_byte, lex, punctuate, fresh, tokens}
+use Rattle.json.specs.Lex.{Lexeme, token, Class, quote, backslash, space, other, class, string_token, Mode, between, in_word, in_string, lex_byte, lex, punctuate, fresh, tokens}
 use Rattle.json.specs.Text.{Within, plain, after_backslash, after_u, after_high, content, code_unit, short_escape, prepend, is_high_surrogate, is_low_surrogate, surrogate_pair}
 use Rattle.json.specs.Token.{number, boolean, null, bad}
 use Rattle.json.specs.Word.{ends_word, after_digits, after_minus, after_sign, after_whole, after_fraction, after_exponent, after_number, number_before, literal, word}
@@ -35,27 +35,18 @@ then_none f o false e = refl
 
 content_line : (w : Within) (t : List ℕ) → content w (ended t) ≡ content w t
 unfolding content short_escape
-content_line plain [] = refl
 content_line plain (x ∷ xs) = ap₂ (λ a b. cond (x == ascii.quote) (Some []) (cond (x == ascii.backslash) a (cond (nat_lt x ascii.space) None (prepend (x ∷ []) b)))) (content_line after_backslash xs) (content_line plain xs)
-content_line after_backslash [] = refl
 content_line after_backslash (x ∷ xs) = ap₂ (λ a b. cond (x == ascii.lower_u) a (option_and_then (λ c. prepend (c ∷ []) b) (short_escape x))) (content_line after_u xs) (content_line plain xs)
-content_line after_u [] = refl
-content_line after_u (a ∷ []) = refl
-content_line after_u (a ∷ b ∷ []) = refl
 content_line after_u (a ∷ b ∷ c ∷ []) = ap (option_and_then (λ u. cond (is_high_surrogate u) (content (after_high u) []) (cond (is_low_surrogate u) None (prepend (encode_utf8 u) (content plain []))))) (unit_line a b c)
 content_line after_u (a ∷ b ∷ c ∷ d ∷ xs) =
     let rest = content_line plain xs in
     let high : (u : ℕ) → content (after_high u) (ended xs) ≡ content (after_high u) xs = λ u. content_line (after_high u) xs in
     then_same (code_unit a b c d) _ _ (λ u. ap₂ (λ p q. cond (is_high_surrogate u) p (cond (is_low_surrogate u) None (prepend (encode_utf8 u) q))) (high u) rest)
-content_line (after_high h) [] = refl
-content_line (after_high h) (s ∷ []) = refl
-content_line (after_high h) (s ∷ u ∷ []) = refl
-content_line (after_high h) (s ∷ u ∷ a ∷ []) = refl
-content_line (after_high h) (s ∷ u ∷ a ∷ b ∷ []) = refl
 content_line (after_high h) (s ∷ u ∷ a ∷ b ∷ c ∷ []) =
     then_none (λ l. cond (is_low_surrogate l) (prepend (encode_utf8 (surrogate_pair h l)) (content plain [])) None) (code_unit a b c 10) ((s == ascii.backslash) && (u == ascii.lower_u)) (unit_line a b c)
 content_line (after_high h) (s ∷ u ∷ a ∷ b ∷ c ∷ d ∷ xs) =
     ap (λ q. cond ((s == ascii.backslash) && (u == ascii.lower_u)) (option_and_then (λ l. cond (is_low_surrogate l) (prepend (encode_utf8 (surrogate_pair h l)) q) None) (code_unit a b c d)) None) (content_line plain xs)
+content_line w t = refl
 
 -- ---- numbers and literals
 
@@ -136,23 +127,16 @@ before_line t (Some rest) =
     ap₂ (λ b n. cond b (number (take n (ended t))) bad) (ends_line rest) count ∙ ap (λ s. cond (ends_word rest) (number s) bad) (take-append-le (length t - length rest) t (10 ∷ []) few)
 
 true_line : (x : ℕ) (xs : List ℕ) → literal ascii.true_text (boolean true) (x ∷ ended xs) ≡ literal ascii.true_text (boolean true) (x ∷ xs)
-true_line x [] = refl
-true_line x (a ∷ []) = refl
-true_line x (a ∷ b ∷ []) = refl
 true_line x (a ∷ b ∷ c ∷ xs) = ap (λ e. cond (starts_with nat_eq (x ∷ a ∷ b ∷ c ∷ xs) ascii.true_text && e) (boolean true) bad) (ends_line xs)
+true_line x xs = refl
 
 false_line : (x : ℕ) (xs : List ℕ) → literal ascii.false_text (boolean false) (x ∷ ended xs) ≡ literal ascii.false_text (boolean false) (x ∷ xs)
-false_line x [] = refl
-false_line x (a ∷ []) = refl
-false_line x (a ∷ b ∷ []) = refl
-false_line x (a ∷ b ∷ c ∷ []) = refl
 false_line x (a ∷ b ∷ c ∷ d ∷ xs) = ap (λ e. cond (starts_with nat_eq (x ∷ a ∷ b ∷ c ∷ d ∷ xs) ascii.false_text && e) (boolean false) bad) (ends_line xs)
+false_line x xs = refl
 
 null_line : (x : ℕ) (xs : List ℕ) → literal ascii.null_text null (x ∷ ended xs) ≡ literal ascii.null_text null (x ∷ xs)
-null_line x [] = refl
-null_line x (a ∷ []) = refl
-null_line x (a ∷ b ∷ []) = refl
 null_line x (a ∷ b ∷ c ∷ xs) = ap (λ e. cond (starts_with nat_eq (x ∷ a ∷ b ∷ c ∷ xs) ascii.null_text && e) null bad) (ends_line xs)
+null_line x xs = refl
 
 word_line : (x : ℕ) (xs : List ℕ) → word (x ∷ ended xs) ≡ word (x ∷ xs)
 unfolding word
@@ -165,32 +149,19 @@ word_line x xs =
 
 byte_line : (m : Mode) (c : Class) (x : ℕ) (xs : List ℕ) (k : Mode → List Lexeme) → lex_byte m c x (ended xs) k ≡ lex_byte m c x xs k
 byte_line between quote x xs k = ap (λ o. token (string_token o) ∷ k in_string) (content_line plain xs)
-byte_line between backslash x xs k = refl
-byte_line between operator x xs k = refl
-byte_line between space x xs k = refl
 byte_line between other x xs k = ap (λ w. token w ∷ k in_word) (word_line x xs)
 byte_line in_word quote x xs k = refl
-byte_line in_word backslash x xs k = refl
-byte_line in_word operator x xs k = refl
-byte_line in_word space x xs k = refl
-byte_line in_word other x xs k = refl
 byte_line in_string quote x xs k = refl
-byte_line in_string backslash x xs k = refl
-byte_line in_string operator x xs k = refl
-byte_line in_string space x xs k = refl
-byte_line in_string other x xs k = refl
-byte_line in_escape c x xs k = refl
+byte_line m c x xs k = refl
 
 lex_line : (m : Mode) (t : List ℕ) → lex m (ended t) ≡ lex m t
 unfolding lex
 lex_line between [] = refl
-lex_line in_word [] = refl
-lex_line in_string [] = refl
-lex_line in_escape [] = refl
 lex_line m (x ∷ xs) =
     let onward : (next : Mode) → lex next (ended xs) ≡ lex next xs = λ next. lex_line next xs in
     let same : ◌≡◌ {A = Mode → List Lexeme} (λ next. lex next (ended xs)) (λ next. lex next xs) = λ i next. onward next i in
     ap (lex_byte m (class x) x (ended xs)) same ∙ byte_line m (class x) x xs (λ next. lex next xs)
+lex_line m [] = refl
 
 tokens_line : (t : List ℕ) → tokens (t ++ 10 ∷ []) ≡ tokens t
 tokens_line t = ap (punctuate fresh) (lex_line between t)

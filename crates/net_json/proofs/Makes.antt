@@ -1,10 +1,10 @@
 -- What is made of a value that is one of the grammar is what the relation tells.
 use Rattle.std.proofs.Common.{◌≡◌, ◌≢◌, ◌⊎◌, inl, inr, ℕ, zero, suc, ◌<◌, ◌≤◌, List, [], ◌∷◌, length, Bool, true, false, nat_lt, cond, ◌&&◌, ◌||◌, Option, Some, None, Result, slice_get, refl, sym, ap, ◌∙◌, subst, true≢false, arith, Contains, codes}
-use Rattle.std.proofs.lemmas.Bool.{le-leb, ltb-true, lt-ltb}
+use Rattle.std.proofs.lemmas.Bool.{and_from, or_right, le-leb, ltb-true, lt-ltb}
 use Rattle.std.proofs.lemmas.Slice.Eq.{bytes_eq-Decides}
 use Rattle.std.specs.List.{list_all}
 use Rattle.std.specs.Str.{bytes_eq}
-use Rattle.serde_json.specs.Data.{Data, null, boolean, number, string, array, object, Items, no_items, item}
+use Rattle.serde_json.specs.Data.{Data, null, array, Items, no_items, item}
 use Rattle.net_json.specs.Finding.{names_of}
 use Rattle.net_json.specs.Fitting.{EachIs, HasAt, IsListThat, Fits}
 use Rattle.net_json.specs.Grammar.{Grammar, plain, Known}
@@ -19,8 +19,8 @@ use Rattle.net_plan.specs.declared.nodes.Kind.TheVariants.{Endpoint}
 use Rattle.net_json.specs.declared.error.ValueFault.{ValueFault}
 use Rattle.net_json.specs.declared.shape.Named.{Named}
 use Rattle.net_json.specs.declared.shape.Word.TheVariants as word
-use Rattle.net_json.proofs.KeysLaw.{among_Contains, Contains_among, or_true}
-use Rattle.net_json.proofs.WordsLaw.{first_within, first_only, name_tells, hex_tells, address_tells, kind_tells}
+use Rattle.net_json.proofs.KeysLaw.{among_Contains, Contains_among}
+use Rattle.net_json.proofs.WordsLaw.{same_Some, first_within, first_only, name_tells, hex_tells, address_tells, kind_tells}
 use Rattle.net_json.proofs.Telling.{Tells, any, both, number_tells, truth_tells}
 
 -- Of a value that is `strict` what R tells is made, and nothing else is R to it. A value that is `loose` is `strict` where
@@ -87,13 +87,10 @@ below (n ∷ ns) s e = by (bytes_eq s n) refl e (below ns s)
     by true is e rest = omega arith
     by false is e rest = let less = rest e in omega arith
 
-same_Some : {A : Type 0} {a b : A} → Some a ≡ Some b → a ≡ b
-same_Some e = cc
-
 among_at : (names : List (List ℕ)) (s : List ℕ) (i : ℕ) → slice_get names i ≡ Some s → is_among names s ≡ true
 among_at [] s i e = cc
 among_at (n ∷ ns) s zero e = ap (λ b. b || is_among ns s) ((bytes_eq-Decides s n).1 (sym (same_Some e)))
-among_at (n ∷ ns) s (suc i) e = or_true (bytes_eq s n) (is_among ns s) (among_at ns s i e)
+among_at (n ∷ ns) s (suc i) e = or_right (bytes_eq s n) (is_among ns s) (among_at ns s i e)
 
 pub index_makes : (k : Known) (names : Named) → Made k (plain (word.Named names)) (index_in (index_among (names_of names k))) (λ i. nat_lt i (length (names_of names k))) (IsIndexOfName (names_of names k))
 index_makes k names =
@@ -129,9 +126,6 @@ one_back key n d h = (h.0, h.1, (n, (h.2, omega arith, omega arith)))
 
 -- ---- lists
 
-pub both_true : (a b : Bool) → a ≡ true → b ≡ true → (a && b) ≡ true
-both_true a b p q = rw (p, q) refl
-
 module _ {A : Type 0} {loose strict : Data → Type 0} {f : Data → A} {test : A → Bool} {R : Data → A → Type 0} (m : Makes loose strict f test R) where
   items_there : (ds : Items) → EachIs strict ds → AreItems R ds (each_made f ds)
   items_there no_items h = tt
@@ -144,9 +138,8 @@ module _ {A : Type 0} {loose strict : Data → Type 0} {f : Data → A} {test : 
 
   items_same : (ds : Items) (xs : List A) → AreItems R ds xs → each_made f ds ≡ xs
   items_same no_items [] h = refl
-  items_same no_items (x ∷ xs) h = absurd h
-  items_same (item d ds) [] h = absurd h
   items_same (item d ds) (x ∷ xs) h = rw (m.same d x h.0, items_same ds xs h.1) refl
+  items_same ds xs h = absurd h
 
   items_known : (ds : Items) → EachIs loose ds → list_all test (each_made f ds) ≡ true → EachIs strict ds
   items_known no_items h pass = tt
@@ -154,7 +147,7 @@ module _ {A : Type 0} {loose strict : Data → Type 0} {f : Data → A} {test : 
 
   items_pass : (ds : Items) → EachIs strict ds → list_all test (each_made f ds) ≡ true
   items_pass no_items h = refl
-  items_pass (item d ds) h = both_true (test (f d)) (list_all test (each_made f ds)) (m.passes d h.0) (items_pass ds h.1)
+  items_pass (item d ds) h = and_from (test (f d)) (list_all test (each_made f ds)) (m.passes d h.0) (items_pass ds h.1)
 
   pub list_makes : Makes (IsListThat None loose) (IsListThat None strict) (each_in f) (list_all test) (IsListOf R)
   list_makes = record {
@@ -189,16 +182,8 @@ module _ {A : Type 0} {loose strict : Data → Type 0} {f : Data → A} {test : 
   module _ (some : (d : Data) → strict d → d ≢ null) where
     optional_there : (d : Data) → (d ≡ null) ⊎ strict d → IsOptional R d (optional_in f d)
     optional_there null h = refl
-    optional_there (boolean b) (inl e) = cc
-    optional_there (boolean b) (inr h) = ((λ e. cc), m.there (boolean b) h)
-    optional_there (number n) (inl e) = cc
-    optional_there (number n) (inr h) = ((λ e. cc), m.there (number n) h)
-    optional_there (string s) (inl e) = cc
-    optional_there (string s) (inr h) = ((λ e. cc), m.there (string s) h)
-    optional_there (array ds) (inl e) = cc
-    optional_there (array ds) (inr h) = ((λ e. cc), m.there (array ds) h)
-    optional_there (object ms) (inl e) = cc
-    optional_there (object ms) (inr h) = ((λ e. cc), m.there (object ms) h)
+    optional_there d (inl e) = cc
+    optional_there d (inr h) = ((λ e. cc), m.there d h)
 
     optional_back : (d : Data) (x : Option A) → IsOptional R d x → (d ≡ null) ⊎ strict d
     optional_back d None h = inl h
@@ -206,11 +191,7 @@ module _ {A : Type 0} {loose strict : Data → Type 0} {f : Data → A} {test : 
 
     some_is : (d : Data) → d ≢ null → optional_in f d ≡ Some (f d)
     some_is null h = absurd (h refl)
-    some_is (boolean b) h = refl
-    some_is (number n) h = refl
-    some_is (string s) h = refl
-    some_is (array ds) h = refl
-    some_is (object ms) h = refl
+    some_is d h = refl
 
     optional_same : (d : Data) (x : Option A) → IsOptional R d x → optional_in f d ≡ x
     optional_same d None h = ap (optional_in f) h
@@ -218,16 +199,8 @@ module _ {A : Type 0} {loose strict : Data → Type 0} {f : Data → A} {test : 
 
     optional_known : (d : Data) → (d ≡ null) ⊎ loose d → is_none_or test (optional_in f d) ≡ true → (d ≡ null) ⊎ strict d
     optional_known null h pass = inl refl
-    optional_known (boolean b) (inl e) pass = inl e
-    optional_known (boolean b) (inr h) pass = inr (m.known (boolean b) h pass)
-    optional_known (number n) (inl e) pass = inl e
-    optional_known (number n) (inr h) pass = inr (m.known (number n) h pass)
-    optional_known (string s) (inl e) pass = inl e
-    optional_known (string s) (inr h) pass = inr (m.known (string s) h pass)
-    optional_known (array ds) (inl e) pass = inl e
-    optional_known (array ds) (inr h) pass = inr (m.known (array ds) h pass)
-    optional_known (object ms) (inl e) pass = inl e
-    optional_known (object ms) (inr h) pass = inr (m.known (object ms) h pass)
+    optional_known d (inl e) pass = inl e
+    optional_known d (inr h) pass = inr (m.known d h pass)
 
     optional_passes : (d : Data) → (d ≡ null) ⊎ strict d → is_none_or test (optional_in f d) ≡ true
     optional_passes d (inl e) = ap (λ v. is_none_or test (optional_in f v)) e

@@ -15,9 +15,8 @@ use Rattle.net_json.proofs.WordsLaw.{first_only}
 use Rattle.net_json.proofs.Telling.{demanded}
 
 stands_at : (names : List (List ℕ)) (k : ℕ) (name : List ℕ) → slice_get names k ≡ Some name → get_or names k [] ≡ name
-stands_at [] k name is = cc
-stands_at (n ∷ ns) zero name is = cc
 stands_at (n ∷ ns) (suc k) name is = stands_at ns k name is
+stands_at names k name is = cc
 
 module _ {A : Type 0} (R : Data → A → Type 0) (node_of : A → ℕ) (nodes : List (List ℕ)) (named : (d : Data) (x : A) → R d x → At (codes "node") (IsIndexOfName nodes) d (node_of x)) where
   abbrev IsItsFirst : A → Type 0
@@ -25,21 +24,19 @@ module _ {A : Type 0} (R : Data → A → Type 0) (node_of : A → ℕ) (nodes :
 
   names_here : (ds : Items) (xs : List A) → AreItems R ds xs → each_text_at (codes "node") ds ≡ map (λ x. get_or nodes (node_of x) []) xs
   names_here no_items [] h = refl
-  names_here no_items (x ∷ xs) h = absurd h
-  names_here (item d ds) [] h = absurd h
   names_here (item d ds) (x ∷ xs) h = rw (here, names_here ds xs h.1) refl
     where
       here : text_at (codes "node") d ≡ get_or nodes (node_of x) []
       here = let place = named d x h.0 in ap text_found (place.1 ∙ ap Some place.2.1.0) ∙ sym (stands_at nodes (node_of x) place.2.0 place.2.2.stands)
+  names_here ds xs h = absurd h
 
   firsts : (ds : Items) (xs : List A) → AreItems R ds xs → AllByRecursion IsItsFirst xs
   firsts no_items [] h = tt
-  firsts no_items (x ∷ xs) h = absurd h
-  firsts (item d ds) [] h = absurd h
   firsts (item d ds) (x ∷ xs) h = (here, firsts ds xs h.1)
     where
       here : IsItsFirst x
       here = let place = named d x h.0 in rw (stands_at nodes (node_of x) place.2.0 place.2.2.stands) place.2.2
+  firsts ds xs h = absurd h
 
   apart_sound : (xs : List A) → AllPairs (λ a b. a ≢ b) (map (λ x. get_or nodes (node_of x) []) xs) → AllPairs (λ a b. node_of a ≢ node_of b) xs
   apart_sound xs h i j d below within same =

@@ -1,14 +1,14 @@
 -- What is gathered of a certificate, as a value.
-use Rattle.std.proofs.Common.{◌≡◌, ◌≢◌, ◌<◌, ◌+◌, ◌∙◌, ◌||◌, ◌==◌, ℕ, zero, suc, List, [], ◌∷◌, length, map, take, get_or, Vec, Global, Bor, Bool, true, false, Some, None, codes, AllPairs, subst, sym, ap, refl, true≢false, arith}
+use Rattle.std.proofs.Common.{◌≡◌, ◌≢◌, ◌<◌, ◌+◌, ◌∙◌, ◌||◌, ◌==◌, ℕ, zero, suc, List, [], ◌∷◌, length, map, take, get_or, Vec, Global, Bool, true, false, Some, None, codes, AllPairs, subst, sym, ap, refl, true≢false, arith}
 use Rattle.std.proofs.lemmas.Bool.Decides.{Decides-eqb}
-use Rattle.std.proofs.lemmas.List.{length-map, get_or-map}
+use Rattle.std.proofs.lemmas.List.{length-map, get_or-map, get_or_default}
 use Rattle.std.specs.List.{list_any}
-use Rattle.json.specs.Json.{object, Members, no_members}
+use Rattle.json.specs.Json.{object, Members}
 use Rattle.serde_json.specs.Data.{Data}
 use Rattle.net_json.specs.CertificateText.{IsLevelOf, ArePlacesOf, AreRanksOf}
 use Rattle.net_plan.specs.CertificateValues.{level_value, places_value, node_ranks_value}
 use Rattle.net_json.specs.Gathered.{IsPlain, AreParts}
-use Rattle.net_json.specs.JsonWords.{IsNumber, IsNumberWithin, IsListOf}
+use Rattle.net_json.specs.JsonWords.{At, IsNumber, IsNumberWithin, IsListOf}
 use Rattle.net_json.specs.Keys.{certificate_keys}
 use Rattle.net_json.specs.LevelParts.{IsLevelBy}
 use Rattle.net_json.specs.PlaceParts.{ArePlacesBy}
@@ -20,19 +20,13 @@ use Rattle.net_json.specs.Trees.{data_of}
 use Rattle.net_plan.specs.declared.certificate.NodeLevel.{NodeLevel}
 use Rattle.net_plan.specs.declared.certificate.NodePlaces.{NodePlaces}
 use Rattle.net_plan.specs.declared.certificate.NodeRanks.{NodeRanks}
-use Rattle.net_json.specs.declared.name_index.NameIndex.{NameIndex}
 use Rattle.net_json.specs.declared.plain_certificate.CertificateParts.{CertificateParts}
-use Rattle.net_json.proofs.Gathered.{none_plain, object_plain, all_keys, at_gathered, here, each_moved}
-
-pub no_parts : (nodes : Bor NameIndex) → AreParts (certificate_slots (record { nodes = nodes; format = None; levels = None; places = None; ranks = None })) no_members
-no_parts nodes = record { plain = none_plain certificate_keys; read = (refl, (refl, (refl, (refl, tt)))) }
+use Rattle.net_json.proofs.Gathered.{object_plain, all_keys, here, each_moved}
 
 -- ---- entries of other nodes
 
 -- no element before a place passes the test
 none_before : {A : Type 0} (p : A → Bool) (xs : List A) (n i : ℕ) (d : A) → i < n → i < length xs → list_any p (take n xs) ≡ false → p (get_or xs i d) ≡ false
-none_before p [] n i d below within none = absurd (omega arith)
-none_before p (x ∷ xs) zero i d below within none = absurd (omega arith)
 none_before p (x ∷ xs) (suc n) zero d below within none = by (p x) none
   where
     by : (b : Bool) → (b || list_any p (take n xs)) ≡ false → b ≡ false
@@ -43,14 +37,10 @@ none_before p (x ∷ xs) (suc n) (suc i) d below within none = none_before p xs 
     by : (b : Bool) → (b || list_any p (take n xs)) ≡ false → list_any p (take n xs) ≡ false
     by false e = e
     by true e = absurd (true≢false e)
+none_before p xs n i d below within none = absurd (omega arith)
 
 not_equal : (a b : ℕ) → (a == b) ≡ false → a ≢ b
 not_equal a b e same = true≢false (sym ((Decides-eqb a b).1 same) ∙ e)
-
-same_default : {A : Type 0} (xs : List A) (n : ℕ) (d e : A) → n < length xs → get_or xs n d ≡ get_or xs n e
-same_default [] n d e within = absurd (omega arith)
-same_default (x ∷ xs) zero d e within = refl
-same_default (x ∷ xs) (suc n) d e within = same_default xs n d e (omega arith)
 
 -- one more entry, of another node than those before it
 pub apart_more : {A : Type 0} (f : A → ℕ) (xs : List A) (n : ℕ) (x : A) → n < length xs → x ≡ get_or xs n x → list_any (λ y. f y == f x) (take n xs) ≡ false
@@ -60,7 +50,7 @@ apart_more f xs n x within is none before i j d below most same = by (j == n) re
     by : (b : Bool) → (j == n) ≡ b → ⊥
     by true e =
         let last : j ≡ n = (Decides-eqb j n).0 e in
-        let here : get_or xs j d ≡ x = ap (λ k. get_or xs k d) last ∙ same_default xs n d x within ∙ sym is in
+        let here : get_or xs j d ≡ x = ap (λ k. get_or xs k d) last ∙ get_or_default xs n d x within ∙ sym is in
         not_equal (f (get_or xs i d)) (f x) (none_before (λ y. f y == f x) xs n i d (omega arith) (omega arith) none) (same ∙ ap f here)
     by false e =
         let other : j ≢ n = not_equal j n e in
@@ -71,15 +61,14 @@ pairs_seen see R [] h i j d below within = absurd (omega arith)
 pairs_seen see R (x ∷ xs) h i j d below within =
     let all = x ∷ xs in
     let in_j : j < length all = omega (arith, length-map all see) in
-    let in_i : i < length all = omega arith in
-    let first = sym (get_or-map see all i x d in_i) in
+    let first = sym (get_or-map see all i x d (omega arith)) in
     let second = sym (get_or-map see all j x d in_j) in
     subst (λ b. R (get_or (map see all) i d) b) second (subst (λ a. R a (see (get_or all j x))) first (h i j x below in_j))
 
 -- ---- the certificate
 
-moved : {A : Type 0} (R S : Data → A → Type 0) (d : Data) (xs : List A) → ((d : Data) (x : A) → R d x → S d x) → IsListOf R d xs → IsListOf S d xs
-moved R S d xs move h = (h.0, h.1, each_moved R S h.0 xs move h.2)
+moved : {A : Type 0} (key : List ℕ) (R S : Data → A → Type 0) (d : Data) (xs : List A) → ((d : Data) (x : A) → R d x → S d x) → At key (IsListOf R) d xs → At key (IsListOf S) d xs
+moved key R S d xs move h = (h.0, h.1, (h.2.0, h.2.1, each_moved R S h.2.0 xs move h.2.2))
 
 only_one : (d : Data) (n : ℕ) → IsNumberWithin 1 1 d n → IsNumber d 1
 only_one d n h =
@@ -96,13 +85,10 @@ certificate_of p format levels places ranks is_format is_levels is_places is_ran
     let ranks_here = here (codes "ranks") (λ d v. IsListOf (AreRanksBy (noted p.nodes.now)) d (map node_ranks_value v.items)) p.ranks ms h.read.1.1.1.0 ranks is_ranks in (
       λ plan found. let names = node_names plan.nodes in record {
         keys = all_keys certificate_keys ms h.plain (rw (format_here.1, levels_here.1, places_here.1, ranks_here.1) refl);
-        format = at_gathered (codes "format") IsNumber 1 ms (format_here.0, format_here.1, only_one (data_of format_here.0) format format_here.2);
-        levels = at_gathered (codes "levels") (IsListOf (IsLevelOf names)) (map level_value levels.items) ms
-            (levels_here.0, levels_here.1, moved (IsLevelBy (noted p.nodes.now)) (IsLevelOf names) (data_of levels_here.0) (map level_value levels.items) (λ d x is. is names found) levels_here.2);
-        places = at_gathered (codes "places") (IsListOf (ArePlacesOf names)) (map places_value places.items) ms
-            (places_here.0, places_here.1, moved (ArePlacesBy (noted p.nodes.now)) (ArePlacesOf names) (data_of places_here.0) (map places_value places.items) (λ d x is. is names found) places_here.2);
-        ranks = at_gathered (codes "ranks") (IsListOf (AreRanksOf names)) (map node_ranks_value ranks.items) ms
-            (ranks_here.0, ranks_here.1, moved (AreRanksBy (noted p.nodes.now)) (AreRanksOf names) (data_of ranks_here.0) (map node_ranks_value ranks.items) (λ d x is. is names found) ranks_here.2);
+        format = (format_here.2.0, format_here.2.1, only_one format_here.2.0 format format_here.2.2);
+        levels = moved (codes "levels") (IsLevelBy (noted p.nodes.now)) (IsLevelOf names) (data_of (object ms)) (map level_value levels.items) (λ d x is. is names found) levels_here.2;
+        places = moved (codes "places") (ArePlacesBy (noted p.nodes.now)) (ArePlacesOf names) (data_of (object ms)) (map places_value places.items) (λ d x is. is names found) places_here.2;
+        ranks = moved (codes "ranks") (AreRanksBy (noted p.nodes.now)) (AreRanksOf names) (data_of (object ms)) (map node_ranks_value ranks.items) (λ d x is. is names found) ranks_here.2;
         one_level = pairs_seen level_value (λ a b. a.node ≢ b.node) levels.items one_level;
         one_places = pairs_seen places_value (λ a b. a.node ≢ b.node) places.items one_places;
         one_ranks = pairs_seen node_ranks_value (λ a b. a.node ≢ b.node) ranks.items one_ranks;

@@ -1,13 +1,13 @@
 -- What is gathered of a list of events, as a value.
-use Rattle.std.proofs.Common.{◌≡◌, ◌≢◌, ◌∷◌, ℕ, List, [], map, Vec, Global, Bor, true, Option, Some, None, codes, sym, refl, true≢false}
+use Rattle.std.proofs.Common.{◌≡◌, ◌≢◌, ◌∷◌, ℕ, List, [], map, Vec, Global, true, Option, Some, None, codes, sym, refl, true≢false}
 use Rattle.std.specs.List.{list_all}
-use Rattle.json.specs.Json.{object, Members, no_members}
+use Rattle.json.specs.Json.{object, Members}
 use Rattle.serde_json.specs.Data as whole
 use Rattle.serde_json.specs.Data.{Data}
 use Rattle.net_json.specs.EventParts.{IsEventBy}
 use Rattle.net_json.specs.EventReading.{has_switches, has_walks}
 use Rattle.net_json.specs.EventText.{IsFormat, IsEventOf}
-use Rattle.net_plan.specs.EventValues.{EventEntry, put, move, lose, expire, answer, switch, walk, ask, collected, event_entry}
+use Rattle.net_plan.specs.EventValues.{EventEntry, switch, walk, ask, collected, event_entry}
 use Rattle.net_json.specs.Gathered.{IsPlain, AreParts}
 use Rattle.net_json.specs.JsonWords.{AreItems, IsShortListOf}
 use Rattle.net_json.specs.Keys.{events_keys}
@@ -17,46 +17,35 @@ use Rattle.net_plan.specs.PlanValues.{node_names}
 use Rattle.net_json.specs.Trees.{data_of}
 use Rattle.net_plan.specs.declared.event.Event.{Event}
 use Rattle.net_json.specs.declared.event_format.Format.{Format}
-use Rattle.net_json.specs.declared.event_format.Format.TheVariants.{One, Two, Three}
+use Rattle.net_json.specs.declared.event_format.Format.TheVariants.{One, Three}
 use Rattle.net_json.specs.declared.plain_events.EventsParts.{EventsParts}
-use Rattle.net_json.specs.declared.name_index.NameIndex.{NameIndex}
-use Rattle.net_json.proofs.Gathered.{none_plain, object_plain, all_keys, at_gathered, here}
+use Rattle.net_json.proofs.Gathered.{object_plain, all_keys, here}
 use Rattle.net_json.proofs.Telling.{both}
-
-pub no_parts : (nodes : Bor NameIndex) → AreParts (events_slots (record { nodes = nodes; format = None; events = None })) no_members
-no_parts nodes = record { plain = none_plain events_keys; read = (refl, (refl, tt)) }
 
 -- ---- the format
 
 later : (f : Format) → has_switches f ≡ true → f ≢ One
 later One e = absurd (true≢false (sym e))
-later Two e = λ h. cc
-later Three e = λ h. cc
+later f e = λ h. cc
 
 third : (f : Format) → has_walks f ≡ true → f ≡ Three
-third One e = absurd (true≢false (sym e))
-third Two e = absurd (true≢false (sym e))
 third Three e = refl
+third f e = absurd (true≢false (sym e))
 
 module _ (f : Format) (names : List (List ℕ)) where
   in_format : (d : Data) (e : EventEntry) → IsEventOf Three names d e → is_event_in f e ≡ true → IsEventOf f names d e
-  in_format d (put node bytes) h has = h
-  in_format d (move flight keep) h has = h
-  in_format d (lose flight) h has = h
-  in_format d (expire node source tag owner) h has = h
-  in_format d (answer node) h has = h
   in_format d (switch node) h has = record { later = later f has; keys = h.keys; does = h.does; at_node = h.at_node }
   in_format d (walk node eid tag count) h has = record { third = third f has; keys = h.keys; does = h.does; at_node = h.at_node; asked = h.asked; tagged = h.tagged; counted = h.counted }
   in_format d (ask walker) h has = record { third = third f has; keys = h.keys; does = h.does; number = h.number }
   in_format d (collected walker) h has = record { third = third f has; keys = h.keys; does = h.does; number = h.number }
+  in_format d e h has = h
 
   all_in_format : (find : List ℕ → Option ℕ) → IsIndexOf find names → (ds : whole.Items) (es : List EventEntry) → AreItems (IsEventBy find) ds es → list_all (is_event_in f) es ≡ true → AreItems (IsEventOf f names) ds es
   all_in_format find places whole.no_items [] h has = tt
-  all_in_format find places whole.no_items (e ∷ es) h has = absurd h
-  all_in_format find places (whole.item d ds) [] h has = absurd h
   all_in_format find places (whole.item d ds) (e ∷ es) h has =
       let p = both (is_event_in f e) (list_all (is_event_in f) es) has in
       (in_format d e (h.0 names places) p.0, all_in_format find places ds es h.1 p.1)
+  all_in_format find places ds es h has = absurd h
 
 pub events_of : (p : EventsParts) (f : Format) (v : Vec Event Global) → p.format ≡ Some f → p.events ≡ Some v → list_all (is_event_in f) (map event_entry v.items) ≡ true → (ms : Members) → AreParts (events_slots p) ms
     → AreEventsBy (noted p.nodes.now) (data_of (object ms)) (map event_entry v.items) × IsPlain (object ms)
@@ -65,13 +54,12 @@ events_of p f v is_format is_events has ms h =
     let es = map event_entry v.items in
     let formatted = here (codes "format") IsFormat p.format ms h.read.0 f is_format in
     let listed = here (codes "events") (λ d v. IsShortListOf 100000 (IsEventBy find) d (map event_entry v.items)) p.events ms h.read.1.0 v is_events in
-    let short = listed.2 in (
+    let short = listed.2.2 in (
       λ plan places. record {
         keys = all_keys events_keys ms h.plain (rw (formatted.1, listed.1) refl);
         format = f;
-        numbered = at_gathered (codes "format") IsFormat f ms formatted;
-        events = at_gathered (codes "events") (IsShortListOf 100000 (IsEventOf f (node_names plan.nodes))) es ms
-            (listed.0, listed.1, ((short.0.0, short.0.1, all_in_format f (node_names plan.nodes) find places short.0.0 es short.0.2 has), short.1));
+        numbered = formatted.2;
+        events = (listed.2.0, listed.2.1, ((short.0.0, short.0.1, all_in_format f (node_names plan.nodes) find places short.0.0 es short.0.2 has), short.1));
       },
       object_plain events_keys ms h.plain,
     )

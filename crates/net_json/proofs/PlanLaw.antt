@@ -179,9 +179,8 @@ module _ (k : Known) where
 module _ {A : Type 0} (R : Data → A → Type 0) (name_of : A → List ℕ) (name : (d : Data) (x : A) → R d x → At (codes "name") IsName d (name_of x)) where
   each_named : (ds : Items) (xs : List A) → AreItems R ds xs → each_text_at (codes "name") ds ≡ map name_of xs
   each_named no_items [] h = refl
-  each_named no_items (x ∷ xs) h = absurd h
-  each_named (item d ds) [] h = absurd h
   each_named (item d ds) (x ∷ xs) h = let is = name d x h.0 in rw (ap text_found (is.1 ∙ ap Some is.2.0), each_named ds xs h.1) refl
+  each_named ds xs h = absurd h
 
   named : (key : List ℕ) (d : Data) (xs : List A) → At key (IsShortListOf 64 R) d xs → names_at key d ≡ map name_of xs
   named key d xs h = ap names_in (h.1 ∙ ap Some h.2.0.1) ∙ each_named h.2.0.0 xs h.2.0.2
@@ -218,20 +217,17 @@ module _ (d : Data) (lists : FieldsFit None plan_lists d) where
 
 -- ---- plans
 
+nobody : Known
+nobody = record { buses = []; nodes = [] }
+
 -- the parts of a plan whose format is this one
 pub parts : (f : PlanFormat) (d : Data) → Fits None (a_plan f) d → At (codes "format") IsPlanFormat d f × HasKeys (plan_keys f) d × IsUnitOf f d (unit_made f d) × FieldsFit None plan_lists d
 parts One d h = (one_there (codes "format") 1 d h.1.0, h.0, refl, h.1.1)
 parts Two d h = (one_there (codes "format") 2 d h.1.0, h.0, (number_made nobody (codes "unit") 64 1024).there d h.1.1.0, h.1.1.1)
-  where
-    nobody : Known
-    nobody = record { buses = []; nodes = [] }
 
 whole : (f : PlanFormat) (d : Data) (unit : ℕ) → At (codes "format") IsPlanFormat d f → HasKeys (plan_keys f) d → IsUnitOf f d unit → FieldsFit None plan_lists d → Fits None (a_plan f) d × (unit_made f d ≡ unit)
 whole One d unit n keys u lists = ((keys, (one_back (codes "format") 1 d n, lists), tt), sym u)
 whole Two d unit n keys u lists = ((keys, (one_back (codes "format") 2 d n, ((number_made nobody (codes "unit") 64 1024).back d unit u, lists)), tt), (number_made nobody (codes "unit") 64 1024).same d unit u)
-  where
-    nobody : Known
-    nobody = record { buses = []; nodes = [] }
 
 -- a plan whose nodes name what is known names what is known
 pub strictly : (k : Known) (f : PlanFormat) (d : Data) → Fits None (a_plan f) d → HasAt (codes "nodes") (λ e. Fits (Some k) (a_list (Some 64) a_node) e) d → Fits (Some k) (a_plan f) d

@@ -10,10 +10,8 @@ use Rattle.serde_json.specs.View.{items_of}
 use Rattle.net_json.specs.CertificateJson.{list_data, number_data, name_data, level_data, places_data, range_data, ranks_data, certificate_data, certificate_text}
 use Rattle.serde_json.specs.Read.{read}
 use Rattle.net_json.specs.CertificateReading.{certificate}
-use Rattle.net_plan.specs.CertificateValues.{are_known}
+use Rattle.net_plan.specs.CertificateValues.{are_known, IsAscending, CertificateValue, level_value, places_value, range_value, node_ranks_value, certificate_value}
 use Rattle.net_json.specs.CertificateText.{IsLevelOf, ArePlacesOf, IsRangeOf, AreRanksOf, IsCertificateOf}
-use Rattle.net_plan.specs.CertificateValues.{IsAscending}
-use Rattle.net_plan.specs.CertificateValues.{CertificateValue, level_value, places_value, range_value, node_ranks_value, certificate_value}
 use Rattle.net_json.specs.JsonWords.{AreItems, IsNumberWithin, IsIndexOfName, IsFirstOf}
 use Rattle.net_json.specs.Keys.{certificate_keys, level_keys, places_keys, ranks_keys, range_keys}
 use Rattle.net_plan.specs.NameText.{is_name}
@@ -158,15 +156,11 @@ module _ (p : PlanValue) (bytes : List ℕ) (v : CertificateValue) (stands : IsJ
     where
       no_value_there : None ≡ Some stands.0 → ⊥
       no_value_there e = cc
-  not_refused errors.WrongKind h = absurd (not_faulty fault.WrongKind h)
-  not_refused errors.MissingKey h = absurd (not_faulty fault.MissingKey h)
-  not_refused errors.UnknownKey h = absurd (not_faulty fault.UnknownKey h)
-  not_refused errors.OutOfRange h = absurd (not_faulty fault.OutOfRange h)
   not_refused errors.UnknownName h = absurd (not_faulty fault.UnknownName h.0)
-  not_refused errors.BadHex h = absurd (not_faulty fault.BadHex h)
   not_refused errors.Doubled (inl h) = absurd (not_faulty fault.Doubled h)
   not_refused errors.Doubled (inr h) = absurd (not_doubled bytes stands.2 h.2)
   not_refused errors.Device h = absurd h
+  not_refused e h = absurd (not_faulty _ h)
 
   not_long : length bytes ≤ 2097152 → IsRefused (certificate (node_names p.nodes)) (IsCertificateOf p) bytes errors.OverLimit → ⊥
   not_long short (inl long) = omega (arith, short, long)

@@ -13,9 +13,7 @@ use Rattle.serde_json.specs.Data.{Data, Members, no_members, member}
 use Rattle.serde_json.specs.View.{items_of}
 use Rattle.serde_json.specs.Written.{compact_text, comma_if, items_text, members_text}
 use Rattle.net_json.specs.CertificateJson.{list_data, number_data, name_data, level_data, places_data, range_data, ranks_data, certificate_data, certificate_text}
-use Rattle.net_plan.specs.CertificateValues.{are_known}
-use Rattle.net_plan.specs.CertificateValues.{IsAscending}
-use Rattle.net_plan.specs.CertificateValues.{RangeValue, level_value, places_value, range_value, node_ranks_value, certificate_value}
+use Rattle.net_plan.specs.CertificateValues.{are_known, IsAscending, RangeValue, level_value, places_value, range_value, node_ranks_value, certificate_value}
 use Rattle.net_plan.specs.NameText.{is_name_byte, has_name_length}
 use Rattle.net_plan.specs.PlanValues.{node_value, node_names, plan_value}
 use Rattle.net_plan.specs.WellFormed.{IsWellFormed}
@@ -88,45 +86,10 @@ member_size later k d ms =
 
 -- ---- keys
 
-key_level : length (quoted (codes "level")) ≡ 7
+key_sizes : (length (quoted (codes "level")) ≡ 7) × (length (quoted (codes "node")) ≡ 6) × (length (quoted (codes "places")) ≡ 8) × (length (quoted (codes "first")) ≡ 7) × (length (quoted (codes "rank")) ≡ 6)
+    × (length (quoted (codes "size")) ≡ 6) × (length (quoted (codes "ranges")) ≡ 8) × (length (quoted (codes "format")) ≡ 8) × (length (quoted (codes "levels")) ≡ 8) × (length (quoted (codes "ranks")) ≡ 7)
 unfolding escape_byte
-key_level = refl
-
-key_node : length (quoted (codes "node")) ≡ 6
-unfolding escape_byte
-key_node = refl
-
-key_places : length (quoted (codes "places")) ≡ 8
-unfolding escape_byte
-key_places = refl
-
-key_first : length (quoted (codes "first")) ≡ 7
-unfolding escape_byte
-key_first = refl
-
-key_rank : length (quoted (codes "rank")) ≡ 6
-unfolding escape_byte
-key_rank = refl
-
-key_size : length (quoted (codes "size")) ≡ 6
-unfolding escape_byte
-key_size = refl
-
-key_ranges : length (quoted (codes "ranges")) ≡ 8
-unfolding escape_byte
-key_ranges = refl
-
-key_format : length (quoted (codes "format")) ≡ 8
-unfolding escape_byte
-key_format = refl
-
-key_levels : length (quoted (codes "levels")) ≡ 8
-unfolding escape_byte
-key_levels = refl
-
-key_ranks : length (quoted (codes "ranks")) ≡ 7
-unfolding escape_byte
-key_ranks = refl
+key_sizes = (refl, refl, refl, refl, refl, refl, refl, refl, refl, refl)
 
 -- ---- entries
 
@@ -141,20 +104,16 @@ module _ (ns : List Node) where
   level_size l =
       let low : l.level ≤ 255 = let within : l.level ≤ 63 = l.within in omega arith in
       let node : Members = member (codes "node") (name_data names l.node) no_members in
-      let a : length (quoted (codes "level")) ≡ 7 = key_level in
-      let b : length (quoted (codes "node")) ≡ 6 = key_node in
       let end : length (members_text true no_members) ≡ 1 = refl in
-      omega (arith, a, b, end, byte_size l.level low, node_size l.node, member_size false (codes "level") (number_data l.level) node, member_size true (codes "node") (name_data names l.node) no_members)
+      omega (arith, key_sizes.0, key_sizes.1, end, byte_size l.level low, node_size l.node, member_size false (codes "level") (number_data l.level) node, member_size true (codes "node") (name_data names l.node) no_members)
 
   places_size : (p : NodePlaces) → length (places_value p).places ≤ 4096 → 1 + length (compact_text (places_data names (places_value p))) ≤ 20700
   places_size p few =
       let list = list_data number_data (places_value p).places in
       let rest : Members = member (codes "places") list no_members in
-      let a : length (quoted (codes "node")) ≡ 6 = key_node in
-      let b : length (quoted (codes "places")) ≡ 8 = key_places in
       let end : length (members_text true no_members) ≡ 1 = refl in
       let inner : length (items_text false (items_of (map number_data (places_value p).places))) ≤ 1 + length (places_value p).places * 5 = items_size number_data 5 false (places_value p).places (numbers p.places.items) in
-      omega (arith, a, b, end, inner, few, node_size p.node, member_size false (codes "node") (name_data names p.node) rest, member_size true (codes "places") list no_members)
+      omega (arith, key_sizes.1, key_sizes.2, end, inner, few, node_size p.node, member_size false (codes "node") (name_data names p.node) rest, member_size true (codes "places") list no_members)
     where
       numbers : (ps : List RecordPlace) → AllByRecursion (λ n. 1 + length (compact_text (number_data n)) ≤ 5) (map (λ place. place.value) ps)
       numbers [] = tt
@@ -170,23 +129,8 @@ module _ (ns : List Node) where
       let first : r.first.value ≤ 255 = let small : r.first.value < 256 = r.first.in_range in omega arith in
       let size : Members = member (codes "size") (number_data r.size) no_members in
       let rank : Members = member (codes "rank") (number_data r.rank) size in
-      let a : length (quoted (codes "first")) ≡ 7 = key_first in
-      let b : length (quoted (codes "rank")) ≡ 6 = key_rank in
-      let c : length (quoted (codes "size")) ≡ 6 = key_size in
       let end : length (members_text true no_members) ≡ 1 = refl in
-      omega (
-        arith,
-        a,
-        b,
-        c,
-        end,
-        byte_size r.first.value first,
-        byte_size r.rank r.rank_within,
-        byte_size r.size r.size_within,
-        member_size false (codes "first") (number_data r.first.value) rank,
-        member_size true (codes "rank") (number_data r.rank) size,
-        member_size true (codes "size") (number_data r.size) no_members,
-      )
+      omega (arith, key_sizes.3, key_sizes.4, key_sizes.5, end, byte_size r.first.value first, byte_size r.rank r.rank_within, byte_size r.size r.size_within, member_size false (codes "first") (number_data r.first.value) rank, member_size true (codes "rank") (number_data r.rank) size, member_size true (codes "size") (number_data r.size) no_members)
 
   ranges_size : (rs : List RankRange) → AllByRecursion (λ r. 1 + length (compact_text (range_data r)) ≤ 37) (map range_value rs)
   ranges_size [] = tt
@@ -196,11 +140,9 @@ module _ (ns : List Node) where
   ranks_size r few =
       let list = list_data range_data (node_ranks_value r).ranges in
       let rest : Members = member (codes "ranges") list no_members in
-      let a : length (quoted (codes "node")) ≡ 6 = key_node in
-      let b : length (quoted (codes "ranges")) ≡ 8 = key_ranges in
       let end : length (members_text true no_members) ≡ 1 = refl in
       let inner : length (items_text false (items_of (map range_data (node_ranks_value r).ranges))) ≤ 1 + length (node_ranks_value r).ranges * 37 = items_size range_data 37 false (node_ranks_value r).ranges (ranges_size r.ranges.items) in
-      omega (arith, a, b, end, inner, few, node_size r.node, member_size false (codes "node") (name_data names r.node) rest, member_size true (codes "ranges") list no_members)
+      omega (arith, key_sizes.1, key_sizes.6, end, inner, few, node_size r.node, member_size false (codes "node") (name_data names r.node) rest, member_size true (codes "ranges") list no_members)
 
   levels_size : (ls : List NodeLevel) → AllByRecursion (λ l. 1 + length (compact_text (level_data names l)) ≤ 217) (map level_value ls)
   levels_size [] = tt
@@ -272,29 +214,5 @@ short_text p c h few =
     let ranks : Members = member (codes "ranks") (list_data (ranks_data names) value.ranks) no_members in
     let places : Members = member (codes "places") (list_data (places_data names) value.places) ranks in
     let levels : Members = member (codes "levels") (list_data (level_data names) value.levels) places in
-    let a : length (quoted (codes "format")) ≡ 8 = key_format in
-    let b : length (quoted (codes "levels")) ≡ 8 = key_levels in
-    let d : length (quoted (codes "places")) ≡ 8 = key_places in
-    let e : length (quoted (codes "ranks")) ≡ 7 = key_ranks in
     let end : length (members_text true no_members) ≡ 1 = refl in
-    omega (
-      arith,
-      nodes,
-      l,
-      q,
-      r,
-      ls,
-      qs,
-      rs,
-      a,
-      b,
-      d,
-      e,
-      end,
-      byte_size 1 (omega arith),
-      member_size false (codes "format") (number_data 1) levels,
-      member_size true (codes "levels") (list_data (level_data names) value.levels) places,
-      member_size true (codes "places") (list_data (places_data names) value.places) ranks,
-      member_size true (codes "ranks") (list_data (ranks_data names) value.ranks) no_members,
-      length-append (compact_text (certificate_data names value)) (10 ∷ []),
-    )
+    omega (arith, nodes, l, q, r, ls, qs, rs, key_sizes.7, key_sizes.8, key_sizes.2, key_sizes.9, end, byte_size 1 (omega arith), member_size false (codes "format") (number_data 1) levels, member_size true (codes "levels") (list_data (level_data names) value.levels) places, member_size true (codes "places") (list_data (places_data names) value.places) ranks, member_size true (codes "ranks") (list_data (ranks_data names) value.ranks) no_members, length-append (compact_text (certificate_data names value)) (10 ∷ []))

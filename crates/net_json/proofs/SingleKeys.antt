@@ -1,6 +1,6 @@
 -- Keys that stand once in their object, and the trees of texts.
 use Rattle.std.proofs.Common.{◌≡◌, ℕ, List, [], ◌∷◌, map, true, ◌&&◌, Option, Some, None, option_and_then, Bor, refl, sym, ap, ◌∙◌, subst, append-nil}
-use Rattle.json.specs.Json.{Json, null, boolean, number, string, array, object, Items, no_items, item, Members, no_members, member, value, if_last}
+use Rattle.json.specs.Json.{Json, array, object, Items, no_items, item, Members, no_members, member, value, if_last}
 use Rattle.json.specs.Lex.{tokens}
 use Rattle.json.specs.Strict.{keys, HasUniqueKeys, ItemsHaveUniqueKeys, MembersHaveUniqueKeys}
 use Rattle.json.specs.Token.{Token}
@@ -25,12 +25,9 @@ keys_of (m ∷ ms) = ap (λ rest. m.0.now ∷ rest) (keys_of ms)
 
 mutual
   pub single_sound : (j : Json) → single j ≡ true → HasUniqueKeys j
-  single_sound null e = tt
-  single_sound (boolean b) e = tt
-  single_sound (number s) e = tt
-  single_sound (string s) e = tt
   single_sound (array js) e = items_sound js e
   single_sound (object ms) e = let p = both (names_differ (keys ms)) (members_single ms) e in (differ_sound (keys ms) p.0, members_sound ms p.1)
+  single_sound j e = tt
 
   items_sound : (js : Items) → items_single js ≡ true → ItemsHaveUniqueKeys js
   items_sound no_items e = tt
@@ -42,12 +39,9 @@ mutual
 
 mutual
   pub single_whole : (j : Json) → HasUniqueKeys j → single j ≡ true
-  single_whole null h = refl
-  single_whole (boolean b) h = refl
-  single_whole (number s) h = refl
-  single_whole (string s) h = refl
   single_whole (array js) h = items_whole js h
   single_whole (object ms) h = ap (λ b. b && members_single ms) (differ_whole (keys ms) h.0) ∙ members_whole ms h.1
+  single_whole j h = refl
 
   items_whole : (js : Items) → ItemsHaveUniqueKeys js → items_single js ≡ true
   items_whole no_items h = refl

@@ -1,6 +1,6 @@
 -- Values that stand for others.
-use Rattle.std.proofs.Common.{◌≡◌, ◌&&◌, ◌≢◌, ◌≤◌, ℕ, List, [], ◌∷◌, ◌++◌, length, map, Bool, true, false, cond, is_some, Option, Some, None, option_map, codes, Vec, Global, Bor, inl, inr, refl, ap, ◌∙◌, sym, subst, true≢false, append_assoc, arith, rules}
-use Rattle.std.proofs.lemmas.Bool.{ltb-true}
+use Rattle.std.proofs.Common.{◌≡◌, ◌&&◌, ◌≢◌, ◌≤◌, ℕ, List, [], ◌∷◌, ◌++◌, length, map, Bool, true, false, cond, is_some, Option, Some, None, option_map, codes, Vec, Global, Bor, inl, inr, refl, ap, ◌∙◌, sym, subst, true≢false, append_assoc, rules}
+use Rattle.std.proofs.lemmas.Bool.{and_from, ltb-true}
 use Rattle.std.proofs.lemmas.List.{length-map}
 use Rattle.std.specs.List.{list_all}
 use Rattle.std.proofs.lemmas.Slice.Eq.{bytes_eq-Decides}
@@ -18,10 +18,9 @@ use Rattle.serde_json.specs.Find.{get}
 use Rattle.net_json.specs.Gathered.{with_last, IsPlain, EachIs}
 use Rattle.net_json.specs.JsonWords.{HasKeys, At, AreItems, IsShortListOf, IsOptional, IsNumberWithin, IsName, IsIndexOfName}
 use Rattle.net_json.specs.Keys.{node_keys, plan_keys}
-use Rattle.net_plan.specs.NodeValues.{NodeValue, TerminusValue, node_value, terminus_value, bus_names, node_names}
 use Rattle.net_json.specs.Names.{names_differ, index_among}
 use Rattle.net_json.specs.PlanText.{IsByte, IsBusOf, IsPortOf, IsRowOf, IsPoolOf, IsTerminusOf, IsKindOf, IsNodeOf, IsPlanFormat, IsUnitOf, IsPlanOf}
-use Rattle.net_plan.specs.PlanValues.{PlanValue}
+use Rattle.net_plan.specs.PlanValues.{PlanValue, NodeValue, TerminusValue, node_value, terminus_value, bus_names, node_names}
 use Rattle.net_json.specs.SingleKeys.{single, items_single, members_single}
 use Rattle.net_json.specs.Skeleton.{IsStandIn, AreStandIns, IsCutTerminus, IsCutRows, IsCutNodes, IsNodeSkeleton, CutValue, cut_value, placed_value, found_row, found_value, with_part, with_parts}
 use Rattle.net_json.specs.RowParts.{NamedRowValue, IsNamedRowOf, named_row}
@@ -37,8 +36,8 @@ use Rattle.net_json.specs.declared.skeleton.PlacedParts.{PlacedParts}
 use Rattle.net_plan.specs.declared.terminus.PlannedTerminus.{PlannedTerminus}
 use Rattle.net_plan.specs.NameText.{is_name}
 use Rattle.net_plan.proofs.Placed.{passes}
-use Rattle.net_json.proofs.WordsLaw.{first_within}
-use Rattle.net_json.proofs.Gathered.{is_some_map, no_Some, same_Some, shown}
+use Rattle.net_json.proofs.WordsLaw.{same_Some, first_within}
+use Rattle.net_json.proofs.Gathered.{is_some_map, no_Some}
 use Rattle.net_json.proofs.Telling.{both}
 use Rattle.net_json.proofs.Trees.{get_of}
 
@@ -49,9 +48,8 @@ view_last (m ∷ ms) k v = ap (member m.0.now (value_view m.1)) (view_last ms k 
 module _ (cut : List ℕ) where
   pub stand_ins_last : (R : Json → Json → Type 0) (ms ls : Members) (k : List ℕ) (j l : Json) → AreStandIns cut R ms ls → IsStandIn cut R k j l → AreStandIns cut R (with_last ms k j) (with_last ls k l)
   stand_ins_last R no_members no_members k j l h r = (refl, r, tt)
-  stand_ins_last R no_members (member i m ls) k j l h r = absurd h
-  stand_ins_last R (member i m ms) no_members k j l h r = absurd h
   stand_ins_last R (member i m ms) (member o n ls) k j l h r = (h.0, h.1, stand_ins_last R ms ls k j l h.2 r)
+  stand_ins_last R ms ls k j l h r = absurd h
 
   stand_in_map : (R S : Json → Json → Type 0) → ((j l : Json) → R j l → S j l) → (k : List ℕ) (j l : Json) → IsStandIn cut R k j l → IsStandIn cut S k j l
   stand_in_map R S f k j l (inl h) = inl (h.0, f j l h.1)
@@ -59,22 +57,19 @@ module _ (cut : List ℕ) where
 
   pub stand_ins_map : (R S : Json → Json → Type 0) → ((j l : Json) → R j l → S j l) → (ms ls : Members) → AreStandIns cut R ms ls → AreStandIns cut S ms ls
   stand_ins_map R S f no_members no_members h = tt
-  stand_ins_map R S f no_members (member i m ls) h = absurd h
-  stand_ins_map R S f (member i m ms) no_members h = absurd h
   stand_ins_map R S f (member i m ms) (member o n ls) h = (h.0, stand_in_map R S f i m n h.1, stand_ins_map R S f ms ls h.2)
+  stand_ins_map R S f ms ls h = absurd h
 
   -- the same of what is found at a name
   abbrev Alike : (Json → Json → Type 0) → List ℕ → Option Json → Option Json → Type 0
   Alike R name None None = Unit {0}
   Alike R name (Some j) (Some l) = IsStandIn cut R name j l
-  Alike R name None (Some l) = ⊥
-  Alike R name (Some j) None = ⊥
+  Alike R name x y = ⊥
 
   later_alike : (R : Json → Json → Type 0) (name : List ℕ) (o p q r : Option Json) → Alike R name o p → Alike R name q r → Alike R name (later_or o q) (later_or p r)
   later_alike R name None None q r h i = i
   later_alike R name (Some j) (Some l) q r h i = h
-  later_alike R name None (Some l) q r h i = absurd h
-  later_alike R name (Some j) None q r h i = absurd h
+  later_alike R name o p q r h i = absurd h
 
   here_alike : (R : Json → Json → Type 0) (name k : List ℕ) (j l : Json) (b : Bool) → bytes_eq k name ≡ b → IsStandIn cut R k j l → Alike R name (cond b (Some j) None) (cond b (Some l) None)
   here_alike R name k j l true is h = subst (λ n. IsStandIn cut R n j l) ((bytes_eq-Decides k name).0 is) h
@@ -82,17 +77,15 @@ module _ (cut : List ℕ) where
 
   found_alike : (R : Json → Json → Type 0) (ms ls : Members) → AreStandIns cut R ms ls → (name : List ℕ) → Alike R name (get_member name ms) (get_member name ls)
   found_alike R no_members no_members h name = tt
-  found_alike R no_members (member i l ls) h name = absurd h
-  found_alike R (member k j ms) no_members h name = absurd h
   found_alike R (member k j ms) (member i l ls) h name =
       later_alike R name (get_member name ms) (get_member name ls) (cond (bytes_eq k name) (Some j) None) (cond (bytes_eq i name) (Some l) None) (found_alike R ms ls h.2 name)
       (subst (λ i. Alike R name (cond (bytes_eq k name) (Some j) None) (cond (bytes_eq i name) (Some l) None)) h.0 (here_alike R name k j l (bytes_eq k name) refl h.1))
+  found_alike R ms ls h name = absurd h
 
   alike_some : (R : Json → Json → Type 0) (name : List ℕ) (o p : Option Json) → Alike R name o p → is_some o ≡ is_some p
-  alike_some R name None None h = refl
-  alike_some R name (Some j) (Some l) h = refl
   alike_some R name None (Some l) h = absurd h
   alike_some R name (Some j) None h = absurd h
+  alike_some R name o p h = refl
 
   module _ (R : Json → Json → Type 0) (ms ls : Members) (h : AreStandIns cut R ms ls) where
     pub at_full : {A B : Type 0} (name : List ℕ) (P : Data → A → Type 0) (Q : Data → B → Type 0) (x : A) (y : B) → ((j l : Json) → IsStandIn cut R name j l → P (data_of l) x → Q (data_of j) y)
@@ -130,9 +123,8 @@ module _ (cut : List ℕ) where
 
   keys_same : (R : Json → Json → Type 0) (ms ls : Members) → AreStandIns cut R ms ls → keys ms ≡ keys ls
   keys_same R no_members no_members h = refl
-  keys_same R no_members (member i l ls) h = absurd h
-  keys_same R (member k j ms) no_members h = absurd h
   keys_same R (member k j ms) (member i l ls) h = ap (λ n. n ∷ keys ms) h.0 ∙ ap (λ ns. i ∷ ns) (keys_same R ms ls h.2)
+  keys_same R ms ls h = absurd h
 
   module _ (R : Json → Json → Type 0) (plain : (j l : Json) → R j l → IsPlain l → IsPlain j) where
     here_plain : (k : List ℕ) (j l : Json) → IsStandIn cut R k j l → IsPlain l → IsPlain j
@@ -141,20 +133,19 @@ module _ (cut : List ℕ) where
 
     members_plain : (ms ls : Members) → AreStandIns cut R ms ls → members_fit ls ≡ true → members_single ls ≡ true → (members_fit ms ≡ true) × (members_single ms ≡ true)
     members_plain no_members no_members h e f = (refl, refl)
-    members_plain no_members (member i l ls) h e f = absurd h
-    members_plain (member k j ms) no_members h e f = absurd h
     members_plain (member k j ms) (member i l ls) h e f =
         let p = both (fits l) (members_fit ls) e in
         let q = both (single l) (members_single ls) f in
         let here = here_plain k j l h.1 (p.0, q.0) in
         let rest = members_plain ms ls h.2 p.1 q.1 in
-        (shown (fits j) (members_fit ms) here.0 rest.0, shown (single j) (members_single ms) here.1 rest.1)
+        (and_from (fits j) (members_fit ms) here.0 rest.0, and_from (single j) (members_single ms) here.1 rest.1)
+    members_plain ms ls h e f = absurd h
 
     pub object_full : (ms ls : Members) → AreStandIns cut R ms ls → IsPlain (object ls) → IsPlain (object ms)
     object_full ms ls h p =
         let q = both (names_differ (keys ls)) (members_single ls) p.1 in
         let rest = members_plain ms ls h p.0 q.1 in
-        (rest.0, shown (names_differ (keys ms)) (members_single ms) (ap names_differ (keys_same R ms ls h) ∙ q.0) rest.1)
+        (rest.0, and_from (names_differ (keys ms)) (members_single ms) (ap names_differ (keys_same R ms ls h) ∙ q.0) rest.1)
 
 -- ---- nodes
 
@@ -173,11 +164,10 @@ module _ (nodes : List (List ℕ)) where
   rows_full : list_all is_name nodes ≡ true → (ds : whole.Items) (rs : List NamedRowValue) → AreItems IsNamedRowOf ds rs → list_all (is_row_placed (length nodes)) (map (found_row (index_among nodes)) rs) ≡ true
       → AreItems (IsRowOf nodes) ds (map (found_row (index_among nodes)) rs)
   rows_full spelled whole.no_items [] h pass = tt
-  rows_full spelled whole.no_items (r ∷ rs) h pass = absurd h
-  rows_full spelled (whole.item d ds) [] h pass = absurd h
   rows_full spelled (whole.item d ds) (r ∷ rs) h pass =
       let p = both (is_row_placed (length nodes) (found_row (index_among nodes) r)) (list_all (is_row_placed (length nodes)) (map (found_row (index_among nodes)) rs)) pass in
       (row_full spelled d r h.0 p.0, rows_full spelled ds rs h.1 p.1)
+  rows_full spelled ds rs h pass = absurd h
 
   short_rows_full : list_all is_name nodes ≡ true → (d : Data) (rs : List NamedRowValue) → IsShortListOf 256 IsNamedRowOf d rs → list_all (is_row_placed (length nodes)) (map (found_row (index_among nodes)) rs) ≡ true
       → IsShortListOf 256 (IsRowOf nodes) d (map (found_row (index_among nodes)) rs)
@@ -225,29 +215,26 @@ module _ (buses nodes : List (List ℕ)) where
   items_full : list_all is_name nodes ≡ true → (b : ℕ) (js : Items) (ss : List NodeSkeleton) (vs : List NodeValue) → EachIs IsNodeSkeleton js ss → AreItems (IsNodeOf buses nodes) (items_view (map (λ s. s.value) ss)) vs
       → list_all (is_node_placed b (length nodes)) (filled vs ss) ≡ true → AreItems (IsNodeOf buses nodes) (items_of js) (filled vs ss)
   items_full spelled b no_items [] [] h is pass = tt
-  items_full spelled b no_items [] (v ∷ vs) h is pass = absurd is
-  items_full spelled b no_items (s ∷ ss) vs h is pass = absurd h
-  items_full spelled b (item j js) [] vs h is pass = absurd h
-  items_full spelled b (item j js) (s ∷ ss) [] h is pass = absurd is
   items_full spelled b (item j js) (s ∷ ss) (v ∷ vs) h is pass =
       let here = with_part v (found_value (index_among nodes) (cut_value s.parts)) in
       let p = both (is_node_placed b (length nodes) here) (list_all (is_node_placed b (length nodes)) (filled vs ss)) pass in
       (item_full spelled v j s h.0 is.0 (rows_placed b here p.0), items_full spelled b js ss vs h.1 is.1 p.1)
+  items_full spelled b no_items [] (v ∷ vs) h is pass = absurd is
+  items_full spelled b (item j js) (s ∷ ss) [] h is pass = absurd is
+  items_full spelled b js ss vs h is pass = absurd h
 
   names_filled : (js : Items) (ss : List NodeSkeleton) (vs : List NodeValue) → EachIs IsNodeSkeleton js ss → AreItems (IsNodeOf buses nodes) (items_view (map (λ s. s.value) ss)) vs → node_names (filled vs ss) ≡ node_names vs
   names_filled no_items [] [] h is = refl
-  names_filled no_items [] (v ∷ vs) h is = absurd is
-  names_filled no_items (s ∷ ss) vs h is = absurd h
-  names_filled (item j js) [] vs h is = absurd h
-  names_filled (item j js) (s ∷ ss) [] h is = absurd is
   names_filled (item j js) (s ∷ ss) (v ∷ vs) h is = ap (λ ns. v.name ∷ ns) (names_filled js ss vs h.1 is.1)
+  names_filled no_items [] (v ∷ vs) h is = absurd is
+  names_filled (item j js) (s ∷ ss) [] h is = absurd is
+  names_filled js ss vs h is = absurd h
 
 -- the nodes that were read have names
 names_spelled : (buses nodes : List (List ℕ)) (ds : whole.Items) (vs : List NodeValue) → AreItems (IsNodeOf buses nodes) ds vs → list_all is_name (node_names vs) ≡ true
 names_spelled buses nodes whole.no_items [] h = refl
-names_spelled buses nodes whole.no_items (v ∷ vs) h = absurd h
-names_spelled buses nodes (whole.item d ds) [] h = absurd h
-names_spelled buses nodes (whole.item d ds) (v ∷ vs) h = shown (is_name v.name) (list_all is_name (node_names vs)) h.0.name.2.1 (names_spelled buses nodes ds vs h.1)
+names_spelled buses nodes (whole.item d ds) (v ∷ vs) h = and_from (is_name v.name) (list_all is_name (node_names vs)) h.0.name.2.1 (names_spelled buses nodes ds vs h.1)
+names_spelled buses nodes ds vs h = absurd h
 
 same_items : {ds es : whole.Items} → whole.array ds ≡ whole.array es → ds ≡ es
 same_items e = cc
@@ -306,15 +293,14 @@ node_plain j s h p =
 nodes_plain : (js : Items) (ss : List NodeSkeleton) → EachIs IsNodeSkeleton js ss → items_fit (trees.items_view (map (λ s. s.value) ss)) ≡ true → items_single (trees.items_view (map (λ s. s.value) ss)) ≡ true
     → (items_fit js ≡ true) × (items_single js ≡ true)
 nodes_plain no_items [] h e f = (refl, refl)
-nodes_plain no_items (s ∷ ss) h e f = absurd h
-nodes_plain (item j js) [] h e f = absurd h
 nodes_plain (item j js) (s ∷ ss) h e f =
     let left = trees.items_view (map (λ s. s.value) ss) in
     let p = both (fits (value_view s.value)) (items_fit left) e in
     let q = both (single (value_view s.value)) (items_single left) f in
     let here = node_plain j s h.0 (p.0, q.0) in
     let rest = nodes_plain js ss h.1 p.1 q.1 in
-    (shown (fits j) (items_fit js) here.0 rest.0, shown (single j) (items_single js) here.1 rest.1)
+    (and_from (fits j) (items_fit js) here.0 rest.0, and_from (single j) (items_single js) here.1 rest.1)
+nodes_plain js ss h e f = absurd h
 
 cut_plain : (ts : List CutValue) (j l : Json) → IsCutNodes (Some ts) j l → IsPlain l → IsPlain j
 cut_plain ts j l h p =
@@ -368,7 +354,3 @@ made_moved {B = B} f g all done made x rest e same = e ∙ moved done
 pub map_twice : {A B C : Type 0} (f : B → C) (g : A → B) (xs : List A) → map f (map g xs) ≡ map (λ x. f (g x)) xs
 map_twice f g [] = refl
 map_twice f g (x ∷ xs) = ap (λ ys. f (g x) ∷ ys) (map_twice f g xs)
-
-pub none_left : {A : Type 0} (xs : List A) → length xs ≡ 0 → xs ≡ []
-none_left [] e = refl
-none_left (x ∷ xs) e = absurd (omega arith)

@@ -1,7 +1,7 @@
 -- A function from JSON values that answers what a relation tells, and nothing else.
 use Rattle.std.proofs.Common.{◌≡◌, ℕ, List, Bool, true, false, nat_le, ◌&&◌, Option, Some, None, Result, Ok, Err, refl, sym, ap, ◌∙◌, subst, cond, true≢false}
 use Rattle.std.proofs.lemmas.Bool.{leb-true, le-leb}
-use Rattle.serde_json.specs.Data.{Num, Data, null, boolean, number, string, array, object, unsigned, negative, float}
+use Rattle.serde_json.specs.Data.{Num, Data, boolean, number, unsigned}
 use Rattle.serde_json.specs.Find.{get, as_u64}
 use Rattle.net_json.specs.declared.error.ValueFault.{ValueFault}
 use Rattle.net_json.specs.declared.error.ValueFault.TheVariants.{OutOfRange}
@@ -60,16 +60,11 @@ number_sound least most (unsigned m) x e = by (nat_le least m) (nat_le m most) r
     by true true low high e = subst (IsNumberWithin least most (number (unsigned m))) (same_Ok e) (refl, leb-true least m low, leb-true m most high)
     by true false low high e = absurd (no_value e)
     by false c low high e = absurd (no_value e)
-number_sound least most (negative z) x e = absurd (no_value e)
-number_sound least most (float f) x e = absurd (no_value e)
+number_sound least most n x e = absurd (no_value e)
 
 whole_sound : (least most : ℕ) (d : Data) (x : ℕ) → whole_number least most d ≡ Ok x → IsNumberWithin least most d x
 whole_sound least most (number n) x e = number_sound least most n x e
-whole_sound least most null x e = absurd (no_value e)
-whole_sound least most (boolean b) x e = absurd (no_value e)
-whole_sound least most (string s) x e = absurd (no_value e)
-whole_sound least most (array ds) x e = absurd (no_value e)
-whole_sound least most (object ms) x e = absurd (no_value e)
+whole_sound least most d x e = absurd (no_value e)
 
 pub number_tells : (least most : ℕ) → Tells (whole_number least most) any (IsNumberWithin least most)
 number_tells least most = record {
@@ -80,11 +75,7 @@ number_tells least most = record {
 
 truth_sound : (d : Data) (b : Bool) → truth d ≡ Ok b → IsTruth d b
 truth_sound (boolean c) b e = ap boolean (same_Ok e)
-truth_sound null b e = absurd (no_value e)
-truth_sound (number n) b e = absurd (no_value e)
-truth_sound (string s) b e = absurd (no_value e)
-truth_sound (array ds) b e = absurd (no_value e)
-truth_sound (object ms) b e = absurd (no_value e)
+truth_sound d b e = absurd (no_value e)
 
 pub truth_tells : Tells truth any IsTruth
 truth_tells = record { sound = λ d b e pass. truth_sound d b e; whole = λ d b h. ap truth h; passes = λ d b h. refl }

@@ -36,12 +36,10 @@ next f false q a b e = refl
 
 mutual
   of_json-fits : (j : json.Json) → of_json j ≡ given (fits j) (data_of j)
-  of_json-fits json.null = refl
-  of_json-fits (json.boolean b) = refl
   of_json-fits (json.number s) = numbered (number_of s)
-  of_json-fits (json.string s) = refl
   of_json-fits (json.array js) = rw (of_items-fits js) (mapped array (items_fit js) (items_of js))
   of_json-fits (json.object ms) = rw (of_members-fits ms no_members) (mapped object (members_fit ms) (members_of ms no_members))
+  of_json-fits j = refl
 
   of_items-fits : (js : json.Items) → of_items js ≡ given (items_fit js) (items_of js)
   of_items-fits json.no_items = refl
@@ -102,9 +100,5 @@ or_none (Some j) = refl
 
 -- the last member of a key is the one that is found
 pub get_of : (name : List ℕ) (j : json.Json) → get name (data_of j) ≡ option_map data_of (find.get name j)
-get_of name json.null = refl
-get_of name (json.boolean b) = refl
-get_of name (json.number s) = refl
-get_of name (json.string s) = refl
-get_of name (json.array js) = refl
 get_of name (json.object ms) = get_member_of name ms no_members ∙ or_none (find.get_member name ms)
+get_of name j = refl

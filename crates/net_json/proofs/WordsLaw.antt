@@ -5,7 +5,7 @@ use Rattle.std.proofs.lemmas.Slice.Eq.{bytes_eq-Decides}
 use Rattle.std.specs.Str.{bytes_eq}
 use Rattle.hex.specs.Hex.{decode_of}
 use Rattle.hex.specs.declared.error.FromHexError.{FromHexError}
-use Rattle.serde_json.specs.Data.{Data, null, boolean, number, string, array, object}
+use Rattle.serde_json.specs.Data.{Data, string}
 use Rattle.net_json.specs.Json.{at_key, demand, name_text, whole_number, hex_text, address_text, kind_text, decoded}
 use Rattle.net_json.specs.JsonWords.{At, IsNumberWithin, IsName, IsHex, IsAddress, IsFirstOf}
 use Rattle.net_plan.specs.NameText.{is_name}
@@ -25,11 +25,7 @@ name_sound (string s) x e = by (is_name s) refl e
     by : (b : Bool) → is_name s ≡ b → cond b (Ok s) (Err OutOfRange) ≡ Ok x → IsName (string s) x
     by true n e = subst (IsName (string s)) (same_Ok e) (refl, n)
     by false n e = absurd (no_value e)
-name_sound null x e = absurd (no_value e)
-name_sound (boolean b) x e = absurd (no_value e)
-name_sound (number n) x e = absurd (no_value e)
-name_sound (array ds) x e = absurd (no_value e)
-name_sound (object ms) x e = absurd (no_value e)
+name_sound d x e = absurd (no_value e)
 
 pub name_tells : Tells name_text any IsName
 name_tells = record { sound = λ d x e pass. name_sound d x e; whole = λ d x h. ap name_text h.0 ∙ ap (λ b. cond b (Ok x) (Err OutOfRange)) h.1; passes = λ d x h. refl }
@@ -40,11 +36,7 @@ hex_sound (string s) x e = by (decode_of s) refl e
     by : (r : Result (List ℕ) FromHexError) → decode_of s ≡ r → decoded r ≡ Ok x → IsHex (string s) x
     by (Ok bytes) d e = subst (IsHex (string s)) (same_Ok e) (s, refl, d)
     by (Err fault) d e = absurd (no_value e)
-hex_sound null x e = absurd (no_value e)
-hex_sound (boolean b) x e = absurd (no_value e)
-hex_sound (number n) x e = absurd (no_value e)
-hex_sound (array ds) x e = absurd (no_value e)
-hex_sound (object ms) x e = absurd (no_value e)
+hex_sound d x e = absurd (no_value e)
 
 pub hex_tells : Tells hex_text any IsHex
 hex_tells = record { sound = λ d x e pass. hex_sound d x e; whole = λ d x h. ap hex_text h.1 ∙ ap decoded h.2; passes = λ d x h. refl }
@@ -68,11 +60,7 @@ kind_sound (string s) k e = by (bytes_eq s (codes "bridge")) (bytes_eq s (codes 
     by true c b1 b2 e = subst (IsKindOf (string s)) (same_Ok e) (ap string ((bytes_eq-Decides s (codes "bridge")).0 b1))
     by false true b1 b2 e = subst (IsKindOf (string s)) (same_Ok e) (ap string ((bytes_eq-Decides s (codes "endpoint")).0 b2))
     by false false b1 b2 e = absurd (no_value e)
-kind_sound null k e = absurd (no_value e)
-kind_sound (boolean b) k e = absurd (no_value e)
-kind_sound (number n) k e = absurd (no_value e)
-kind_sound (array ds) k e = absurd (no_value e)
-kind_sound (object ms) k e = absurd (no_value e)
+kind_sound d k e = absurd (no_value e)
 
 kind_whole : (d : Data) (k : Kind) → IsKindOf d k → kind_text d ≡ Ok k
 kind_whole d Bridge h = ap kind_text h
@@ -83,7 +71,7 @@ kind_tells = record { sound = λ d k e pass. kind_sound d k e; whole = kind_whol
 
 -- ---- places
 
-same_Some : {A : Type 0} {a b : A} → Some a ≡ Some b → a ≡ b
+pub same_Some : {A : Type 0} {a b : A} → Some a ≡ Some b → a ≡ b
 same_Some e = cc
 
 no_Some : {A : Type 0} {a : A} → None ≡ Some a → ⊥

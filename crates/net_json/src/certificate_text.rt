@@ -10,14 +10,14 @@ ghost use Rattle.net_json.specs.Names.{index_among};
 ghost use Rattle.net_json.specs.NameIndexes.{find_in};
 ghost use Rattle.net_plan.specs.PlanValues.{node_value, node_names, plan_value};
 ghost use Rattle.net_json.specs.CertificateReading.{nodes_differ, ascends, entries_differ, certificate};
-ghost use Rattle.net_plan.specs.CertificateValues.{are_known};
-ghost use Rattle.net_plan.specs.CertificateValues.{LevelValue, PlacesValue, RangeValue, NodeRanksValue, level_value, places_value, range_value, node_ranks_value, certificate_value};
+ghost use Rattle.net_plan.specs.CertificateValues.{are_known, LevelValue, PlacesValue, RangeValue, NodeRanksValue, level_value, places_value, range_value, node_ranks_value, certificate_value};
 
 use crate::error::ValueFault;
 use crate::json_value::{demand, member};
 use crate::make::{Make, check_shape, index_at, make_each_at, number_at, number_in};
 use crate::name_index::{NameIndex, names_differ};
 use crate::naming::{NodeName, TextAt};
+use crate::one_each::are_within;
 use crate::tables::certificate_shape;
 use json::Value;
 use mctp_transport::Eid;
@@ -230,33 +230,15 @@ fn are_known(nodes: usize, certificate: &Certificate) -> bool
     ensures { result ≡ (list_all (λ l. nat_lt l.node nodes) certificate.now.levels.items
         && (list_all (λ p. nat_lt p.node nodes) certificate.now.places.items && list_all (λ r. nat_lt r.node nodes) certificate.now.ranks.items)) }
 {
-    are_levels_known(nodes, certificate.levels.as_slice()) && are_lists_known(nodes, certificate)
+    are_within(certificate.levels.as_slice(), nodes) && are_lists_known(nodes, certificate)
 }
 
 fn are_lists_known(nodes: usize, certificate: &Certificate) -> bool
     ensures { result ≡ (list_all (λ p. nat_lt p.node nodes) certificate.now.places.items
         && list_all (λ r. nat_lt r.node nodes) certificate.now.ranks.items) }
 {
-    are_places_known(nodes, certificate.places.as_slice())
-        && are_ranks_known(nodes, certificate.ranks.as_slice())
-}
-
-fn are_levels_known(nodes: usize, levels: &[NodeLevel]) -> bool
-    ensures { result ≡ list_all (λ l. nat_lt l.node nodes) levels.now }
-{
-    levels.iter().all(|level| level.node < nodes)
-}
-
-fn are_places_known(nodes: usize, places: &[NodePlaces]) -> bool
-    ensures { result ≡ list_all (λ p. nat_lt p.node nodes) places.now }
-{
-    places.iter().all(|places| places.node < nodes)
-}
-
-fn are_ranks_known(nodes: usize, ranks: &[NodeRanks]) -> bool
-    ensures { result ≡ list_all (λ r. nat_lt r.node nodes) ranks.now }
-{
-    ranks.iter().all(|ranks| ranks.node < nodes)
+    are_within(certificate.places.as_slice(), nodes)
+        && are_within(certificate.ranks.as_slice(), nodes)
 }
 
 /// The certificate of nodes with these names that a JSON value is.

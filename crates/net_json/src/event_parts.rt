@@ -190,7 +190,9 @@ impl<'t> EventParts<'t> {
             return None;
         }
         let walker = self.walker?;
-        Some(Event::Ask { walker })
+        Some(Event::Ask {
+            walker: walker as usize,
+        })
     }
 
     fn collected(&self) -> Option<Event>
@@ -200,7 +202,9 @@ impl<'t> EventParts<'t> {
             return None;
         }
         let walker = self.walker?;
-        Some(Event::Collected { walker })
+        Some(Event::Collected {
+            walker: walker as usize,
+        })
     }
 }
 

@@ -80,10 +80,10 @@ fn make_event(
         }),
         "walk" => Ok(make_walk(nodes, value)),
         "ask" => Ok(Event::Ask {
-            walker: word_at(value, "walker"),
+            walker: word_at(value, "walker") as usize,
         }),
         _ => Ok(Event::Collected {
-            walker: word_at(value, "walker"),
+            walker: word_at(value, "walker") as usize,
         }),
     }
 }

@@ -60,7 +60,7 @@ fn has_unknown_key(fields: &[Field], members: &Vec<(&str, Value<'_>)>) -> bool
 }
 
 /// Whether a key is one of these.
-fn is_key_of(fields: &[Field], key: &str) -> bool
+pub fn is_key_of(fields: &[Field], key: &str) -> bool
     ensures { result ≡ list_any (λ f. bytes_eq key.now (out-Field f).key.now) fields.now }
 {
     fields.iter().any(|field| key == field.key)

@@ -7,6 +7,7 @@ ghost use Rattle.serde_json.specs.Read.{number_of, number_from, float_of};
 ghost use Rattle.net_json.specs.Trees.{num_of};
 
 use fast_float::Numeral;
+use plain_json::{digit_of, is_digit};
 
 /// Whether a number of JSON is within the range of floats.
 pub fn is_in_range(text: &str) -> bool
@@ -88,22 +89,6 @@ fn digit(byte: u8) -> Option<u64>
         return None;
     }
     Some(digit_of(byte))
-}
-
-#[inline(always)]
-fn is_digit(byte: u8) -> bool
-    ensures { IsTrue result → (48 ≤ byte) × (byte ≤ 57) }
-{
-    b'0' <= byte && byte <= b'9'
-}
-
-/// The digit that a byte from `0` to `9` writes.
-#[inline(always)]
-fn digit_of(byte: u8) -> u64
-    requires { (48 ≤ byte) × (byte ≤ 57) }
-    ensures { (result ≡ digit_value byte) × (result < 10) }
-{
-    u64::from(byte) - u64::from(b'0')
 }
 
 /// A number of JSON, where it is whole, with no sign, point or exponent, and fits.

@@ -42,6 +42,7 @@ mod writing;
 
 pub use error::{PlanError, ValueFault};
 pub use event_format::events_format;
+pub use field_keys::is_key_of;
 pub use find::{find_fault, own_fault};
 pub use found::{Found, PointerStep};
 pub use json_value::{at, read_number, text_at};

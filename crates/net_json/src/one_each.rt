@@ -1,6 +1,6 @@
 //! Entries of a list, each of another node.
-ghost use Rattle.std.specs.Prelude.{◌≡◌, ◌≢◌, ◌==◌, ℕ, IsTrue, AllPairs};
-ghost use Rattle.std.specs.List.{list_any};
+ghost use Rattle.std.specs.Prelude.{◌≡◌, ◌≢◌, ◌==◌, ℕ, IsTrue, AllPairs, nat_lt};
+ghost use Rattle.std.specs.List.{list_all, list_any};
 
 use net_plan::{NodeLevel, NodePlaces, NodeRanks};
 
@@ -54,4 +54,11 @@ fn has_entry<E: Entry>(entries: &[E], node: usize) -> bool
     ensures { result ≡ list_any (λ e. E.node_of e == node) entries.now }
 {
     entries.iter().any(|entry| entry.node() == node)
+}
+
+/// Whether all entries are of one of so many nodes.
+pub fn are_within<E: Entry>(entries: &[E], nodes: usize) -> bool
+    ensures { result ≡ list_all (λ e. nat_lt (E.node_of e) nodes) entries.now }
+{
+    entries.iter().all(|entry| entry.node() < nodes)
 }

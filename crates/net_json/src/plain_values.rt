@@ -2,8 +2,7 @@
 ghost use Rattle.std.specs.Prelude.{◌≡◌, ◌≢◌, ◌≤◌, Err, IfOk, map, option_map, Some, None};
 ghost use Rattle.std.specs.List.{list_any};
 ghost use Rattle.std.specs.Str.{bytes_eq};
-ghost use Rattle.net_json.specs.Json.{at_key, is_among, name_text, hex_text, address_text, whole_number};
-ghost use Rattle.net_json.specs.Json.{truth, kind_text};
+ghost use Rattle.net_json.specs.Json.{at_key, is_among, name_text, hex_text, address_text, whole_number, truth, kind_text};
 ghost use Rattle.net_json.specs.Trees.{view};
 ghost use Rattle.net_json.specs.declared.error.ValueFault.TheVariants.{OutOfMemory};
 ghost use Rattle.net_json.specs.Finding.{fault_of, word_fault, word_among, known_name, names_of, range_end, passes};

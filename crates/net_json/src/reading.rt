@@ -19,9 +19,8 @@ ghost use Rattle.net_json.specs.PlanText.{IsPlanOf};
 ghost use Rattle.net_json.specs.PlanReading.{plan};
 ghost use Rattle.net_plan.specs.PlanValues.{node_names, plan_value};
 ghost use Rattle.net_json.specs.CertificateReading.{certificate};
-ghost use Rattle.net_plan.specs.CertificateValues.{are_known};
+ghost use Rattle.net_plan.specs.CertificateValues.{are_known, certificate_value};
 ghost use Rattle.net_json.specs.CertificateText.{IsCertificateOf};
-ghost use Rattle.net_plan.specs.CertificateValues.{certificate_value};
 
 use crate::certificate_text::read_certificate_value;
 use crate::error::{PlanError, ValueFault};

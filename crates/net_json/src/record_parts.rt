@@ -1,7 +1,7 @@
 //! Records straight from a text.
 ghost use Rattle.std.specs.Prelude.{IfSome, ⊤};
 ghost use Rattle.json.specs.Json.{Members, no_members, object};
-ghost use Rattle.net_json.specs.Gathered.{AreParts, IsThere, IsPlain};
+ghost use Rattle.net_json.specs.Gathered.{AreParts, IsPlain};
 ghost use Rattle.net_plan.specs.NodeValues.{record_value};
 ghost use Rattle.net_json.specs.PlanText.{IsRecordOf};
 ghost use Rattle.net_json.specs.RecordParts.{record_slots};
@@ -66,19 +66,6 @@ impl<'t> Gather<'t> for RecordParts {
     }
 }
 
-/// The next value, where it is a record.
-pub fn next_record(
-    alloc: Global,
-    reader: &mut PlainReader<'_>,
-    depth: usize,
-) -> Option<PlannedRecord>
-    ensures { IfSome result (λ r. IsThere depth reader.old reader.new (λ j. IsRecordOf (data_of j) (record_value r) × IsPlain j)) }
-{
-    let mut parts = RecordParts::none();
-    read_object(alloc, &mut parts, reader, depth)?;
-    parts.record()
-}
-
 /// Reads records.
 #[derive(Clone, Copy)]
 pub struct NextRecord;
@@ -94,6 +81,8 @@ impl<'t> NextItem<'t> for NextRecord {
         reader: &mut PlainReader<'t>,
         depth: usize,
     ) -> Option<PlannedRecord> {
-        next_record(alloc, reader, depth)
+        let mut parts = RecordParts::none();
+        read_object(alloc, &mut parts, reader, depth)?;
+        parts.record()
     }
 }

@@ -1,7 +1,7 @@
 //! Rows straight from a text.
 ghost use Rattle.std.specs.Prelude.{IfSome, ⊤};
 ghost use Rattle.json.specs.Json.{Members, no_members, object};
-ghost use Rattle.net_json.specs.Gathered.{AreParts, IsNext, IsThere, IsPlain};
+ghost use Rattle.net_json.specs.Gathered.{AreParts, IsNext, IsPlain};
 ghost use Rattle.net_json.specs.JsonWords.{IsNumberWithin};
 ghost use Rattle.net_json.specs.RowParts.{row_slots, IsNamedRowOf, named_row};
 ghost use Rattle.net_json.specs.Trees.{data_of};
@@ -78,15 +78,6 @@ impl<'t> Gather<'t> for RowParts<'t> {
     }
 }
 
-/// The next value, where it is a row.
-fn next_row<'t>(alloc: Global, reader: &mut PlainReader<'t>, depth: usize) -> Option<NamedRow<'t>>
-    ensures { IfSome result (λ r. IsThere depth reader.old reader.new (λ j. IsNamedRowOf (data_of j) (named_row r) × IsPlain j)) }
-{
-    let mut parts = RowParts::none();
-    read_object(alloc, &mut parts, reader, depth)?;
-    parts.row()
-}
-
 /// Reads rows.
 #[derive(Clone, Copy)]
 pub struct NextRow;
@@ -102,7 +93,9 @@ impl<'t> NextItem<'t> for NextRow {
         reader: &mut PlainReader<'t>,
         depth: usize,
     ) -> Option<NamedRow<'t>> {
-        next_row(alloc, reader, depth)
+        let mut parts = RowParts::none();
+        read_object(alloc, &mut parts, reader, depth)?;
+        parts.row()
     }
 }
 

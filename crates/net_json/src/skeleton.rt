@@ -3,11 +3,10 @@ ghost use Rattle.std.specs.Prelude.{◌≡◌, codes, map, false, IfSome, ⊤};
 ghost use Rattle.std.specs.Str.{bytes_eq};
 ghost use Rattle.json.specs.Json.{no_members};
 ghost use Rattle.json.specs.Value.{value_view, members_view};
-ghost use Rattle.net_json.specs.Gathered.{IsMore, IsThere, IsPlainText, with_last};
-ghost use Rattle.net_plan.specs.NodeValues.{node_value, row_value};
+ghost use Rattle.net_json.specs.Gathered.{IsMore, IsPlainText, with_last};
 ghost use Rattle.net_json.specs.NameIndexes.{find_in};
 ghost use Rattle.net_json.specs.PlanText.{IsPlanOf};
-ghost use Rattle.net_plan.specs.PlanValues.{plan_value};
+ghost use Rattle.net_plan.specs.PlanValues.{plan_value, node_value, row_value};
 ghost use Rattle.net_json.specs.RowParts.{named_row};
 ghost use Rattle.net_json.specs.Skeleton.{AreNodeParts, IsNodeSkeleton, ArePlanParts, IsPlanSkeleton, cut_value, placed_value, found_row, found_value, with_part, with_parts};
 
@@ -159,31 +158,20 @@ impl<'t> NextItem<'t> for NextNode {
         reader: &mut PlainReader<'t>,
         depth: usize,
     ) -> Option<NodeSkeleton<'t>> {
-        next_node(alloc, reader, depth)
+        let mut parts = NodeParts::none(alloc);
+        read_object(alloc, &mut parts, reader, depth)?;
+        let NodeParts {
+            found,
+            rows,
+            terminus,
+        } = parts;
+        let rows = rows?;
+        let terminus = terminus?;
+        Some(NodeSkeleton {
+            value: Value::Object(found),
+            parts: CutParts { rows, terminus },
+        })
     }
-}
-
-/// The next value, where it is an object, as that of a node.
-fn next_node<'t>(
-    alloc: Global,
-    reader: &mut PlainReader<'t>,
-    depth: usize,
-) -> Option<NodeSkeleton<'t>>
-    ensures { IfSome result (λ s. IsThere depth reader.old reader.new (λ j. IsNodeSkeleton j s)) }
-{
-    let mut parts = NodeParts::none(alloc);
-    read_object(alloc, &mut parts, reader, depth)?;
-    let NodeParts {
-        found,
-        rows,
-        terminus,
-    } = parts;
-    let rows = rows?;
-    let terminus = terminus?;
-    Some(NodeSkeleton {
-        value: Value::Object(found),
-        parts: CutParts { rows, terminus },
-    })
 }
 
 /// The values of nodes, and their parts.

@@ -37,10 +37,9 @@ weaker : (P : ℕ → Type 0) (o : Option ℕ) → IsSomeAnd o P → IfSome o P 
 weaker P (Some n) h = (h, refl)
 weaker P None h = absurd h
 
-last : (o : Option (Json × List Token)) (j : Json) → option_and_then (λ p. if_last p.0 p.1) o ≡ Some j → o ≡ Some (j, [])
-last None j e = not_found j e
+pub last : (o : Option (Json × List Token)) (j : Json) → option_and_then (λ p. if_last p.0 p.1) o ≡ Some j → o ≡ Some (j, [])
 last (Some (i, [])) j e = ap (λ x. Some (x, [])) (Some_inj i j e)
-last (Some (i, t ∷ ts)) j e = not_found j e
+last o j e = not_found j e
 
 found_there : {E : Type 0} (text : List ℕ) (o : Option (List Token)) (left : ℕ) (r : Result (Option ℕ) E) → ((ts : List Token) → o ≡ Some ts → Ends (tokens text) ts) → AreLeft o (Some left) → IfOk r (λ f. IsBefore text left f)
     → IfOk r (λ f. IfSome f (λ offset. Stand text o offset) × IsSome f)

@@ -1,12 +1,13 @@
 -- Names and keys that stand twice, as they are looked for.
 use Rattle.std.proofs.Common.{◌≡◌, ◌≢◌, ◌<◌, ◌+◌, false, subst, ℕ, zero, suc, List, [], ◌∷◌, ◌++◌, map, length, take, get_or, Bool, true, not, Option, Some, None, option_map, is_some, cond, if◌then◌else◌, ◌⊎◌, inl, inr, ◌==◌, option_and_then, Bor, refl, sym, ap, ◌∙◌, append-nil, append_assoc, arith, true≢false, AllPairs}
-use Rattle.std.proofs.lemmas.List.{length-map, length-take-le}
+use Rattle.std.proofs.lemmas.List.{get_or_default, length-map, length-take-le, take-map}
+use Rattle.std.proofs.lemmas.Bool.{not-true}
 use Rattle.std.proofs.lemmas.Bool.Decides.{Decides-eqb}
 use Rattle.std.proofs.lemmas.Option.{same_Some}
 use Rattle.std.proofs.lemmas.Slice.Eq.{bytes_eq-Decides}
 use Rattle.std.specs.Option.{option_or}
 use Rattle.std.specs.Str.{bytes_eq}
-use Rattle.json.specs.Json.{Json, null, boolean, number, string, array, object, Items, no_items, item, Members, no_members, member}
+use Rattle.json.specs.Json.{Json, array, object, Items, no_items, item, Members, no_members, member}
 use Rattle.json.specs.Strict.{keys}
 use Rattle.json.specs.Value.{value_view, items_view, members_view}
 use Rattle.net_json.specs.Json.{is_among}
@@ -19,10 +20,6 @@ use Rattle.net_json.proofs.Telling.{both}
 use Rattle.net_pointers.specs.Doubles.{IsFirstDoubled, item_at, member_at, part_after, part_at, HasDoubledKey, IsBefore, NoneBefore, IsFirstDoubledKey}
 use Rattle.net_pointers.specs.declared.doubled.DoubledKey.{DoubledKey}
 use Rattle.net_pointers.specs.declared.doubled.TwoIndices.{TwoIndices}
-
-pub keys_of : (ms : List (Bor (List ℕ) × Tree)) → keys (members_view ms) ≡ map (λ m. m.0.now) ms
-keys_of [] = refl
-keys_of (m ∷ ms) = ap (λ rest. m.0.now ∷ rest) (keys_of ms)
 
 pub text_at_place : (names : List (Bor (List ℕ))) (i : ℕ) (d : Bor (List ℕ)) → i < length names → get_or (map (λ name. name.now) names) i [] ≡ (get_or names i d).now
 text_at_place [] i d within = absurd (omega arith)
@@ -39,15 +36,11 @@ member_of_view [] i d within = absurd (omega arith)
 member_of_view (m ∷ ms) zero d within = refl
 member_of_view (m ∷ ms) (suc i) d within = member_of_view ms i d (omega arith)
 
-pub not_true : (b : Bool) → not b ≡ true → b ≡ false
-not_true false e = refl
-not_true true e = absurd (true≢false (sym e))
-
 new_push : (seen ns : List (List ℕ)) (n : List ℕ) → are_new seen ns ≡ true → is_among (seen ++ ns) n ≡ false → are_new seen (ns ++ n ∷ []) ≡ true
 new_push seen [] n e h = one_new seen n [] (ap (λ ms. is_among ms n) (sym (append-nil seen)) ∙ h)
 new_push seen (m ∷ ns) n e h =
     let p = both (not (is_among seen m)) (are_new (seen ++ m ∷ []) ns) e in
-    one_new seen m (ns ++ n ∷ []) (not_true (is_among seen m) p.0) ∙ new_push (seen ++ m ∷ []) ns n p.1 (ap (λ ms. is_among ms n) (append_assoc seen (m ∷ []) ns) ∙ h)
+    one_new seen m (ns ++ n ∷ []) (not-true (is_among seen m) p.0) ∙ new_push (seen ++ m ∷ []) ns n p.1 (ap (λ ms. is_among ms n) (append_assoc seen (m ∷ []) ns) ∙ h)
 
 -- one more name that is not among them
 pub differ_push : (ns : List (List ℕ)) (n : List ℕ) → names_differ ns ≡ true → is_among ns n ≡ false → names_differ (ns ++ n ∷ []) ≡ true
@@ -70,20 +63,12 @@ abbrev texts : Texts → List (List ℕ)
 texts names = map (λ name. name.now) names
 
 texts_taken : (names : Texts) (j : ℕ) → texts (take j names) ≡ take j (texts names)
-texts_taken names zero = refl
-texts_taken [] (suc j) = refl
-texts_taken (n ∷ ns) (suc j) = ap (λ rest. n.now ∷ rest) (texts_taken ns j)
+texts_taken names j = sym (take-map (λ (n : Bor (List ℕ)). n.now) j names)
 
 taken_at : (ns : List (List ℕ)) (i j : ℕ) → i < j → get_or (take j ns) i [] ≡ get_or ns i []
 taken_at ns i zero below = absurd (omega arith)
-taken_at [] i (suc j) below = refl
-taken_at (n ∷ ns) zero (suc j) below = refl
 taken_at (n ∷ ns) (suc i) (suc j) below = taken_at ns i j (omega arith)
-
-any_default : (names : Texts) (i : ℕ) (a b : Bor (List ℕ)) → i < length names → get_or names i a ≡ get_or names i b
-any_default [] i a b within = absurd (omega arith)
-any_default (n ∷ ns) zero a b within = refl
-any_default (n ∷ ns) (suc i) a b within = any_default ns i a b (omega arith)
+taken_at ns i (suc j) below = refl
 
 -- the name at j stands at i too, and no name before it stands twice
 pub found_twice : (names : Texts) (i j : ℕ) (d : Bor (List ℕ)) → j < length names → i < length (take j names) → get_or (texts (take j names)) i [] ≡ (get_or names j d).now → names_differ (texts (take j names)) ≡ true
@@ -128,7 +113,7 @@ pub noted_once : (names : Texts) (j : ℕ) (d : Bor (List ℕ)) (find after : Li
     → (names_differ (texts (take (j + 1) names)) ≡ true) × AreNoted names (j + 1) after
 noted_once names j d find after within noted none updates single =
     let x = get_or names j d in
-    let at = any_default names j d x within in
+    let at = get_or_default names j d x within in
     let new : is_some (find x.now) ≡ false = ap is_some none in
     let among : is_among (texts (take j names)) x.now ≡ false = sym (index_of-among (texts (take j names)) x.now) ∙ ap is_some (sym (noted x.now)) ∙ new in (
       ap names_differ (names_take (λ (n : Bor (List ℕ)). n.now) names j x within at) ∙ differ_push (texts (take j names)) x.now single among,
@@ -142,15 +127,9 @@ first_differs names p h = not_differing names p.first p.second h.ascends h.withi
 
 -- ---- a key that stands twice
 
-pub item_doubled : (vs : List Tree) (i : ℕ) (d : Tree) (inner outer : DoubledKey) → i < length vs → HasDoubledKey (value_view (get_or vs i d)) inner
-    → outer.path.items ≡ i ∷ inner.path.items → outer.members ≡ inner.members → HasDoubledKey (array (items_view vs)) outer
-item_doubled vs i d inner outer within h path members =
-    (h.0, ap (λ p. part_at p (array (items_view vs))) path ∙ ap (option_and_then (part_at inner.path.items)) (item_of_view vs i d within) ∙ h.1, subst (IsFirstDoubled (keys h.0)) (sym members) h.2)
-
-pub member_doubled : (ms : List (Bor (List ℕ) × Tree)) (i : ℕ) (d : Bor (List ℕ) × Tree) (inner outer : DoubledKey) → i < length ms → HasDoubledKey (value_view (get_or ms i d).1) inner
-    → outer.path.items ≡ i ∷ inner.path.items → outer.members ≡ inner.members → HasDoubledKey (object (members_view ms)) outer
-member_doubled ms i d inner outer within h path members =
-    (h.0, ap (λ p. part_at p (object (members_view ms))) path ∙ ap (option_and_then (part_at inner.path.items)) (member_of_view ms i d within) ∙ h.1, subst (IsFirstDoubled (keys h.0)) (sym members) h.2)
+part_doubled : (j part : Json) (i : ℕ) (inner outer : DoubledKey) → part_after i j ≡ Some part → HasDoubledKey part inner → outer.path.items ≡ i ∷ inner.path.items → outer.members ≡ inner.members → HasDoubledKey j outer
+part_doubled j part i inner outer at h path members =
+    (h.0, ap (λ p. part_at p j) path ∙ ap (option_and_then (part_at inner.path.items)) at ∙ h.1, subst (IsFirstDoubled (keys h.0)) (sym members) h.2)
 
 -- ---- the first of several
 
@@ -173,12 +152,9 @@ member_single (member s j ms) zero k e is =
 member_single (member s j ms) (suc i) k e is = member_single ms i k (both (single j) (members_single ms) e).1 is
 
 after_single : (i : ℕ) (j k : Json) → single j ≡ true → part_after i j ≡ Some k → single k ≡ true
-after_single i null k e is = cc
-after_single i (boolean b) k e is = cc
-after_single i (number n) k e is = cc
-after_single i (string s) k e is = cc
 after_single i (array js) k e is = item_single js i k e is
 after_single i (object ms) k e is = member_single ms i k (both (names_differ (keys ms)) (members_single ms) e).1 is
+after_single i j k e is = cc
 
 part_of : (o : Option Json) (q : List ℕ) (ms : Members) → ((k : Json) → o ≡ Some k → part_at q k ≡ Some (object ms) → names_differ (keys ms) ≡ true)
     → option_and_then (part_at q) o ≡ Some (object ms) → names_differ (keys ms) ≡ true
@@ -206,52 +182,31 @@ none_before_part j part i path at inner own passed (k ∷ q) ms before is = part
         let same : e ≡ part = cc in
         inner q ms h.1 (subst (λ (x : Json). part_at q x ≡ Some (object ms)) same below)
 
--- no key stands twice in the items that were passed
-abbrev pub ItemsPassed : List Tree → ℕ → Type 0
-ItemsPassed vs n = (k : ℕ) (e : Json) → k < n → item_at k (items_view vs) ≡ Some e → single e ≡ true
+-- no key stands twice in the parts that were passed
+abbrev pub Passed : Json → ℕ → Type 0
+Passed j n = (k : ℕ) (e : Json) → k < n → part_after k j ≡ Some e → single e ≡ true
 
-abbrev pub MembersPassed : List (Bor (List ℕ) × Tree) → ℕ → Type 0
-MembersPassed ms n = (k : ℕ) (e : Json) → k < n → member_at k (members_view ms) ≡ Some e → single e ≡ true
-
-pub items_more : (vs : List Tree) (n : ℕ) (d : Tree) → n < length vs → ItemsPassed vs n → single (value_view (get_or vs n d)) ≡ true → ItemsPassed vs (n + 1)
-items_more vs n d within before here k e below found = by (k == n) refl
+pub passed_more : (j part : Json) (n : ℕ) → part_after n j ≡ Some part → Passed j n → single part ≡ true → Passed j (n + 1)
+passed_more j part n seen before here k e below found = by (k == n) refl
   where
     by : (b : Bool) → (k == n) ≡ b → single e ≡ true
     by true is =
-        let there : item_at k (items_view vs) ≡ item_at n (items_view vs) = ap (λ i. item_at i (items_view vs)) ((Decides-eqb k n).0 is) in
-        let seen : item_at n (items_view vs) ≡ Some (value_view (get_or vs n d)) = item_of_view vs n d within in
-        let same : value_view (get_or vs n d) ≡ e = cc in
+        let there : part_after k j ≡ part_after n j = ap (λ i. part_after i j) ((Decides-eqb k n).0 is) in
+        let same : part ≡ e = cc in
         subst (λ (x : Json). single x ≡ true) same here
     by false is =
         let other : k ≢ n = λ same. true≢false (sym ((Decides-eqb k n).1 same) ∙ is) in
         before k e (omega arith) found
 
-pub members_more : (ms : List (Bor (List ℕ) × Tree)) (n : ℕ) (d : Bor (List ℕ) × Tree) → n < length ms → MembersPassed ms n → single (value_view (get_or ms n d).1) ≡ true → MembersPassed ms (n + 1)
-members_more ms n d within before here k e below found = by (k == n) refl
-  where
-    by : (b : Bool) → (k == n) ≡ b → single e ≡ true
-    by true is =
-        let there : member_at k (members_view ms) ≡ member_at n (members_view ms) = ap (λ i. member_at i (members_view ms)) ((Decides-eqb k n).0 is) in
-        let seen : member_at n (members_view ms) ≡ Some (value_view (get_or ms n d).1) = member_of_view ms n d within in
-        let same : value_view (get_or ms n d).1 ≡ e = cc in
-        subst (λ (x : Json). single x ≡ true) same here
-    by false is =
-        let other : k ≢ n = λ same. true≢false (sym ((Decides-eqb k n).1 same) ∙ is) in
-        before k e (omega arith) found
+pub part_first : (j part : Json) (i : ℕ) (inner outer : DoubledKey) → part_after i j ≡ Some part → IsFirstDoubledKey part inner → outer.path.items ≡ i ∷ inner.path.items → outer.members ≡ inner.members
+    → ((ms : Members) → j ≡ object ms → names_differ (keys ms) ≡ true) → Passed j i → IsFirstDoubledKey j outer
+part_first j part i inner outer at h path members own passed =
+    (part_doubled j part i inner outer at h.0 path members, subst (NoneBefore j) (sym path) (none_before_part j part i inner.path.items at h.1 own passed))
 
-pub item_first : (vs : List Tree) (i : ℕ) (d : Tree) (inner outer : DoubledKey) → i < length vs → IsFirstDoubledKey (value_view (get_or vs i d)) inner
-    → outer.path.items ≡ i ∷ inner.path.items → outer.members ≡ inner.members → ItemsPassed vs i → IsFirstDoubledKey (array (items_view vs)) outer
-item_first vs i d inner outer within h path members passed =
-    let none : NoneBefore (array (items_view vs)) (i ∷ inner.path.items) =
-    none_before_part (array (items_view vs)) (value_view (get_or vs i d)) i inner.path.items (item_of_view vs i d within) h.1 (λ ms same. cc) passed in
-    (item_doubled vs i d inner outer within h.0 path members, subst (NoneBefore (array (items_view vs))) (sym path) none)
+pub no_object : (js : Items) (ms : Members) → array js ≡ object ms → names_differ (keys ms) ≡ true
+no_object js ms same = cc
 
-pub member_first : (ms : List (Bor (List ℕ) × Tree)) (i : ℕ) (d : Bor (List ℕ) × Tree) (inner outer : DoubledKey) → i < length ms → IsFirstDoubledKey (value_view (get_or ms i d).1) inner
-    → outer.path.items ≡ i ∷ inner.path.items → outer.members ≡ inner.members → names_differ (keys (members_view ms)) ≡ true → MembersPassed ms i → IsFirstDoubledKey (object (members_view ms)) outer
-member_first ms i d inner outer within h path members differ passed =
-    let own : (os : Members) → object (members_view ms) ≡ object os → names_differ (keys os) ≡ true = λ os same.
-    let is : members_view ms ≡ os = cc in
-    subst (λ (x : Members). names_differ (keys x) ≡ true) is differ in
-    let none : NoneBefore (object (members_view ms)) (i ∷ inner.path.items) =
-    none_before_part (object (members_view ms)) (value_view (get_or ms i d).1) i inner.path.items (member_of_view ms i d within) h.1 own passed in
-    (member_doubled ms i d inner outer within h.0 path members, subst (NoneBefore (object (members_view ms))) (sym path) none)
+pub keys_once : (ms os : Members) → names_differ (keys ms) ≡ true → object ms ≡ object os → names_differ (keys os) ≡ true
+keys_once ms os differ same =
+    let is : ms ≡ os = cc in
+    subst (λ (x : Members). names_differ (keys x) ≡ true) is differ

@@ -8,6 +8,7 @@ use Rattle.json.proofs.Grammar.{left, left-parse_map, closed_array, read_key_is}
 use Rattle.json.proofs.Found.{Some_inj, not_found}
 use Rattle.net_pointers.specs.Scans.{Ends}
 use Rattle.net_pointers.specs.PartTokens.{past_items, past_key, past_members, from_key, from_part, from_path}
+use Rattle.net_pointers.proofs.Readings.{and_then_parts}
 
 whole : (ts us : List Token) → ts ≡ us → Ends ts us
 whole ts us e = ([], e)
@@ -48,17 +49,13 @@ module _ (p : Parse Json) (leaves : Leaves p) where
   Leaves-members (suc n) ts r e = member_turn (members p n) ts r (read_key ts) (Leaves-members n) refl e
 
 Leaves-value_with : (a : Parse Items) (o : Parse Members) → Leaves a → Leaves o → Leaves (value_with a o)
-Leaves-value_with a o p q [] r e = not_found r e
 Leaves-value_with a o p q (Token.begin_object ∷ ts) r e = after_one Token.begin_object _ ts r refl (q ts r (sym (left-parse_map object (o ts)) ∙ e))
-Leaves-value_with a o p q (Token.end_object ∷ ts) r e = not_found r e
 Leaves-value_with a o p q (Token.begin_array ∷ ts) r e = after_one Token.begin_array _ ts r refl (p ts r (sym (left-parse_map array (a ts)) ∙ e))
-Leaves-value_with a o p q (Token.end_array ∷ ts) r e = not_found r e
-Leaves-value_with a o p q (Token.key s ∷ ts) r e = not_found r e
 Leaves-value_with a o p q (Token.string s ∷ ts) r e = after_one (Token.string s) _ ts r refl (whole ts r (Some_inj ts r e))
 Leaves-value_with a o p q (Token.number s ∷ ts) r e = after_one (Token.number s) _ ts r refl (whole ts r (Some_inj ts r e))
 Leaves-value_with a o p q (Token.boolean b ∷ ts) r e = after_one (Token.boolean b) _ ts r refl (whole ts r (Some_inj ts r e))
 Leaves-value_with a o p q (Token.null ∷ ts) r e = after_one Token.null _ ts r refl (whole ts r (Some_inj ts r e))
-Leaves-value_with a o p q (Token.bad ∷ ts) r e = not_found r e
+Leaves-value_with a o p q x r e = not_found r e
 
 Leaves-value : (d : ℕ) → Leaves (value d)
 unfolding value
@@ -69,69 +66,39 @@ Leaves-value (suc d) =
 
 -- ---- along a path
 
-both : {A B : Type 0} (f : A → Option B) (o : Option A) (b : B) → option_and_then f o ≡ Some b → (a : A) × (o ≡ Some a) × (f a ≡ Some b)
-both f None b e = not_found b e
-both f (Some a) b e = (a, refl, e)
-
 items_end : (n : ℕ) (ts us : List Token) → past_items n ts ≡ Some us → Ends ts us
 items_end zero ts us e = whole ts us (Some_inj ts us e)
-items_end (suc n) ts us e = let a = both (past_items n) (skip_value 127 ts) us e in further ts a.0 us (Leaves-value 127 ts a.0 a.1) (items_end n a.0 us a.2)
+items_end (suc n) ts us e = let a = and_then_parts (past_items n) (skip_value 127 ts) us e in further ts a.0 us (Leaves-value 127 ts a.0 a.1) (items_end n a.0 us a.2)
 
 key_ends : (ts us : List Token) → past_key ts ≡ Some us → Ends ts us
-key_ends [] us e = not_found us e
 key_ends (Token.key k ∷ ts) us e = after_one (Token.key k) _ ts us refl (whole ts us (Some_inj ts us e))
-key_ends (Token.begin_object ∷ ts) us e = not_found us e
-key_ends (Token.end_object ∷ ts) us e = not_found us e
-key_ends (Token.begin_array ∷ ts) us e = not_found us e
-key_ends (Token.end_array ∷ ts) us e = not_found us e
-key_ends (Token.string s ∷ ts) us e = not_found us e
-key_ends (Token.number s ∷ ts) us e = not_found us e
-key_ends (Token.boolean b ∷ ts) us e = not_found us e
-key_ends (Token.null ∷ ts) us e = not_found us e
-key_ends (Token.bad ∷ ts) us e = not_found us e
+key_ends ts us e = not_found us e
 
 members_end : (n : ℕ) (ts us : List Token) → past_members n ts ≡ Some us → Ends ts us
 members_end zero ts us e = whole ts us (Some_inj ts us e)
 members_end (suc n) ts us e =
-    let a = both (past_members n) (option_and_then (skip_value 127) (past_key ts)) us e in
-    let b = both (skip_value 127) (past_key ts) a.0 a.1 in
+    let a = and_then_parts (past_members n) (option_and_then (skip_value 127) (past_key ts)) us e in
+    let b = and_then_parts (skip_value 127) (past_key ts) a.0 a.1 in
     further ts b.0 us (key_ends ts b.0 b.1) (further b.0 a.0 us (Leaves-value 127 b.0 a.0 b.2) (members_end n a.0 us a.2))
 
 part_ends : (i : ℕ) (ts us : List Token) → from_part i ts ≡ Some us → Ends ts us
-part_ends i [] us e = not_found us e
 part_ends i (Token.begin_array ∷ ts) us e = after_one Token.begin_array _ ts us refl (items_end i ts us e)
 part_ends i (Token.begin_object ∷ ts) us e =
-    let a = both past_key (past_members i ts) us e in
+    let a = and_then_parts past_key (past_members i ts) us e in
     after_one Token.begin_object _ ts us refl (further ts a.0 us (members_end i ts a.0 a.1) (key_ends a.0 us a.2))
-part_ends i (Token.end_object ∷ ts) us e = not_found us e
-part_ends i (Token.end_array ∷ ts) us e = not_found us e
-part_ends i (Token.key s ∷ ts) us e = not_found us e
-part_ends i (Token.string s ∷ ts) us e = not_found us e
-part_ends i (Token.number s ∷ ts) us e = not_found us e
-part_ends i (Token.boolean b ∷ ts) us e = not_found us e
-part_ends i (Token.null ∷ ts) us e = not_found us e
-part_ends i (Token.bad ∷ ts) us e = not_found us e
+part_ends i ts us e = not_found us e
 
 pub path_ends : (path : List ℕ) (ts us : List Token) → from_path path ts ≡ Some us → Ends ts us
 path_ends [] ts us e = whole ts us (Some_inj ts us e)
-path_ends (i ∷ is) ts us e = let a = both (from_path is) (from_part i ts) us e in further ts a.0 us (part_ends i ts a.0 a.1) (path_ends is a.0 us a.2)
+path_ends (i ∷ is) ts us e = let a = and_then_parts (from_path is) (from_part i ts) us e in further ts a.0 us (part_ends i ts a.0 a.1) (path_ends is a.0 us a.2)
 
 pub key_of_object_ends : (i : ℕ) (ts us : List Token) → from_key i ts ≡ Some us → Ends ts us
-key_of_object_ends i [] us e = not_found us e
 key_of_object_ends i (Token.begin_object ∷ ts) us e = after_one Token.begin_object _ ts us refl (members_end i ts us e)
-key_of_object_ends i (Token.end_object ∷ ts) us e = not_found us e
-key_of_object_ends i (Token.begin_array ∷ ts) us e = not_found us e
-key_of_object_ends i (Token.end_array ∷ ts) us e = not_found us e
-key_of_object_ends i (Token.key s ∷ ts) us e = not_found us e
-key_of_object_ends i (Token.string s ∷ ts) us e = not_found us e
-key_of_object_ends i (Token.number s ∷ ts) us e = not_found us e
-key_of_object_ends i (Token.boolean b ∷ ts) us e = not_found us e
-key_of_object_ends i (Token.null ∷ ts) us e = not_found us e
-key_of_object_ends i (Token.bad ∷ ts) us e = not_found us e
+key_of_object_ends i ts us e = not_found us e
 
 pub path_key_ends : (path : List ℕ) (i : ℕ) (ts us : List Token) → option_and_then (from_key i) (from_path path ts) ≡ Some us → Ends ts us
 path_key_ends path i ts us e =
-    let a = both (from_key i) (from_path path ts) us e in
+    let a = and_then_parts (from_key i) (from_path path ts) us e in
     further ts a.0 us (path_ends path ts a.0 a.1) (key_of_object_ends i a.0 us a.2)
 
 -- so they are what is left behind all others

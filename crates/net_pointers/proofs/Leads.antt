@@ -3,10 +3,10 @@ use Rattle.std.proofs.Common.{◌≡◌, inl, inr, ℕ, suc, ◌+◌, List, [], 
 use Rattle.std.specs.Option.{option_or}
 use Rattle.std.specs.Str.{bytes_eq}
 use Rattle.std.proofs.lemmas.Option.{none-some, same_Some}
-use Rattle.serde_json.specs.Data.{Data, null, boolean, number, string, array, object, Items, no_items, item}
+use Rattle.serde_json.specs.Data.{Data, array, Items, no_items, item}
 use Rattle.serde_json.specs.Find.{get, get_item}
 use Rattle.net_json.specs.Finding.{Step, key, index, Located, own_fault, under, here, in_items, inside, in_fields, in_choices, first_fault}
-use Rattle.net_json.specs.Grammar.{Grammar, plain, one_of, a_list, an_optional, an_object, a_choice, Fields, no_fields, field, Known}
+use Rattle.net_json.specs.Grammar.{Grammar, a_list, an_optional, an_object, a_choice, Fields, no_fields, field, Known}
 use Rattle.net_json.specs.Names.{text_of}
 use Rattle.net_json.specs.declared.error.ValueFault.{ValueFault}
 use Rattle.net_pointers.specs.Pointers.{value_after, value_at, HasField, IsPart, IsAsked, IsAskedByWord, IsAskedByOne, MayStandAt, HasFaultAt}
@@ -96,13 +96,6 @@ ChoiceLed known cs d l = (w : List ℕ) × (g : Grammar) × HasField w g cs × H
 
 mutual
   below : (known : Option Known) (g : Grammar) (d : Data) (l : Located) → inside known g d ≡ Some l → HasFaultIn known g d l
-  below known (plain w) d l e = absurd (none-some l e)
-  below known (one_of words) d l e = absurd (none-some l e)
-  below known (a_list most g) null l e = absurd (none-some l e)
-  below known (a_list most g) (boolean b) l e = absurd (none-some l e)
-  below known (a_list most g) (number n) l e = absurd (none-some l e)
-  below known (a_list most g) (string t) l e = absurd (none-some l e)
-  below known (a_list most g) (object ms) l e = absurd (none-some l e)
   below known (a_list most g) (array ds) l e =
       let led = items_lead (first_fault known g) (HasFaultAt known g) (λ d m. either known g d m (below known g d m)) 0 ds l e in
       outward known (a_list most g) g (index led.0) (array ds) led.1 led.2 l led.3 refl led.4 (led.5 ∙ ap (λ k. outer (index k) led.2) (omega arith))
@@ -129,6 +122,7 @@ mutual
       by : Deliver → Later → (o : Option Data) → get k d ≡ o → option_and_then (λ v. option_or (under (key k) (first_fault known g v)) (in_choices known cs (text_of v) d)) o ≡ Some l → HasFaultIn known (a_choice k g cs) d l
       by h later None there e = absurd (none-some l e)
       by h later (Some v) there e = at_it h later v there (first_fault known g v) refl e
+  below known g d l e = absurd (none-some l e)
 
   choices_lead : (known : Option Known) (cs : Fields) (word : List ℕ) (d : Data) (l : Located) → in_choices known cs word d ≡ Some l → ChoiceLed known cs d l
   choices_lead known no_fields word d l e = absurd (none-some l e)

@@ -1,12 +1,10 @@
 -- What stands at an offset, in the tree of the text.
-use Rattle.std.proofs.Common.{◌≡◌, ◌∙◌, sym, ap, ℕ, List, ◌∷◌, [], Option, Some, None, option_and_then, subst}
+use Rattle.std.proofs.Common.{◌≡◌, ◌∙◌, sym, ap, ℕ, List, ◌∷◌, [], Option, Some, None, subst}
 use Rattle.std.proofs.lemmas.Bool.{false≢true}
 use Rattle.std.specs.Prelude.{Result, Ok, Err, IfOk, IfSome, IsSome, MatchOption}
 use Rattle.json.specs.Find.{BeginsWith}
-use Rattle.json.specs.Json.{Json, if_last}
+use Rattle.json.specs.Json.{Json}
 use Rattle.json.specs.Lex.{tokens}
-use Rattle.json.specs.Token.{Token}
-use Rattle.json.proofs.Found.{Some_inj, not_found}
 use Rattle.serde_json.specs.Read.{max_depth}
 use Rattle.net_json.specs.Texts.{IsTree}
 use Rattle.net_json.specs.Trees.{data_of}
@@ -15,13 +13,9 @@ use Rattle.net_pointers.specs.Paths.{path_of}
 use Rattle.net_pointers.specs.Doubles.{part_at}
 use Rattle.net_json.specs.Finding.{Step}
 use Rattle.net_pointers.specs.Pointers.{value_at}
+use Rattle.net_pointers.proofs.Beginnings.{last}
 use Rattle.net_pointers.proofs.Paths.{path_leads}
 use Rattle.net_pointers.proofs.Readings.{path_read, path_key_read}
-
-last : (o : Option (Json × List Token)) (j : Json) → option_and_then (λ p. if_last p.0 p.1) o ≡ Some j → o ≡ Some (j, [])
-last None j e = not_found j e
-last (Some (i, [])) j e = ap (λ x. Some (x, [])) (Some_inj i j e)
-last (Some (i, t ∷ ts)) j e = not_found j e
 
 begins : (text : List ℕ) (j : Json) → IsTree text j → BeginsWith (tokens text) j
 begins text j e = (max_depth, [], last _ j e)
@@ -50,8 +44,7 @@ key_leads text path m offset stands = record {
 
 pub found_key_leads : {E : Type 0} (text path : List ℕ) (m : ℕ) (r : Result (Option ℕ) E) → IfOk r (λ f. IfSome f (KeyStandsAt text path m) × IsSome f) → IfOk r (λ f. IfSome f (LeadsToKey text path m) × IsSome f)
 found_key_leads text path m (Ok (Some offset)) h = (key_leads text path m offset h.0, h.1)
-found_key_leads text path m (Ok None) h = h
-found_key_leads text path m (Err e) h = h
+found_key_leads text path m r h = h
 
 -- where a pointer leads along a path, what it leads to is found
 pub found_pointer_leads : {E : Type 0} (text : List ℕ) (pointer : List Step) (j : Json) (path : List ℕ) (r : Result (Option ℕ) E) → IsTree text j → path_of pointer j ≡ Some path

@@ -4,7 +4,7 @@ use Rattle.std.specs.Prelude.{IfSome, option_and_then}
 use Rattle.std.proofs.lemmas.Bool.{leb-true}
 use Rattle.std.proofs.lemmas.Bool.Decides.{Decides-eqb}
 use Rattle.std.proofs.lemmas.Option.{none-some, same_Some, option_and_then_some}
-use Rattle.serde_json.specs.Data.{Data, null, boolean, number, string, array, object, Items, no_items, item}
+use Rattle.serde_json.specs.Data.{Data, array, Items, no_items, item}
 use Rattle.serde_json.specs.Find.{get, at, get_item}
 use Rattle.net_json.specs.Finding.{key, index}
 use Rattle.net_json.specs.Trees.{Tree, view, items_view}
@@ -34,11 +34,7 @@ apart (item d ds) end (suc r) up (before, after, one, next, over) =
 
 list_apart : (list : Data) (r : ℕ) → list_ascends (Some list) ≡ true → OverlapIn list r → ⊥
 list_apart (array ds) r up over = apart ds 0 r up over
-list_apart null r up over = none-some over.0 over.2
-list_apart (boolean b) r up over = none-some over.0 over.2
-list_apart (number n) r up over = none-some over.0 over.2
-list_apart (string s) r up over = none-some over.0 over.2
-list_apart (object ms) r up over = none-some over.0 over.2
+list_apart list r up over = none-some over.0 over.2
 
 entry_apart : (d : Data) (r : ℕ) → list_ascends (get (codes "ranges") d) ≡ true → OverlapOf d r → ⊥
 entry_apart d r up (list, is, over) = list_apart list r (ap list_ascends (sym is) ∙ up) over

@@ -5,7 +5,7 @@ use Rattle.std.specs.Slice.{IsItemAt}
 use Rattle.std.specs.Str.{bytes_eq}
 use Rattle.json.specs.Find.{later_or}
 use Rattle.json.specs.Find as find
-use Rattle.json.specs.Json.{Json, null, boolean, number, string, array, object, Items, no_items, item, Members, no_members, member}
+use Rattle.json.specs.Json.{Json, null, array, object, Items, no_items, item, Members, no_members, member}
 use Rattle.json.specs.Value.{value_view, items_view, members_view}
 use Rattle.json.proofs.Found.{Some_inj, not_found}
 use Rattle.serde_json.specs.Find.{get_item}
@@ -67,20 +67,11 @@ item_seen zero (item j js) = refl
 item_seen (suc i) (item j js) = item_seen i js
 
 step_leads : (s : Step) (j e : Json) (i : ℕ) → index_after s j ≡ Some i → part_after i j ≡ Some e → value_after s (data_of j) ≡ Some (data_of e)
-step_leads (key k) null e i p at = not_found i p
-step_leads (key k) (boolean b) e i p at = not_found i p
-step_leads (key k) (number s) e i p at = not_found i p
-step_leads (key k) (string s) e i p at = not_found i p
-step_leads (key k) (array js) e i p at = not_found i p
 step_leads (key k) (object ms) e i p at =
     let last = subst (IsLast k ms) p (is_last k ms) in
     get_of k (object ms) ∙ ap (option_map data_of) (last.2 ∙ sym last.1 ∙ at)
-step_leads (index n) null e i p at = not_found i p
-step_leads (index n) (boolean b) e i p at = not_found i p
-step_leads (index n) (number s) e i p at = not_found i p
-step_leads (index n) (string s) e i p at = not_found i p
 step_leads (index n) (array js) e i p at = item_seen n js ∙ ap (option_map data_of) (ap (λ k. item_at k js) (Some_inj n i p) ∙ at)
-step_leads (index n) (object ms) e i p at = not_found i p
+step_leads s j e i p at = not_found i p
 
 map_parts : {A B : Type 0} (f : A → B) (o : Option A) (b : B) → option_map f o ≡ Some b → (a : A) × (o ≡ Some a) × (f a ≡ b)
 map_parts f None b e = not_found b e
@@ -109,33 +100,17 @@ no_member_of k ms e = get_of k (object ms) ∙ ap (option_map data_of) (subst (I
 
 step_nowhere : (s : Step) (j : Json) → index_after s j ≡ None → value_after s (data_of j) ≡ None
 step_nowhere (key k) null e = get_of k null
-step_nowhere (key k) (boolean b) e = get_of k (boolean b)
-step_nowhere (key k) (number s) e = get_of k (number s)
-step_nowhere (key k) (string s) e = get_of k (string s)
-step_nowhere (key k) (array js) e = get_of k (array js)
 step_nowhere (key k) (object ms) e = no_member_of k ms e
-step_nowhere (index n) null e = refl
-step_nowhere (index n) (boolean b) e = refl
-step_nowhere (index n) (number s) e = refl
-step_nowhere (index n) (string s) e = refl
 step_nowhere (index n) (array js) e = not_found n (sym e)
-step_nowhere (index n) (object ms) e = refl
+step_nowhere (index n) j e = refl
+step_nowhere (key k) j e = get_of k j
 
 part_nowhere : (s : Step) (j : Json) (i : ℕ) → index_after s j ≡ Some i → part_after i j ≡ None → value_after s (data_of j) ≡ None
-part_nowhere (key k) null i p at = not_found i p
-part_nowhere (key k) (boolean b) i p at = not_found i p
-part_nowhere (key k) (number s) i p at = not_found i p
-part_nowhere (key k) (string s) i p at = not_found i p
-part_nowhere (key k) (array js) i p at = not_found i p
 part_nowhere (key k) (object ms) i p at =
     let last = subst (IsLast k ms) p (is_last k ms) in
     not_found last.0 (sym at ∙ last.1)
-part_nowhere (index n) null i p at = not_found i p
-part_nowhere (index n) (boolean b) i p at = not_found i p
-part_nowhere (index n) (number s) i p at = not_found i p
-part_nowhere (index n) (string s) i p at = not_found i p
 part_nowhere (index n) (array js) i p at = item_seen n js ∙ ap (option_map data_of) (ap (λ k. item_at k js) (Some_inj n i p) ∙ at)
-part_nowhere (index n) (object ms) i p at = not_found i p
+part_nowhere s j i p at = not_found i p
 
 pub leads_nowhere : (ss : List Step) (j : Json) → path_of ss j ≡ None → value_at ss (data_of j) ≡ None
 leads_nowhere [] j p = not_found [] (sym p)

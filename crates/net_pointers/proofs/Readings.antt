@@ -62,19 +62,11 @@ key_first : (ts : List Token) (k : List ℕ) (j : Json) (ms : Members) → InMem
 key_first [] k j ms h =
     let closed : member k j ms ≡ no_members = members_short [] (member k j ms) (omega arith) h in
     cc
-key_first (Token.begin_object ∷ ts) k j ms h = no_key Token.begin_object ts k j ms (λ x. x) h
-key_first (Token.end_object ∷ ts) k j ms h = no_key Token.end_object ts k j ms (λ x. x) h
-key_first (Token.begin_array ∷ ts) k j ms h = no_key Token.begin_array ts k j ms (λ x. x) h
-key_first (Token.end_array ∷ ts) k j ms h = no_key Token.end_array ts k j ms (λ x. x) h
 key_first (Token.key s ∷ ts) k j ms h =
     let f = members_go_on s ts (member k j ms) h in
     let same : s ≡ k = cc in
     (ts, ap (λ x. Token.key x ∷ ts) same)
-key_first (Token.string s ∷ ts) k j ms h = no_key (Token.string s) ts k j ms (λ x. x) h
-key_first (Token.number s ∷ ts) k j ms h = no_key (Token.number s) ts k j ms (λ x. x) h
-key_first (Token.boolean b ∷ ts) k j ms h = no_key (Token.boolean b) ts k j ms (λ x. x) h
-key_first (Token.null ∷ ts) k j ms h = no_key Token.null ts k j ms (λ x. x) h
-key_first (Token.bad ∷ ts) k j ms h = no_key Token.bad ts k j ms (λ x. x) h
+key_first (t ∷ ts) k j ms h = no_key t ts k j ms (λ x. x) h
 
 -- a member, and those behind it
 abbrev Behind : List Token → Json → Members → Type 0
@@ -113,26 +105,21 @@ member_there (suc n) (member k j ms) e at = member_there n ms e at
 
 -- ---- one step, and a path
 
-opened_array : (o : Option (Items × List Token)) (j : Json) (rest : List Token) → parse_map array o ≡ Some (j, rest) → (js : Items) × (j ≡ array js)
-opened_array None j rest e = not_found (j, rest) e
-opened_array (Some x) j rest e = (x.0, sym (ap (λ z. z.0) (Some_inj _ _ e)))
-
-opened_object : (o : Option (Members × List Token)) (j : Json) (rest : List Token) → parse_map object o ≡ Some (j, rest) → (ms : Members) × (j ≡ object ms)
-opened_object None j rest e = not_found (j, rest) e
-opened_object (Some x) j rest e = (x.0, sym (ap (λ z. z.0) (Some_inj _ _ e)))
+pub opened_as : {A : Type 0} (f : A → Json) (o : Option (A × List Token)) (j : Json) (rest : List Token) → parse_map f o ≡ Some (j, rest) → (x : A) × (o ≡ Some (x, rest)) × (f x ≡ j)
+opened_as f None j rest e = not_found (j, rest) e
+opened_as f (Some x) j rest e = let both = Some_inj _ _ e in (x.0, ap (λ r. Some (x.0, r)) (ap (λ z. z.1) both), ap (λ z. z.0) both)
 
 list_opened : (ts : List Token) (j : Json) → BeginsWith (Token.begin_array ∷ ts) j → (js : Items) × (j ≡ array js) × InItems ts js
 list_opened ts j h =
-    let a = opened_array _ j h.1 (sym (value_is h.0 (Token.begin_array ∷ ts)) ∙ h.2) in
-    (a.0, a.1, opened (Token.begin_array ∷ ts) (array a.0) (subst (BeginsWith (Token.begin_array ∷ ts)) a.1 h))
+    let a = opened_as array _ j h.1 (sym (value_is h.0 (Token.begin_array ∷ ts)) ∙ h.2) in
+    (a.0, sym a.2, opened (Token.begin_array ∷ ts) (array a.0) (subst (BeginsWith (Token.begin_array ∷ ts)) (sym a.2) h))
 
 object_opened : (ts : List Token) (j : Json) → BeginsWith (Token.begin_object ∷ ts) j → (ms : Members) × (j ≡ object ms) × InMembers ts ms
 object_opened ts j h =
-    let a = opened_object _ j h.1 (sym (value_is h.0 (Token.begin_object ∷ ts)) ∙ h.2) in
-    (a.0, a.1, opened (Token.begin_object ∷ ts) (object a.0) (subst (BeginsWith (Token.begin_object ∷ ts)) a.1 h))
+    let a = opened_as object _ j h.1 (sym (value_is h.0 (Token.begin_object ∷ ts)) ∙ h.2) in
+    (a.0, sym a.2, opened (Token.begin_object ∷ ts) (object a.0) (subst (BeginsWith (Token.begin_object ∷ ts)) (sym a.2) h))
 
 part_read : (i : ℕ) (ts us : List Token) (j e : Json) → from_part i ts ≡ Some us → BeginsWith ts j → part_after i j ≡ Some e → BeginsWith us e
-part_read i [] us j e p h at = not_found us p
 part_read i (Token.begin_object ∷ ts) us j e p h at =
     let o = object_opened ts j h in
     let at : member_at i o.0 ≡ Some e = ap (part_after i) (sym o.1) ∙ at in
@@ -140,17 +127,10 @@ part_read i (Token.begin_object ∷ ts) us j e p h at =
     let m = member_there i o.0 e at in
     let f = behind_key a.0 us _ e m.0 a.2 (subst (InMembers a.0) m.1 (members_passed i ts a.0 o.0 e a.1 o.2 at)) in
     (f.0, f.1, f.2)
-part_read i (Token.end_object ∷ ts) us j e p h at = not_found us p
 part_read i (Token.begin_array ∷ ts) us j e p h at =
     let o = list_opened ts j h in
     items_passed i ts us o.0 e p o.2 (ap (part_after i) (sym o.1) ∙ at)
-part_read i (Token.end_array ∷ ts) us j e p h at = not_found us p
-part_read i (Token.key s ∷ ts) us j e p h at = not_found us p
-part_read i (Token.string s ∷ ts) us j e p h at = not_found us p
-part_read i (Token.number s ∷ ts) us j e p h at = not_found us p
-part_read i (Token.boolean b ∷ ts) us j e p h at = not_found us p
-part_read i (Token.null ∷ ts) us j e p h at = not_found us p
-part_read i (Token.bad ∷ ts) us j e p h at = not_found us p
+part_read i ts us j e p h at = not_found us p
 
 -- where a path leads, the tokens begin with the part to which it leads
 pub path_read : (path : List ℕ) (ts us : List Token) (j e : Json) → from_path path ts ≡ Some us → BeginsWith ts j → part_at path j ≡ Some e → BeginsWith us e
@@ -166,22 +146,13 @@ member_within zero (member k j ms) within = (j, refl)
 member_within (suc n) (member k j ms) within = member_within n ms (omega arith)
 
 key_read : (n : ℕ) (ts us : List Token) (ms : Members) → from_key n ts ≡ Some us → BeginsWith ts (object ms) → n < length (keys ms) → StartsWith (get_or (keys ms) n []) us
-key_read n [] us ms p h within = not_found us p
 key_read n (Token.begin_object ∷ ts) us ms p h within =
     let o = object_opened ts (object ms) h in
     let same : o.0 ≡ ms = cc in
     let e = member_within n ms within in
     let m = member_there n ms e.0 e.1 in
     key_first us _ e.0 m.0 (subst (InMembers us) m.1 (members_passed n ts us ms e.0 p (subst (InMembers ts) same o.2) e.1))
-key_read n (Token.end_object ∷ ts) us ms p h within = not_found us p
-key_read n (Token.begin_array ∷ ts) us ms p h within = not_found us p
-key_read n (Token.end_array ∷ ts) us ms p h within = not_found us p
-key_read n (Token.key s ∷ ts) us ms p h within = not_found us p
-key_read n (Token.string s ∷ ts) us ms p h within = not_found us p
-key_read n (Token.number s ∷ ts) us ms p h within = not_found us p
-key_read n (Token.boolean b ∷ ts) us ms p h within = not_found us p
-key_read n (Token.null ∷ ts) us ms p h within = not_found us p
-key_read n (Token.bad ∷ ts) us ms p h within = not_found us p
+key_read n ts us ms p h within = not_found us p
 
 -- where a path leads to an object, and then the key of a member stands
 pub path_key_read : (path : List ℕ) (n : ℕ) (ts us : List Token) (j : Json) (ms : Members) → option_and_then (from_key n) (from_path path ts) ≡ Some us → BeginsWith ts j → part_at path j ≡ Some (object ms)

@@ -7,12 +7,11 @@ use Rattle.std.specs.Char.{is_ascii_digit}
 use Rattle.std.specs.List.{prefix_len}
 use Rattle.std.proofs.lemmas.Bool.{true≢false, false≢true, eqb-true, ltb-true}
 use Rattle.std.proofs.lemmas.List.{append_assoc, append-nil, length-append}
-use Rattle.json.specs.Token.{Token, begin_object, end_object, begin_array, end_array, key, string, number, boolean, null, bad}
+use Rattle.json.specs.Token.{Token, begin_object, end_object, begin_array, end_array, key, string, boolean, null, bad}
 use Rattle.json.specs.Text.{content, plain}
 use Rattle.json.specs.Ascii.{true_text, false_text, null_text}
 use Rattle.json.specs.Word.{word, after_digits, after_minus, after_whole, after_fraction, after_exponent, after_number, number_before, literal}
-use Rattle.json.specs.Lex.{Lexeme, token, comma, colon, Class, quote, backslash, operator, space, other, class, operator_lexeme, string_token, Mode, between, in_word, in_string, in_escape, lex_byte, lex}
-use Rattle.json.specs.Lex.{Place, fresh, after_value, after_comma, after_key, begins_colon, may_begin, may_close, if_allowed, place_token, punctuate, tokens}
+use Rattle.json.specs.Lex.{Lexeme, token, comma, colon, Class, quote, backslash, operator, space, other, class, operator_lexeme, string_token, Mode, between, in_word, in_string, in_escape, lex_byte, lex, Place, fresh, after_value, after_comma, after_key, begins_colon, may_begin, may_close, if_allowed, place_token, punctuate, tokens}
 use Rattle.net_pointers.specs.Offsets.{is_mark}
 use Rattle.net_pointers.specs.Scans.{is_bracket, begins_token, mode_after}
 
@@ -51,51 +50,25 @@ abbrev begun : Mode → Class → ℕ → List ℕ → List Lexeme
 begun between quote x xs = token (string_token (content plain xs)) ∷ []
 begun between backslash x xs = token bad ∷ []
 begun between operator x xs = operator_lexeme x ∷ []
-begun between space x xs = []
 begun between other x xs = token (word (x ∷ xs)) ∷ []
 begun in_word operator x xs = operator_lexeme x ∷ []
-begun in_word quote x xs = []
-begun in_word backslash x xs = []
-begun in_word space x xs = []
-begun in_word other x xs = []
-begun in_string c x xs = []
-begun in_escape c x xs = []
+begun m c x xs = []
 
 abbrev after_class : Mode → Class → Mode
 after_class between quote = in_string
-after_class between backslash = in_word
-after_class between operator = between
-after_class between space = between
-after_class between other = in_word
-after_class in_word quote = in_word
-after_class in_word backslash = in_word
-after_class in_word operator = between
-after_class in_word space = between
-after_class in_word other = in_word
 after_class in_string quote = between
 after_class in_string backslash = in_escape
-after_class in_string operator = in_string
-after_class in_string space = in_string
-after_class in_string other = in_string
+after_class in_string c = in_string
 after_class in_escape c = in_string
+after_class m operator = between
+after_class m space = between
+after_class m c = in_word
 
 step : (m : Mode) (c : Class) (x : ℕ) (xs : List ℕ) (k : Mode → List Lexeme) → lex_byte m c x xs k ≡ begun m c x xs ++ k (after_class m c)
 step between quote x xs k = refl
-step between backslash x xs k = refl
-step between operator x xs k = refl
-step between space x xs k = refl
-step between other x xs k = refl
 step in_word quote x xs k = refl
-step in_word backslash x xs k = refl
-step in_word operator x xs k = refl
-step in_word space x xs k = refl
-step in_word other x xs k = refl
 step in_string quote x xs k = refl
-step in_string backslash x xs k = refl
-step in_string operator x xs k = refl
-step in_string space x xs k = refl
-step in_string other x xs k = refl
-step in_escape c x xs k = refl
+step m c x xs k = refl
 
 after_is : (m : Mode) (x : ℕ) → mode_after m x ≡ after_class m (class x)
 after_is between = by_byte (λ x. mode_after between x ≡ after_class between (class x)) refl refl refl refl refl refl refl refl refl refl refl refl
@@ -226,19 +199,14 @@ placed p end_object b k = if_it_may (may_close p) end_object k after_value
 placed p begin_array b k = if_it_may (may_begin p) begin_array k fresh
 placed p end_array b k = if_it_may (may_close p) end_array k after_value
 placed p (string s) true k = if_it_may (may_begin p) (key s) k after_key
-placed p (string s) false k = if_it_may (may_begin p) (string s) k after_value
-placed p (number s) b k = if_it_may (may_begin p) (number s) k after_value
-placed p (boolean v) b k = if_it_may (may_begin p) (boolean v) k after_value
-placed p null b k = if_it_may (may_begin p) null k after_value
 placed p (key s) b k = inl refl
 placed p bad b k = inl refl
+placed p t b k = if_it_may (may_begin p) t k after_value
 
 punctuate_token : (p : Place) (t : Token) (ls : List Lexeme) → punctuate p (token t ∷ ls) ≡ place_token p t (begins_colon ls) (λ next. punctuate next ls)
 unfolding punctuate
 punctuate_token fresh t ls = refl
-punctuate_token after_value t ls = refl
-punctuate_token after_comma t ls = refl
-punctuate_token after_key t ls = refl
+punctuate_token p t ls = refl
 
 cut : (p : Place) (before after : List Lexeme) → Cut (punctuate p (before ++ after)) (token_count before) after
 unfolding punctuate
@@ -248,14 +216,9 @@ cut p (token t ∷ ls) after = by (λ next. cut next ls after) (placed p t (begi
     by : ((next : Place) → Cut (punctuate next (ls ++ after)) (token_count ls) after) → Placed (place_token p t (begins_colon (ls ++ after)) (λ next. punctuate next (ls ++ after))) (λ next. punctuate next (ls ++ after)) → Cut (punctuate p (token t ∷ (ls ++ after))) (token_count ls + 1) after
     by more (inl e) = broken _ _ after (punctuate_token p t (ls ++ after) ∙ e)
     by more (inr (u, next, e)) = subst (λ ts. Cut ts (token_count ls + 1) after) (sym (punctuate_token p t (ls ++ after) ∙ e)) (one_more u _ _ after (more next))
-cut fresh (comma ∷ ls) after = broken _ _ after refl
 cut after_value (comma ∷ ls) after = cut after_comma ls after
-cut after_comma (comma ∷ ls) after = broken _ _ after refl
-cut after_key (comma ∷ ls) after = broken _ _ after refl
-cut fresh (colon ∷ ls) after = broken _ _ after refl
-cut after_value (colon ∷ ls) after = broken _ _ after refl
-cut after_comma (colon ∷ ls) after = broken _ _ after refl
 cut after_key (colon ∷ ls) after = cut fresh ls after
+cut p (l ∷ ls) after = broken _ _ after refl
 
 none_left : {P : Type 0} (u : Token) (us : List Token) → [] ≡ u ∷ us → P
 none_left u us e = absurd (subst AreSome (sym e) tt)
@@ -268,9 +231,8 @@ past_bad (t ∷ pre) (suc n) u us le e = past_bad pre n u us (omega arith) e
 
 past_all : (pre ts : List Token) (n : ℕ) → length pre ≡ n → drop n (pre ++ ts) ≡ ts
 past_all [] ts zero e = refl
-past_all [] ts (suc n) e = absurd (omega arith)
-past_all (t ∷ pre) ts zero e = absurd (omega arith)
 past_all (t ∷ pre) ts (suc n) e = past_all pre ts n (omega arith)
+past_all pre ts n e = absurd (omega arith)
 
 -- ---- a token of its own
 
@@ -287,12 +249,9 @@ alone p end_object b k u us e sound = goes_on (may_close p) end_object k after_v
 alone p begin_array b k u us e sound = goes_on (may_begin p) begin_array k fresh u us e sound
 alone p end_array b k u us e sound = goes_on (may_close p) end_array k after_value u us e sound
 alone p (string s) true k u us e sound = goes_on (may_begin p) (key s) k after_key u us e sound
-alone p (string s) false k u us e sound = goes_on (may_begin p) (string s) k after_value u us e sound
-alone p (number s) b k u us e sound = goes_on (may_begin p) (number s) k after_value u us e sound
-alone p (boolean v) b k u us e sound = goes_on (may_begin p) (boolean v) k after_value u us e sound
-alone p null b k u us e sound = goes_on (may_begin p) null k after_value u us e sound
 alone p (key s) b k u us e sound = broken_off u us e sound
 alone p bad b k u us e sound = broken_off u us e sound
+alone p t b k u us e sound = goes_on (may_begin p) t k after_value u us e sound
 
 from_token : (p : Place) (t : Token) (ls : List Lexeme) (u : Token) (us : List Token) → punctuate p (token t ∷ ls) ≡ u ∷ us → u ≢ bad → punctuate fresh (token t ∷ ls) ≡ u ∷ us
 from_token p t ls u us e sound = punctuate_token fresh t ls ∙ alone p t (begins_colon ls) _ u us (sym (punctuate_token p t ls) ∙ e) sound
@@ -400,25 +359,15 @@ not_there {P = P} text m offset n k u us (before, e, count) end le left sound =
     by : Cut (punctuate fresh (before ++ [])) (token_count before) [] → drop k (punctuate fresh (before ++ [])) ≡ u ∷ us → P
     by (inl (pre, fresh, is, long)) rest = absurd (over pre (omega arith) (sym (ap (drop k) is) ∙ rest))
     by (inl (pre, after_value, is, long)) rest = absurd (over pre (omega arith) (sym (ap (drop k) is) ∙ rest))
-    by (inl (pre, after_comma, is, long)) rest = absurd (sound (sym (past_bad pre k u us (omega arith) (sym (ap (drop k) is) ∙ rest))))
-    by (inl (pre, after_key, is, long)) rest = absurd (sound (sym (past_bad pre k u us (omega arith) (sym (ap (drop k) is) ∙ rest))))
+    by (inl (pre, p, is, long)) rest = absurd (sound (sym (past_bad pre k u us (omega arith) (sym (ap (drop k) is) ∙ rest))))
     by (inr (pre, is, short)) rest = absurd (sound (sym (past_bad pre k u us (omega arith) (sym (ap (drop k) is) ∙ rest))))
 
 -- ---- how many tokens a text has
 
 one_at_most : (m : Mode) (c : Class) (x : ℕ) (xs : List ℕ) → length (begun m c x xs) ≤ 1
 one_at_most between quote x xs = omega arith
-one_at_most between backslash x xs = omega arith
-one_at_most between operator x xs = omega arith
-one_at_most between space x xs = omega arith
-one_at_most between other x xs = omega arith
 one_at_most in_word quote x xs = omega arith
-one_at_most in_word backslash x xs = omega arith
-one_at_most in_word operator x xs = omega arith
-one_at_most in_word space x xs = omega arith
-one_at_most in_word other x xs = omega arith
-one_at_most in_string c x xs = omega arith
-one_at_most in_escape c x xs = omega arith
+one_at_most m c x xs = omega arith
 
 lexemes_short : (m : Mode) (xs : List ℕ) → length (lex m xs) ≤ length xs
 lexemes_short m [] = let none = ap length (lex_end m) in omega arith
@@ -436,21 +385,14 @@ one_longer ts k n (inr (u, next, e)) rest = let more = ap length e in let r = re
 punctuated_short : (p : Place) (ls : List Lexeme) → length (punctuate p ls) ≤ length ls + 1
 unfolding punctuate
 punctuated_short fresh [] = omega arith
-punctuated_short after_value [] = omega arith
-punctuated_short after_comma [] = omega arith
-punctuated_short after_key [] = omega arith
+punctuated_short p [] = omega arith
 punctuated_short p (token t ∷ ls) =
     let is = ap length (punctuate_token p t ls) in
     let short = one_longer _ (λ next. punctuate next ls) (length ls + 1) (placed p t (begins_colon ls) (λ next. punctuate next ls)) (λ next. punctuated_short next ls) in
     omega arith
-punctuated_short fresh (comma ∷ ls) = omega arith
 punctuated_short after_value (comma ∷ ls) = let rest = punctuated_short after_comma ls in omega arith
-punctuated_short after_comma (comma ∷ ls) = omega arith
-punctuated_short after_key (comma ∷ ls) = omega arith
-punctuated_short fresh (colon ∷ ls) = omega arith
-punctuated_short after_value (colon ∷ ls) = omega arith
-punctuated_short after_comma (colon ∷ ls) = omega arith
 punctuated_short after_key (colon ∷ ls) = let rest = punctuated_short fresh ls in omega arith
+punctuated_short p (l ∷ ls) = omega arith
 
 pub tokens_short : (text : List ℕ) → length (tokens text) ≤ length text + 1
 tokens_short text =

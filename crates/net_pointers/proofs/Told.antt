@@ -32,16 +32,10 @@ pub record Says {A : Type 0} (said : Data → Result A ValueFault) (a : Asks) (d
   pub read : AreApart a d → first_fault (Some a.known) a.grammar d ≡ None → (x : A) × (said d ≡ Ok x)
 
 of_value : (A : Type 0) (b : Bool) (f : ValueFault) → IsOfValue f → fault_of (unless_doubled {A = A} b (Err f)) ≡ Some f
-of_value A true f h = refl
-of_value A false fault.WrongKind h = refl
-of_value A false fault.MissingKey h = refl
-of_value A false fault.UnknownKey h = refl
-of_value A false fault.OutOfRange h = refl
-of_value A false fault.BadHex h = refl
-of_value A false fault.OverLimit h = refl
 of_value A false fault.UnknownName h = absurd h
 of_value A false fault.Doubled h = absurd h
 of_value A false fault.OutOfMemory h = absurd h
+of_value A b f h = refl
 
 twice : (A : Type 0) (b : Bool) → fault_of (unless_doubled {A = A} b (Err fault.Doubled)) ≡ Some fault.Doubled
 twice A true = refl

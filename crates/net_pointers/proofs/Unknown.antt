@@ -3,11 +3,11 @@ use Rattle.std.proofs.Common.{◌≡◌, inl, inr, ℕ, suc, List, Bool, true, f
 use Rattle.std.proofs.lemmas.Option.{none-some, same_Some}
 use Rattle.std.specs.Option.{option_or}
 use Rattle.std.specs.Str.{bytes_eq}
-use Rattle.serde_json.specs.Data.{Data, null, boolean, number, string, array, object, Items, no_items, item}
+use Rattle.serde_json.specs.Data.{Data, null, Items, no_items, item}
 use Rattle.serde_json.specs.Find.{get}
 use Rattle.net_json.specs.Finding.{fault_of, names_of, word_fault, unless_null, own_fault, Step, key, index, Located, under, here, in_items, in_list, inside, in_fields, in_choices, first_fault}
 use Rattle.net_json.specs.Fitting.{IsWord, EachIs, Either, Fits, FieldsFit, ChoiceFits}
-use Rattle.net_json.specs.Grammar.{Grammar, plain, one_of, a_list, an_optional, an_object, a_choice, Fields, no_fields, field, Known}
+use Rattle.net_json.specs.Grammar.{Grammar, plain, a_list, an_optional, an_object, a_choice, Fields, no_fields, field, Known}
 use Rattle.net_json.specs.Names.{text_of}
 use Rattle.net_json.specs.Json.{demand, is_among}
 use Rattle.net_json.specs.Reading.{then_with}
@@ -49,30 +49,18 @@ own_named : (k : Known) (names : Named) (d : Data) → IsWord None (word.Named n
 own_named k names d h = subst (λ r. AreNames (fault_of (then_with r (λ name. demand UnknownName (is_among (names_of names k) name))))) (sym (name_tells.whole d h.0 h.1)) (asked (is_among (names_of names k) h.0))
 
 own_word : (k : Known) (w : Word) (d : Data) → IsWord None w d → AreNames (word_fault (Some k) w d)
-own_word k (word.Number least most) d h = nothing _ (own_whole None (plain (word.Number least most)) d h)
-own_word k word.Name d h = nothing _ (own_whole None (plain word.Name) d h)
 own_word k (word.Named names) d h = own_named k names d h
-own_word k word.Truth d h = nothing _ (own_whole None (plain word.Truth) d h)
-own_word k word.Kind d h = nothing _ (own_whole None (plain word.Kind) d h)
-own_word k word.Hex d h = nothing _ (own_whole None (plain word.Hex) d h)
-own_word k word.Address d h = nothing _ (own_whole None (plain word.Address) d h)
+own_word k w d h = nothing _ (own_whole None (plain w) d h)
 
 or_null : (o : Option ValueFault) (d : Data) → AreNames o → AreNames (unless_null d o)
 or_null o null p = nothing None refl
-or_null o (boolean b) p = p
-or_null o (number n) p = p
-or_null o (string s) p = p
-or_null o (array ds) p = p
-or_null o (object ms) p = p
+or_null o d p = p
 
 own_left : (k : Known) (g : Grammar) (d : Data) → Fits None g d → AreNames (own_fault (Some k) g d)
 own_left k (plain w) d h = own_word k w d h
-own_left k (one_of words) d h = nothing _ (own_whole None (one_of words) d h)
-own_left k (a_list most g) d h = nothing _ (own_whole None (a_list most g) d h)
 own_left k (an_optional g) d (inl e) = subst (λ v. AreNames (unless_null v (own_fault (Some k) g v))) (sym e) (nothing None refl)
 own_left k (an_optional g) d (inr h) = or_null (own_fault (Some k) g d) d (own_left k g d h)
-own_left k (an_object rule fs) d h = nothing _ (own_whole None (an_object rule fs) d h)
-own_left k (a_choice name g cs) d h = nothing _ (own_whole None (a_choice name g cs) d h)
+own_left k g d h = nothing _ (own_whole None g d h)
 
 items_left : (f : Data → Option Located) (P : Data → Type 0) → ((d : Data) → P d → IsName (f d)) → (n : ℕ) (ds : Items) → EachIs P ds → IsName (in_items f n ds)
 items_left f P h n no_items each = λ l e. absurd (none-some l e)
@@ -83,8 +71,6 @@ whole k g d h deep = either (here g (own_fault (Some k) g d)) (inside (Some k) g
 
 mutual
   inside_left : (k : Known) (g : Grammar) (d : Data) → Fits None g d → IsName (inside (Some k) g d)
-  inside_left k (plain w) d h = λ l e. absurd (none-some l e)
-  inside_left k (one_of words) d h = λ l e. absurd (none-some l e)
   inside_left k (a_list most g) d h =
       subst (λ v. IsName (in_list (first_fault (Some k) g) v)) (sym h.1) (items_left (first_fault (Some k) g) (λ e. Fits None g e) (λ e fits. whole k g e fits (inside_left k g e fits)) 0 h.0 h.3)
   inside_left k (an_optional g) d (inl e) = subst (λ o. IsName o) (sym (ap (inside (Some k) g) e ∙ inside_null (Some k) g)) (λ l e. absurd (none-some l e))
@@ -94,6 +80,7 @@ mutual
       subst (λ o. IsName (option_and_then (λ e. option_or (under (key name) (first_fault (Some k) g e)) (in_choices (Some k) cs (text_of e) d)) o)) (sym h.1)
       (either (under (key name) (first_fault (Some k) g h.0)) (in_choices (Some k) cs (text_of h.0) d) (stepped (key name) (first_fault (Some k) g h.0) (whole k g h.0 h.2.0 (inside_left k g h.0 h.2.0)))
       (choices_left k cs (text_of h.0) d h.2.1))
+  inside_left k g d h = λ l e. absurd (none-some l e)
 
   fields_left : (k : Known) (fs : Fields) (d : Data) → FieldsFit None fs d → IsName (in_fields (Some k) fs d)
   fields_left k no_fields d h = λ l e. absurd (none-some l e)

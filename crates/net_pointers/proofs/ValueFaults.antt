@@ -22,15 +22,10 @@ use Rattle.net_pointers.specs.Pointers.{HasFaultAt}
 
 -- neither a doubled thing, nor an unknown name, nor want of memory
 abbrev pub IsOfValue : ValueFault → Type 0
-IsOfValue fault.WrongKind = ⊤
-IsOfValue fault.MissingKey = ⊤
-IsOfValue fault.UnknownKey = ⊤
-IsOfValue fault.OutOfRange = ⊤
 IsOfValue fault.UnknownName = ⊥
-IsOfValue fault.BadHex = ⊤
-IsOfValue fault.OverLimit = ⊤
 IsOfValue fault.Doubled = ⊥
 IsOfValue fault.OutOfMemory = ⊥
+IsOfValue f = ⊤
 
 abbrev AreOfValue : {A : Type 0} → Result A ValueFault → Type 0
 AreOfValue (Ok x) = ⊤

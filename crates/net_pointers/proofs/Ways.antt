@@ -10,6 +10,7 @@ use Rattle.json.proofs.Printed.Trees.{value-json_tokens}
 use Rattle.json.proofs.Unique.Spelling.{value-json_tokens_back}
 use Rattle.net_pointers.specs.Doubles.{item_at, member_at, part_after, part_at}
 use Rattle.net_pointers.specs.PartTokens.{past_items, past_key, past_members, from_key, from_part, from_path}
+use Rattle.net_pointers.proofs.Readings.{and_then_parts, opened_as}
 
 -- a value that begins here, nested no deeper than where it can be passed
 abbrev pub Begins : List Token → Json → Type 0
@@ -79,47 +80,31 @@ module _ (d : ℕ) (up : (ts : List Token) (x : Json × List Token) → value d 
 
   -- ---- one step
 
-  opened_array : (o : Option (Items × List Token)) (j : Json) (rest : List Token) → parse_map array o ≡ Some (j, rest) → (js : Items) × (o ≡ Some (js, rest)) × (array js ≡ j)
-  opened_array None j rest e = not_found (j, rest) e
-  opened_array (Some x) j rest e = let both = Some_inj _ _ e in (x.0, ap (λ r. Some (x.0, r)) (ap (λ z. z.1) both), ap (λ z. z.0) both)
-
-  opened_object : (o : Option (Members × List Token)) (j : Json) (rest : List Token) → parse_map object o ≡ Some (j, rest) → (ms : Members) × (o ≡ Some (ms, rest)) × (object ms ≡ j)
-  opened_object None j rest e = not_found (j, rest) e
-  opened_object (Some x) j rest e = let both = Some_inj _ _ e in (x.0, ap (λ r. Some (x.0, r)) (ap (λ z. z.1) both), ap (λ z. z.0) both)
-
   abbrev PartWay : ℕ → List Token → Json → Type 0
   PartWay i ts e = (us : List Token) × (from_part i ts ≡ Some us) × Begins us e
 
   part_way : (i : ℕ) (ts rest : List Token) (j e : Json) → value (suc d) ts ≡ Some (j, rest) → part_after i j ≡ Some e → PartWay i ts e
   unfolding value
-  part_way i [] rest j e read at = not_found (j, rest) read
   part_way i (Token.begin_object ∷ ts) rest j e read at =
-      let o = opened_object _ j rest read in
+      let o = opened_as object _ j rest read in
       let w = members_way i (length ts) ts rest o.0 e o.1 (ap (part_after i) o.2 ∙ at) in
       (w.2, ap (option_and_then past_key) w.1 ∙ w.3, w.4)
-  part_way i (Token.end_object ∷ ts) rest j e read at = not_found (j, rest) read
   part_way i (Token.begin_array ∷ ts) rest j e read at =
-      let o = opened_array _ j rest read in
+      let o = opened_as array _ j rest read in
       items_way i (length ts) ts rest o.0 e o.1 (ap (part_after i) o.2 ∙ at)
-  part_way i (Token.end_array ∷ ts) rest j e read at = not_found (j, rest) read
-  part_way i (Token.key s ∷ ts) rest j e read at = not_found (j, rest) read
   part_way i (Token.string s ∷ ts) rest j e read at = not_found e (ap (part_after i) (ap (λ z. z.0) (Some_inj _ _ read)) ∙ at)
   part_way i (Token.number s ∷ ts) rest j e read at = not_found e (ap (part_after i) (ap (λ z. z.0) (Some_inj _ _ read)) ∙ at)
   part_way i (Token.boolean b ∷ ts) rest j e read at = not_found e (ap (part_after i) (ap (λ z. z.0) (Some_inj _ _ read)) ∙ at)
   part_way i (Token.null ∷ ts) rest j e read at = not_found e (ap (part_after i) (ap (λ z. z.0) (Some_inj _ _ read)) ∙ at)
-  part_way i (Token.bad ∷ ts) rest j e read at = not_found (j, rest) read
+  part_way i ts rest j e read at = not_found (j, rest) read
 
 -- ---- a path
-
-both : {A B : Type 0} (f : A → Option B) (o : Option A) (b : B) → option_and_then f o ≡ Some b → (a : A) × (o ≡ Some a) × (f a ≡ Some b)
-both f None b e = not_found b e
-both f (Some a) b e = (a, refl, e)
 
 -- a path that leads to a part of a value leads to where that part begins
 pub path_way : (path : List ℕ) (ts : List Token) (j e : Json) → Begins ts j → part_at path j ≡ Some e → (us : List Token) × (from_path path ts ≡ Some us) × Begins us e
 path_way [] ts j e (rest, read) at = (ts, refl, (rest, read ∙ ap (λ x. Some (x, rest)) (Some_inj _ _ at)))
 path_way (i ∷ is) ts j e (rest, read) at =
-    let a = both (part_at is) (part_after i j) e at in
+    let a = and_then_parts (part_at is) (part_after i j) e at in
     let p = part_way 126 (λ us x read. read_deeper 126 us x read) i ts rest j a.0 read a.1 in
     let more = path_way is p.0 a.0 e p.2 a.2 in
     (more.0, ap (option_and_then (from_path is)) p.1 ∙ more.1, more.2)
@@ -127,17 +112,8 @@ path_way (i ∷ is) ts j e (rest, read) at =
 -- ---- the key of a member
 
 is_key : (vs us : List Token) → past_key vs ≡ Some us → (k : List ℕ) × (vs ≡ Token.key k ∷ us)
-is_key [] us e = not_found us e
 is_key (Token.key k ∷ ts) us e = (k, ap (λ ws. Token.key k ∷ ws) (Some_inj _ _ e))
-is_key (Token.begin_object ∷ ts) us e = not_found us e
-is_key (Token.end_object ∷ ts) us e = not_found us e
-is_key (Token.begin_array ∷ ts) us e = not_found us e
-is_key (Token.end_array ∷ ts) us e = not_found us e
-is_key (Token.string s ∷ ts) us e = not_found us e
-is_key (Token.number s ∷ ts) us e = not_found us e
-is_key (Token.boolean b ∷ ts) us e = not_found us e
-is_key (Token.null ∷ ts) us e = not_found us e
-is_key (Token.bad ∷ ts) us e = not_found us e
+is_key vs us e = not_found us e
 
 abbrev KeyWay : ℕ → List Token → Type 0
 KeyWay n ts = (us : List Token) × (k : List ℕ) × (from_key n ts ≡ Some (Token.key k ∷ us))
@@ -145,15 +121,13 @@ KeyWay n ts = (us : List Token) × (k : List ℕ) × (from_key n ts ≡ Some (To
 key_way : (d : ℕ) (up : (ts : List Token) (x : Json × List Token) → value d ts ≡ Some x → value 127 ts ≡ Some x) (n : ℕ) (ts rest : List Token) (ms : Members) (e : Json)
     → value (suc d) ts ≡ Some (object ms, rest) → member_at n ms ≡ Some e → KeyWay n ts
 unfolding value
-key_way d up n [] rest ms e read at = not_found (object ms, rest) read
 key_way d up n (Token.begin_object ∷ ts) rest ms e read at =
-    let o = opened_object d up _ (object ms) rest read in
+    let o = opened_as object _ (object ms) rest read in
     let w = members_way d up n (length ts) ts rest o.0 e o.1 (ap (part_after n) o.2 ∙ at) in
     let k = is_key w.0 w.2 w.3 in
     (w.2, k.0, w.1 ∙ ap Some k.1)
-key_way d up n (Token.end_object ∷ ts) rest ms e read at = not_found (object ms, rest) read
 key_way d up n (Token.begin_array ∷ ts) rest ms e read at =
-    let o = opened_array d up _ (object ms) rest read in
+    let o = opened_as array _ (object ms) rest read in
     not_found e (no_list o.0 o.2 ∙ at)
   where
     no_list : (js : Items) → array js ≡ object ms → None ≡ member_at n ms
@@ -162,13 +136,11 @@ key_way d up n (Token.begin_array ∷ ts) rest ms e read at =
         as_member : Json → Option Json
         as_member (object ns) = member_at n ns
         as_member j = None
-key_way d up n (Token.end_array ∷ ts) rest ms e read at = not_found (object ms, rest) read
-key_way d up n (Token.key s ∷ ts) rest ms e read at = not_found (object ms, rest) read
 key_way d up n (Token.string s ∷ ts) rest ms e read at = not_found e (ap (part_after n) (ap (λ z. z.0) (Some_inj _ _ read)) ∙ at)
 key_way d up n (Token.number s ∷ ts) rest ms e read at = not_found e (ap (part_after n) (ap (λ z. z.0) (Some_inj _ _ read)) ∙ at)
 key_way d up n (Token.boolean b ∷ ts) rest ms e read at = not_found e (ap (part_after n) (ap (λ z. z.0) (Some_inj _ _ read)) ∙ at)
 key_way d up n (Token.null ∷ ts) rest ms e read at = not_found e (ap (part_after n) (ap (λ z. z.0) (Some_inj _ _ read)) ∙ at)
-key_way d up n (Token.bad ∷ ts) rest ms e read at = not_found (object ms, rest) read
+key_way d up n ts rest ms e read at = not_found (object ms, rest) read
 
 -- a path that leads to an object leads to the key of each of its members
 pub path_key_way : (path : List ℕ) (n : ℕ) (ts : List Token) (j : Json) (ms : Members) (e : Json) → Begins ts j → part_at path j ≡ Some (object ms) → member_at n ms ≡ Some e

@@ -103,7 +103,7 @@ fn doubled_in_members(
 }
 
 /// The first key of an object that stands before it too.
-#[tactic(auto, using(crate::proofs::Doubling::keys_of))]
+#[tactic(auto, using(net_json::proofs::SingleKeys::keys_of))]
 fn doubled_here(
     alloc: Global,
     members: &Vec<(&str, Value<'_>)>,

@@ -94,10 +94,9 @@ plain_byte x h =
     }
 
 pub plain_ascii : (s : List ℕ) → list_all is_plain s ≡ true → IsAscii s
-plain_ascii [] h zero = omega arith
-plain_ascii [] h (suc i) = omega arith
 plain_ascii (x ∷ xs) h zero = (plain_byte x (and_parts _ _ h).0).ascii
 plain_ascii (x ∷ xs) h (suc i) = plain_ascii xs (and_parts _ _ h).1 i
+plain_ascii [] h x = omega arith
 
 pub plain_utf8 : (s : List ℕ) → list_all is_plain s ≡ true → IsUtf8 s
 plain_utf8 s h = IsUtf8-from_ascii s (plain_ascii s h)

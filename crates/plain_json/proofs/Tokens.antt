@@ -1,8 +1,8 @@
 -- The first token of a text, by the first lexeme.
 use Rattle.std.proofs.Common.{◌≡◌, ◌<◌, ℕ, Bool, true, false, List, [], ◌∷◌, length, Option, Some, None, refl, sym, ap, ◌∙◌, subst}
-use Rattle.json.specs.Token.{Token, begin_object, end_object, begin_array, end_array, key, string, number, boolean, null, bad}
+use Rattle.json.specs.Token.{Token, begin_object, end_object, begin_array, end_array, key, string, number, boolean, null}
 use Rattle.json.specs.Json.{Json, value, after_end_array}
-use Rattle.json.specs.Lex.{token, comma, colon, lex, between, Place, fresh, after_value, after_comma, after_key, begins_colon, may_begin, if_allowed, place_token, punctuate}
+use Rattle.json.specs.Lex.{token, colon, lex, between, Place, fresh, after_value, after_comma, after_key, begins_colon, may_begin, if_allowed, place_token, punctuate}
 use Rattle.json.proofs.Grammar.{left, skip_value-shorter, value_is}
 use Rattle.plain_json.specs.Plain.{IsNumberAt, IsNextNumber, BeginAt, tokens_at}
 use Rattle.plain_json.specs.declared.reader.Place as reader
@@ -11,56 +11,27 @@ use Rattle.plain_json.specs.declared.reader.Place.TheVariants.{Fresh, AfterValue
 allowed : (b : Bool) (t : Token) (k : Place → List Token) (next : Place) → b ≡ true → if_allowed b t k next ≡ t ∷ k next
 allowed b t k next e = ap (λ x. if_allowed x t k next) e
 
--- an operator is a lexeme of its own
-lex_object : (text rest : List ℕ) → text ≡ 123 ∷ rest → lex between text ≡ token begin_object ∷ lex between rest
-unfolding lex
-lex_object text rest is = ap (lex between) is
-
-lex_array : (text rest : List ℕ) → text ≡ 91 ∷ rest → lex between text ≡ token begin_array ∷ lex between rest
-unfolding lex
-lex_array text rest is = ap (lex between) is
-
-lex_end_object : (text rest : List ℕ) → text ≡ 125 ∷ rest → lex between text ≡ token end_object ∷ lex between rest
-unfolding lex
-lex_end_object text rest is = ap (lex between) is
-
-lex_end_array : (text rest : List ℕ) → text ≡ 93 ∷ rest → lex between text ≡ token end_array ∷ lex between rest
-unfolding lex
-lex_end_array text rest is = ap (lex between) is
-
-lex_comma : (text rest : List ℕ) → text ≡ 44 ∷ rest → lex between text ≡ comma ∷ lex between rest
-unfolding lex
-lex_comma text rest is = ap (lex between) is
-
-lex_colon : (text rest : List ℕ) → text ≡ 58 ∷ rest → lex between text ≡ colon ∷ lex between rest
-unfolding lex
-lex_colon text rest is = ap (lex between) is
-
-pub lex_nothing : lex between [] ≡ []
-unfolding lex
-lex_nothing = refl
-
 pub begins_behind : (rest bytes behind after : List ℕ) → lex between bytes ≡ lex between rest → bytes ≡ 44 ∷ behind → lex between after ≡ lex between behind
     → BeginAt (tokens_at AfterValue rest) after
-unfolding punctuate
-begins_behind rest bytes behind after same is next = (after_comma, refl, ap (punctuate after_value) (sym same ∙ lex_comma bytes behind is) ∙ ap (punctuate after_comma) (sym next))
+unfolding punctuate lex
+begins_behind rest bytes behind after same is next = (after_comma, refl, ap (punctuate after_value) (sym same ∙ ap (lex between) is) ∙ ap (punctuate after_comma) (sym next))
 
 pub object_begins : (ts : List Token) (text rest : List ℕ) → BeginAt ts text → text ≡ 123 ∷ rest → ts ≡ begin_object ∷ tokens_at Fresh rest
-unfolding punctuate
+unfolding punctuate lex
 object_begins ts text rest (p, may, are) is =
-    are ∙ ap (punctuate p) (lex_object text rest is) ∙ allowed (may_begin p) begin_object (λ n. punctuate n (lex between rest)) fresh may
+    are ∙ ap (punctuate p) (ap (lex between) is) ∙ allowed (may_begin p) begin_object (λ n. punctuate n (lex between rest)) fresh may
 
 pub array_begins : (ts : List Token) (text rest : List ℕ) → BeginAt ts text → text ≡ 91 ∷ rest → ts ≡ begin_array ∷ tokens_at Fresh rest
-unfolding punctuate
+unfolding punctuate lex
 array_begins ts text rest (p, may, are) is =
-    are ∙ ap (punctuate p) (lex_array text rest is) ∙ allowed (may_begin p) begin_array (λ n. punctuate n (lex between rest)) fresh may
+    are ∙ ap (punctuate p) (ap (lex between) is) ∙ allowed (may_begin p) begin_array (λ n. punctuate n (lex between rest)) fresh may
 
 pub key_begins : (ts : List Token) (text s behind after rest : List ℕ) → BeginAt ts text → lex between text ≡ token (string s) ∷ lex between behind → lex between after ≡ lex between behind
     → after ≡ 58 ∷ rest → ts ≡ key s ∷ tokens_at Fresh rest
-unfolding punctuate
+unfolding punctuate lex
 key_begins ts text s behind after rest (p, may, are) first same is =
     let ls = lex between rest in
-    are ∙ ap (punctuate p) (first ∙ ap (λ l. token (string s) ∷ l) (sym same ∙ lex_colon after rest is)) ∙ allowed (may_begin p) (key s) (λ n. punctuate n (colon ∷ ls)) after_key may
+    are ∙ ap (punctuate p) (first ∙ ap (λ l. token (string s) ∷ l) (sym same ∙ ap (lex between) is)) ∙ allowed (may_begin p) (key s) (λ n. punctuate n (colon ∷ ls)) after_key may
 
 pub string_begins : (ts : List Token) (text s behind after : List ℕ) → BeginAt ts text → lex between text ≡ token (string s) ∷ lex between behind → lex between after ≡ lex between behind
     → begins_colon (lex between after) ≡ false → ts ≡ string s ∷ tokens_at AfterValue behind
@@ -89,20 +60,20 @@ null_begins ts text rest (p, may, are) first = are ∙ ap (punctuate p) first �
 
 pub object_ends : (place : reader.Place) (rest bytes behind : List ℕ) → lex between bytes ≡ lex between rest → bytes ≡ 125 ∷ behind
     → tokens_at place rest ≡ end_object ∷ tokens_at AfterValue behind
-unfolding punctuate
-object_ends Fresh rest bytes behind same is = ap (punctuate fresh) (sym same ∙ lex_end_object bytes behind is)
-object_ends AfterValue rest bytes behind same is = ap (punctuate after_value) (sym same ∙ lex_end_object bytes behind is)
+unfolding punctuate lex
+object_ends Fresh rest bytes behind same is = ap (punctuate fresh) (sym same ∙ ap (lex between) is)
+object_ends AfterValue rest bytes behind same is = ap (punctuate after_value) (sym same ∙ ap (lex between) is)
 
 pub array_ends : (place : reader.Place) (rest bytes behind : List ℕ) → lex between bytes ≡ lex between rest → bytes ≡ 93 ∷ behind
     → tokens_at place rest ≡ end_array ∷ tokens_at AfterValue behind
-unfolding punctuate
-array_ends Fresh rest bytes behind same is = ap (punctuate fresh) (sym same ∙ lex_end_array bytes behind is)
-array_ends AfterValue rest bytes behind same is = ap (punctuate after_value) (sym same ∙ lex_end_array bytes behind is)
+unfolding punctuate lex
+array_ends Fresh rest bytes behind same is = ap (punctuate fresh) (sym same ∙ ap (lex between) is)
+array_ends AfterValue rest bytes behind same is = ap (punctuate after_value) (sym same ∙ ap (lex between) is)
 
 pub text_ends : (place : reader.Place) (rest bytes : List ℕ) → lex between bytes ≡ lex between rest → bytes ≡ [] → tokens_at place rest ≡ []
-unfolding punctuate
-text_ends Fresh rest bytes same none = ap (punctuate fresh) (sym same ∙ ap (lex between) none ∙ lex_nothing)
-text_ends AfterValue rest bytes same none = ap (punctuate after_value) (sym same ∙ ap (lex between) none ∙ lex_nothing)
+unfolding punctuate lex
+text_ends Fresh rest bytes same none = ap (punctuate fresh) (sym same ∙ ap (lex between) none)
+text_ends AfterValue rest bytes same none = ap (punctuate after_value) (sym same ∙ ap (lex between) none)
 
 -- where a value begins no array ends
 abbrev IsNothing : {A : Type 0} → Option A → Type 0
@@ -110,17 +81,8 @@ IsNothing None = Unit {0}
 IsNothing (Some a) = ⊥
 
 pub no_end_array : (depth : ℕ) (ts : List Token) (j : Json) (r : List Token) → value depth ts ≡ Some (j, r) → after_end_array ts ≡ None
-no_end_array depth [] j r e = refl
-no_end_array depth (begin_object ∷ ts) j r e = refl
-no_end_array depth (end_object ∷ ts) j r e = refl
-no_end_array depth (begin_array ∷ ts) j r e = refl
 no_end_array depth (end_array ∷ ts) j r e = absurd (subst IsNothing (sym (value_is depth (end_array ∷ ts)) ∙ e) tt)
-no_end_array depth (key s ∷ ts) j r e = refl
-no_end_array depth (string s ∷ ts) j r e = refl
-no_end_array depth (number s ∷ ts) j r e = refl
-no_end_array depth (boolean b ∷ ts) j r e = refl
-no_end_array depth (null ∷ ts) j r e = refl
-no_end_array depth (bad ∷ ts) j r e = refl
+no_end_array depth ts j r e = refl
 
 -- a value takes a token at least
 pub value_shorter : (depth : ℕ) (ts r : List Token) (j : Json) → value depth ts ≡ Some (j, r) → length r < length ts

@@ -238,7 +238,7 @@ fn more_digits(leading: u64, bytes: &[u8]) -> Option<(u64, &[u8])>
 }
 
 #[inline(always)]
-fn is_digit(byte: u8) -> bool
+pub fn is_digit(byte: u8) -> bool
     ensures { result ≡ is_ascii_digit byte }
 {
     b'0' <= byte && byte <= b'9'
@@ -246,7 +246,7 @@ fn is_digit(byte: u8) -> bool
 
 /// The digit that a byte from `0` to `9` writes.
 #[inline(always)]
-fn digit_of(byte: u8) -> u64
+pub fn digit_of(byte: u8) -> u64
     requires { is_ascii_digit byte ≡ true }
     ensures { (result ≡ digit_value byte) × (result < 10) }
 {

@@ -6,5 +6,6 @@ mod bytes;
 mod reader;
 mod value;
 
+pub use bytes::{digit_of, is_digit};
 pub use reader::PlainReader;
 pub use value::read_value;

@@ -24,9 +24,8 @@ no_key (n ∷ ms) zero past = absurd (omega arith)
 no_key (n ∷ ms) (suc i) past = no_key ms i (omega arith)
 
 pub key_among : (ms : List (Bor (List ℕ) × Tree)) (i : ℕ) → get_or (keys (members_view ms)) i [] ≡ key_at i (members_view ms)
-key_among [] i = refl
-key_among (n ∷ ms) zero = refl
 key_among (n ∷ ms) (suc i) = key_among ms i
+key_among ms i = refl
 
 -- ---- a path that has ended
 

@@ -30,7 +30,7 @@ use Rattle.net_pointers.specs.Asks.{Sort, plan_text, certificate_text, events_te
 use Rattle.net_pointers.specs.OrderOfTests.{IsTold, refusal, fault_in}
 use Rattle.net_pointers.specs.TextTroubles.{IsToldOfText, cause_of}
 use Rattle.net_pointers.specs.declared.order.Trouble.{Trouble}
-use Rattle.net_pointers.specs.declared.order.Trouble.TheVariants.{Value, DoubledName, Overlap, DoubledKey, UnknownName}
+use Rattle.net_pointers.specs.declared.order.Trouble.TheVariants.{Value, UnknownName}
 use Rattle.net_pointers.specs.declared.texts.TextTrouble.{TextTrouble}
 use Rattle.net_pointers.specs.declared.texts.TextTrouble.TheVariants.{TooLong, NotJson, Wrong}
 use Rattle.net_pointers.proofs.ValueFaults.{IsOfValue, first_of_value}
@@ -41,22 +41,14 @@ use Rattle.reading_texts.specs.declared.text_error.TextError.TheVariants.{Faulty
 -- ---- the fault is never want of memory
 
 value_known : (f : ValueFault) → IsOfValue f → error_of f ≢ error.OutOfMemory
-value_known fault.WrongKind h e = cc
-value_known fault.MissingKey h e = cc
-value_known fault.UnknownKey h e = cc
-value_known fault.OutOfRange h e = cc
 value_known fault.UnknownName h e = absurd h
-value_known fault.BadHex h e = cc
-value_known fault.OverLimit h e = cc
 value_known fault.Doubled h e = absurd h
 value_known fault.OutOfMemory h e = absurd h
+value_known f h e = cc
 
 known : (s : Sort) (j : Json) (t : Trouble) → IsTold s j (Some t) → error_of (fault_in t) ≢ error.OutOfMemory
 known s j (Value found) h e = value_known found.fault (first_of_value (asks_of s (data_of j)).grammar (data_of j) _ h.first.1) e
-known s j (DoubledName list indices) h e = cc
-known s j (Overlap overlap) h e = cc
-known s j (DoubledKey doubled) h e = cc
-known s j (UnknownName found) h e = cc
+known s j t h e = cc
 
 -- ---- a value
 
@@ -105,17 +97,12 @@ module _ {A : Type 0} (s : Sort) (said : Data → Result A ValueFault) (R : Data
 
       by_error : (e : PlanError) → IsNoneFor said R j e → e ≡ error.OutOfMemory
       by_error error.NotJson h = absurd h
-      by_error error.WrongKind h = absurd (not fault.WrongKind h)
-      by_error error.MissingKey h = absurd (not fault.MissingKey h)
-      by_error error.UnknownKey h = absurd (not fault.UnknownKey h)
-      by_error error.OutOfRange h = absurd (not fault.OutOfRange h)
-      by_error error.UnknownName h = absurd (not fault.UnknownName h.0)
-      by_error error.BadHex h = absurd (not fault.BadHex h)
-      by_error error.OverLimit h = absurd (not fault.OverLimit h)
-      by_error error.Doubled (inl h) = absurd (not fault.Doubled h)
+      by_error error.UnknownName h = absurd (not _ h.0)
+      by_error error.Doubled (inl h) = absurd (not _ h)
       by_error error.Doubled (inr h) = absurd (h.0 (read j told).2)
       by_error error.Device h = absurd h
       by_error error.OutOfMemory h = refl
+      by_error e h = absurd (not _ h)
 
 -- ---- by the sort of the text
 

@@ -12,7 +12,7 @@ use Rattle.serde_json.specs.Data.{Data}
 use Rattle.serde_json.specs.Find.{get, get_item}
 use Rattle.net_json.specs.Finding.{Located, Step}
 use Rattle.net_json.specs.Grammar.{Fields, fields_view, keys_of}
-use Rattle.net_json.specs.Json.{is_among, items_count}
+use Rattle.net_json.specs.Json.{is_among}
 use Rattle.net_json.specs.Trees.{Tree, view, items_view, data_of}
 use Rattle.net_json.proofs.Trees.{get_of}
 use Rattle.net_json.specs.declared.error.ValueFault.{ValueFault}
@@ -21,11 +21,10 @@ use Rattle.net_json.specs.declared.shape.Field.{Field, out-Field}
 use Rattle.net_json.proofs.FieldKeys.{fields_cons}
 use Rattle.net_pointers.specs.Pointers.{value_at}
 use Rattle.reading_texts.specs.ReadingLines.{key_words, keys_words}
-use Rattle.reading_texts.specs.TroubleLines.{IsStandingTold, IsWrongTold, IsLineOf, IsValueTold, IsOffsetOf, two_lines, tree_at, entry_pointer, doubled_name, name_line, again_line, IsDoubledNameTold}
+use Rattle.reading_texts.specs.TroubleLines.{IsStandingTold, IsWrongTold, IsLineOf, IsValueTold, IsOffsetOf, two_lines, tree_at, entry_pointer, doubled_name, name_line, again_line, IsDoubledNameTold, path_text}
 use Rattle.std.proofs.lemmas.Str.{IsUtf8-drop, IsCharBoundary-before_ascii}
 use Rattle.net_pointers.specs.Offsets.{LeadsTo}
 use Rattle.net_pointers.specs.declared.doubled.TwoIndices.{TwoIndices}
-use Rattle.reading_texts.specs.TroubleLines.{path_text}
 
 -- ---- the keys of a table
 
@@ -44,18 +43,16 @@ among_fields (f ∷ fs) key = ap (λ b. bytes_eq key (out-Field f).key.now || b)
 -- ---- parts of a value, by index
 
 pub item_of_view : (vs : List Tree) (i : ℕ) → get_item i (items_view vs) ≡ option_map view (slice_get vs i)
-item_of_view [] i = refl
-item_of_view (v ∷ vs) zero = refl
 item_of_view (v ∷ vs) (suc i) = item_of_view vs i
+item_of_view vs i = refl
 
 pub item_given : (vs : List Tree) (i : ℕ) (r : Option (Bor Tree)) → IsItemAt vs i r → option_map (λ (v : Bor Tree). view v.now) r ≡ get_item i (items_view vs)
 item_given vs i (Some v) h = sym (item_of_view vs i ∙ ap (option_map view) (slice_get_read vs (length vs) i v.now refl h.3.0 h.1))
 item_given vs i None h = sym (item_of_view vs i ∙ ap (option_map view) (slice_get_past vs i h.3))
 
 tree_of_view : (vs : List Tree) (i : ℕ) → find.get_item i (seen.items_view vs) ≡ option_map seen.value_view (slice_get vs i)
-tree_of_view [] i = refl
-tree_of_view (v ∷ vs) zero = refl
 tree_of_view (v ∷ vs) (suc i) = tree_of_view vs i
+tree_of_view vs i = refl
 
 pub tree_given : (vs : List Tree) (i : ℕ) (r : Option (Bor Tree)) → IsItemAt vs i r → option_map (λ (v : Bor Tree). seen.value_view v.now) r ≡ find.get_item i (seen.items_view vs)
 tree_given vs i (Some v) h = sym (tree_of_view vs i ∙ ap (option_map seen.value_view) (slice_get_read vs (length vs) i v.now refl h.3.0 h.1))
@@ -69,10 +66,6 @@ seen_twice None = refl
 pub data_given : (key : List ℕ) (j : Json) (r : Option (Bor Tree)) → option_map (λ (v : Bor Tree). seen.value_view v.now) r ≡ find.get key j → option_map (λ (v : Bor Tree). view v.now) r ≡ get key (data_of j)
 data_given key j r is = seen_twice r ∙ (ap (option_map data_of) is ∙ sym (get_of key j))
 
-pub items_counted : (vs : List Tree) → items_count (items_view vs) ≡ length vs
-items_counted [] = refl
-items_counted (v ∷ vs) = ap suc (items_counted vs)
-
 -- of a fault that isn't of a key or a length, what stands there is told
 pub wrong_told : {A E : Type 0} (bytes : A → List ℕ) (fs : Fields) (f : ValueFault) (d : Json) (rest : List ℕ) (r : Result A E)
     → f ≢ fault.MissingKey → f ≢ fault.UnknownKey → f ≢ fault.OverLimit
@@ -80,12 +73,7 @@ pub wrong_told : {A E : Type 0} (bytes : A → List ℕ) (fs : Fields) (f : Valu
 wrong_told bytes fs fault.MissingKey d rest r missing unknown over told = absurd (missing refl)
 wrong_told bytes fs fault.UnknownKey d rest r missing unknown over told = absurd (unknown refl)
 wrong_told bytes fs fault.OverLimit d rest r missing unknown over told = absurd (over refl)
-wrong_told bytes fs fault.WrongKind d rest r missing unknown over told = told
-wrong_told bytes fs fault.OutOfRange d rest r missing unknown over told = told
-wrong_told bytes fs fault.UnknownName d rest r missing unknown over told = told
-wrong_told bytes fs fault.BadHex d rest r missing unknown over told = told
-wrong_told bytes fs fault.Doubled d rest r missing unknown over told = told
-wrong_told bytes fs fault.OutOfMemory d rest r missing unknown over told = told
+wrong_told bytes fs f d rest r missing unknown over told = told
 
 pub value_told : {A E : Type 0} (bytes : A → List ℕ) (text : List ℕ) (j stands : Json) (l : Located) (also : List ℕ) (offset : ℕ) (r : Result A E)
     → LeadsTo text l.pointer offset → tree_at l.pointer j ≡ Some stands → value_at l.pointer (data_of j) ≡ Some (data_of stands)

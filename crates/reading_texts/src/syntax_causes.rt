@@ -1,7 +1,8 @@
 //! Why a text stops being JSON, where the bytes there tell it.
 ghost use Rattle.std.specs.Prelude.{◌≡◌, ◌≤◌, ◌<◌, length, get_or};
-ghost use Rattle.net_pointers.specs.Syntax.{is_blank};
 ghost use Rattle.reading_texts.specs.SyntaxCauses.{byte_line, cause_line, encoding_line, end_line, ends_plain, has_control, is_byte, is_digit, is_mark, last_filled};
+
+use net_pointers::is_blank;
 
 /// The line of the cause at an offset, where there is one.
 pub fn cause_line(text: &[u8], offset: usize) -> &'static str
@@ -130,10 +131,4 @@ fn last_filled(bytes: &[u8]) -> Option<u8>
         }
     }
     last
-}
-
-fn is_blank(byte: u8) -> bool
-    ensures { result ≡ is_blank byte }
-{
-    matches!(byte, b' ' | b'\t' | b'\n' | b'\r')
 }

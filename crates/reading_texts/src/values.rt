@@ -1,17 +1,13 @@
 //! A value that is wrong in itself: where it stands, what is wrong with it, and what may stand there.
 ghost use Rattle.std.specs.Prelude.{◌≡◌, ◌≤◌, length, map, true, is_some, IfOk, option_map, drop, string_bytes, IsUtf8};
-ghost use Rattle.std.specs.List.{list_any};
-ghost use Rattle.std.specs.Str.{bytes_eq};
 ghost use Rattle.serde_json.specs.Find.{at, get_item};
 ghost use Rattle.net_json.specs.Finding.{located, step_value};
 ghost use Rattle.net_json.specs.Grammar.{grammar, fields_of, fields_view, keys_of};
 ghost use Rattle.net_json.specs.Json.{is_among};
 ghost use Rattle.net_json.specs.Names.{text_found};
 ghost use Rattle.json.specs.Find as written;
-ghost use Rattle.json.specs.Value.{value_view, members_view};
-ghost use Rattle.json.specs.Value.{items_view as tree_items};
+ghost use Rattle.json.specs.Value.{value_view, members_view, items_view as tree_items};
 ghost use Rattle.net_json.specs.Trees.{view, items_view};
-ghost use Rattle.net_json.specs.declared.shape.Field.{out-Field};
 ghost use Rattle.net_pointers.specs.Offsets.{IsTextOf, LeadsTo};
 ghost use Rattle.net_pointers.specs.Pointers.{value_at, value_after};
 ghost use Rattle.reading_texts.specs.TroubleLines.{IsStandingTold, first_unknown, unknown_key_words, tree_at, tree_after, IsLengthTold, IsWrongTold, IsLineOf, IsValueTold, lacked_key, lack_words, unknown_words, value_line};
@@ -21,7 +17,7 @@ use crate::positions::{pointer_text, position_text};
 use crate::shapes::{number_noun, shape_words};
 use crate::shown::{rest_at, shown_key, shown_text};
 use json::Value;
-use net_json::{Field, Found, PointerStep, ValueFault, at, fields_of};
+use net_json::{Field, Found, PointerStep, ValueFault, at, fields_of, is_key_of};
 use net_pointers::offset_of_pointer;
 use std::alloc::{AllocError, Global};
 
@@ -205,13 +201,7 @@ fn unknown_key<'t>(fields: &[Field], members: &Vec<(&'t str, Value<'t>)>) -> Opt
 fn is_among(fields: &[Field], key: &str) -> bool
     ensures { result ≡ is_among (keys_of (fields_view fields.now)) key.now }
 {
-    is_one_of(fields, key)
-}
-
-fn is_one_of(fields: &[Field], key: &str) -> bool
-    ensures { result ≡ list_any (λ f. bytes_eq key.now (out-Field f).key.now) fields.now }
-{
-    fields.iter().any(|field| key == field.key)
+    is_key_of(fields, key)
 }
 
 /// The value that a pointer leads to.

@@ -1,6 +1,5 @@
 use Rattle.std.proofs.Common.{◌≡◌, nat_lt, sym, ap, ◌∙◌}
-use Rattle.net_plan.specs.CertificateValues.{are_known}
-use Rattle.net_plan.specs.CertificateValues.{level_value, places_value, node_ranks_value, certificate_value}
+use Rattle.net_plan.specs.CertificateValues.{are_known, level_value, places_value, node_ranks_value, certificate_value}
 use Rattle.net_json.specs.Json.{demand}
 use Rattle.net_json.specs.declared.error.ValueFault.TheVariants.{UnknownName}
 use Rattle.net_plan.proofs.Placed.{list_all_mapped}

@@ -3,8 +3,8 @@ use Rattle.json.specs.Json.{no_items, array, items, value, parse_map, after_end_
 use Rattle.json.proofs.Grammar.{value-begin_array, items_more, items_end}
 use Rattle.json.proofs.Trees.{none_before}
 use Rattle.net_json.specs.Gathered.{EachIs}
-use Rattle.net_json.proofs.Gathered.{items_joined, items_joined_none, item_last, one_more_item, each_last, value_shorter}
-use Rattle.plain_json.proofs.Tokens.{no_end_array}
+use Rattle.net_json.proofs.Gathered.{items_joined, items_joined_none, item_last, one_more_item, each_last}
+use Rattle.plain_json.proofs.Tokens.{value_shorter, no_end_array}
 use Rattle.net_json.proofs.gather.next_list.Goals as goal
 
 pub items-init : goal.items-init

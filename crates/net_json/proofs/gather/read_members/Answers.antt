@@ -3,7 +3,8 @@ use Rattle.json.specs.Json.{no_members, members, value, parse_map, read_key}
 use Rattle.json.proofs.Grammar.{members_more, members_end, read_key-shorter}
 use Rattle.json.proofs.Trees.{none_before}
 use Rattle.net_json.specs.Gathered.{with_last}
-use Rattle.net_json.proofs.Gathered.{joined, joined_none, one_more, value_shorter}
+use Rattle.net_json.proofs.Gathered.{joined, joined_none, one_more}
+use Rattle.plain_json.proofs.Tokens.{value_shorter}
 use Rattle.net_json.proofs.gather.read_members.Goals as goal
 
 pub members-init : goal.members-init
@@ -55,8 +56,7 @@ returns-clause-read g c =
     let n = l.invariant.0 in
     let before = l.invariant.1 in
     let r = c.next_key.new.self in
-    let key : read_key l.reader ≡ Some (None, r) = grind arith in
-    let over = l.invariant.3 ∙ ap (parse_map (joined before)) (members_end p n l.reader r l.invariant.2 key) in (
+    let over = l.invariant.3 ∙ ap (parse_map (joined before)) (members_end p n l.reader r l.invariant.2 (grind arith)) in (
       before,
       over ∙ ap (λ ms. Some (ms, r)) (joined_none before),
       l.invariant.5,

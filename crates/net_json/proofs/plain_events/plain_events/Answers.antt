@@ -1,9 +1,8 @@
 use Rattle.std.proofs.Common.{◌≡◌, ℕ, List, map, ap, ◌∙◌}
 use Rattle.json.specs.Json.{object}
 use Rattle.net_json.specs.Names.{index_of}
-use Rattle.net_plan.specs.NodeValues.{node_value, node_names, name_bytes}
 use Rattle.net_json.specs.NameIndexes.{noted}
-use Rattle.net_plan.specs.PlanValues.{plan_value}
+use Rattle.net_plan.specs.PlanValues.{plan_value, node_value, node_names, name_bytes}
 use Rattle.net_json.specs.declared.name_index.NameIndex.{NameIndex}
 use Rattle.net_json.proofs.BusNames.{node_names_of}
 use Rattle.net_json.proofs.Gathered.{if_some}

@@ -15,16 +15,14 @@ returns-then-len-gt-MOST_NODES-clause-made c =
     let items = c.in-Array.items.items in
     let d = view c.args.value.now in
     let seen : d ≡ array (items_view items) = ap view c.in-Array.is ∙ view-Array c.in-Array.items in
-    let many : nat_le (length items) 64 ≡ false = search rules in
-    ap (map node_value) c.new-then-len-gt-MOST_NODES.ensures.items ∙ many_made 64 (node_made (index_among (bus_names (map bus_value c.args.buses.now))) (index_among (texts_at (codes "name") d))) items d seen many
+    ap (map node_value) c.new-then-len-gt-MOST_NODES.ensures.items ∙ many_made 64 (node_made (index_among (bus_names (map bus_value c.args.buses.now))) (index_among (texts_at (codes "name") d))) items d seen (search rules)
 
 pub returns-clause-made : goal.returns-clause-made
 returns-clause-made c =
     let d = view c.args.value.now in
-    let items = c.in-Array.items.items in
     let slice = c.as_slice-items.result.now in
     let seen : d ≡ array (items_view slice) = ap view c.in-Array.is ∙ view-Array c.in-Array.items ∙ ap (λ vs. array (items_view vs)) (sym c.as_slice-items.ensures.value) in
-    let few : nat_le (length items) 64 ≡ true = search rules in
+    let few : nat_le (length c.in-Array.items.items) 64 ≡ true = search rules in
     let names : map (λ v. text_at (codes "name") (view v)) slice ≡ texts_at (codes "name") d = texts_of (codes "name") slice ∙ ap (texts_at (codes "name")) (sym seen) in
     let is = few_made 64 (node_made (find_in c.in_ok-of.field-0) (find_in c.in_ok-of-2.field-0)) slice d seen (ap (λ vs. nat_le (length vs) 64) c.as_slice-items.ensures.value ∙ few) in
     let found = nodes_found (bus_names (map bus_value c.args.buses.now)) (texts_at (codes "name") d) (find_in c.in_ok-of.field-0) (find_in c.in_ok-of-2.field-0) d

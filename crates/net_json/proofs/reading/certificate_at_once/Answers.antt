@@ -1,8 +1,7 @@
-use Rattle.std.proofs.Common.{◌≡◌, ◌≤◌, ◌∙◌, length, map, ap, sym, subst}
+use Rattle.std.proofs.Common.{◌≡◌, ◌∙◌, length, map, ap, sym, subst}
 use Rattle.std.proofs.lemmas.List.{length-map}
-use Rattle.net_plan.specs.CertificateValues.{are_known}
+use Rattle.net_plan.specs.CertificateValues.{are_known, certificate_value}
 use Rattle.net_json.specs.CertificateText.{IsCertificateOf}
-use Rattle.net_plan.specs.CertificateValues.{certificate_value}
 use Rattle.net_json.specs.Gathered.{IsPlainText}
 use Rattle.net_plan.specs.PlanValues.{node_value, node_names, plan_value}
 use Rattle.net_json.specs.Trees.{data_of}
@@ -24,6 +23,4 @@ returns-clause-known c =
     if_some c.plain_certificate.result (λ v h. ap (λ n. are_known n (certificate_value v)) count ∙ read_known (node_names plan.nodes) (data_of h.0) (certificate_value v) ((certificate_tells plan).whole (data_of h.0) (certificate_value v) h.3)) c.plain_certificate.ensures
 
 pub returns-clause-within : goal.returns-clause-within
-returns-clause-within c =
-    let few : length c.args.text.now ≤ 16777216 = c.in_ok-short_text.ensures.within in
-    if_some c.plain_certificate.result (λ v h. few) c.plain_certificate.ensures
+returns-clause-within c = if_some c.plain_certificate.result (λ v h. c.in_ok-short_text.ensures.within) c.plain_certificate.ensures

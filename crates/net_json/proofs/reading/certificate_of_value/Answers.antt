@@ -1,39 +1,25 @@
-use Rattle.std.proofs.Common.{◌≡◌, length, map, sym, ap, ◌∙◌, refl}
+use Rattle.std.proofs.Common.{◌≡◌, length, map, sym, ap, ◌∙◌}
 use Rattle.std.proofs.lemmas.List.{length-map}
 use Rattle.std.proofs.lemmas.Result.{err_from_is_err_and}
 use Rattle.json.specs.Value.{value_view}
 use Rattle.net_json.specs.Trees.{view}
 use Rattle.net_json.specs.CertificateReading.{certificate}
-use Rattle.net_plan.specs.CertificateValues.{are_known}
+use Rattle.net_plan.specs.CertificateValues.{are_known, certificate_value}
 use Rattle.net_json.specs.CertificateText.{IsCertificateOf}
-use Rattle.net_plan.specs.CertificateValues.{certificate_value}
 use Rattle.net_plan.specs.PlanValues.{node_value, node_names, plan_value}
 use Rattle.net_json.proofs.CertificateLaw.{certificate_tells, read_known}
 use Rattle.net_json.proofs.Refusing.{single_read, fault_none}
 use Rattle.net_json.proofs.reading.certificate_of_value.Goals as goal
 
-pub returns-clause-ok : goal.returns-clause-ok
-returns-clause-ok c =
-    let plan = plan_value c.args.plan.now in
-    let h = single_read certificate_value (certificate (node_names plan.nodes)) (IsCertificateOf plan) (certificate_tells plan) (value_view c.args.value.now)
-    c.read_certificate_value.result c.in_ok-unless_doubled.field-0 c.read_certificate_value.ensures (sym c.in_ok-unless_doubled.ensures) in
-    (certificate_tells plan).sound (view c.args.value.now) (certificate_value c.in_ok-unless_doubled.field-0) h.0 refl
-
-pub returns-clause-known : goal.returns-clause-known
-returns-clause-known c =
+pub returns : goal.returns
+returns c =
     let nodes = c.args.plan.now.nodes.items in
     let plan = plan_value c.args.plan.now in
     let value = certificate_value c.in_ok-unless_doubled.field-0 in
     let h = single_read certificate_value (certificate (node_names plan.nodes)) (IsCertificateOf plan) (certificate_tells plan) (value_view c.args.value.now)
     c.read_certificate_value.result c.in_ok-unless_doubled.field-0 c.read_certificate_value.ensures (sym c.in_ok-unless_doubled.ensures) in
     let count : length nodes ≡ length (node_names (map node_value nodes)) = sym (length-map (map node_value nodes) (λ n. n.name) ∙ length-map nodes node_value) in
-    ap (λ n. are_known n value) count ∙ read_known (node_names (map node_value nodes)) (view c.args.value.now) value h.0
-
-pub returns-clause-single : goal.returns-clause-single
-returns-clause-single c =
-    let plan = plan_value c.args.plan.now in
-    (single_read certificate_value (certificate (node_names plan.nodes)) (IsCertificateOf plan) (certificate_tells plan) (value_view c.args.value.now)
-    c.read_certificate_value.result c.in_ok-unless_doubled.field-0 c.read_certificate_value.ensures (sym c.in_ok-unless_doubled.ensures)).1
+    record { ok = h.2; known = ap (λ n. are_known n value) count ∙ read_known (node_names (map node_value nodes)) (view c.args.value.now) value h.0; single = h.1; refused = tt }
 
 pub returns-in_err-unless_doubled-clause-refused : goal.returns-in_err-unless_doubled-clause-refused
 returns-in_err-unless_doubled-clause-refused c =

@@ -29,6 +29,4 @@ pub returns-clause-within : goal.returns-clause-within
 returns-clause-within c = if_some c.plain_events.result (λ v h. subst (λ n. n ≤ 100000) (length-map v.items event_entry ∙ sym v.ok.0) h.3.events.2.1) c.plain_events.ensures
 
 pub returns-clause-short : goal.returns-clause-short
-returns-clause-short c =
-    let few : length c.args.text.now ≤ 16777216 = c.in_ok-short_text.ensures.within in
-    if_some c.plain_events.result (λ v h. few) c.plain_events.ensures
+returns-clause-short c = if_some c.plain_events.result (λ v h. c.in_ok-short_text.ensures.within) c.plain_events.ensures

@@ -1,4 +1,4 @@
-use Rattle.std.proofs.Common.{◌≡◌, ◌≤◌, vec_len, List, Vec, Global, length, map, sym, ap, ◌∙◌, refl}
+use Rattle.std.proofs.Common.{◌≡◌, ◌≤◌, vec_len, List, Vec, Global, length, map, sym, ap, ◌∙◌}
 use Rattle.std.proofs.lemmas.List.{length-map}
 use Rattle.std.proofs.lemmas.Result.{err_from_is_err_and}
 use Rattle.std.specs.List.{list_all}
@@ -17,30 +17,20 @@ use Rattle.net_json.proofs.reading.events_of_value.Goals as goal
 abbrev entries : Vec Event Global → List EventEntry
 entries v = map event_entry v.items
 
-pub returns-clause-ok : goal.returns-clause-ok
-returns-clause-ok c =
-    let plan = plan_value c.args.plan.now in
-    let h = single_read entries (events (node_names plan.nodes)) (AreEventsOf plan) (events_tells plan) (value_view c.args.value.now)
-    c.read_events_value.result c.in_ok-unless_doubled.field-0 c.read_events_value.ensures.read (sym c.in_ok-unless_doubled.ensures) in
-    (events_tells plan).sound (view c.args.value.now) (entries c.in_ok-unless_doubled.field-0) h.0 refl
-
-pub returns-clause-known : goal.returns-clause-known
-returns-clause-known c =
+pub returns : goal.returns
+returns c =
     let nodes = c.args.plan.now.nodes.items in
     let plan = plan_value c.args.plan.now in
     let h = single_read entries (events (node_names plan.nodes)) (AreEventsOf plan) (events_tells plan) (value_view c.args.value.now)
     c.read_events_value.result c.in_ok-unless_doubled.field-0 c.read_events_value.ensures.read (sym c.in_ok-unless_doubled.ensures) in
     let count : length nodes ≡ length (node_names (map node_value nodes)) = sym (length-map (map node_value nodes) (λ n. n.name) ∙ length-map nodes node_value) in
-    ap (λ n. list_all (is_known_event n) (entries c.in_ok-unless_doubled.field-0)) count ∙ events_known (node_names (map node_value nodes)) (view c.args.value.now) (entries c.in_ok-unless_doubled.field-0) h.0
-
-pub returns-clause-within : goal.returns-clause-within
-returns-clause-within c = kept_read (λ v. vec_len v ≤ 100000) (single (value_view c.args.value.now)) c.read_events_value.result c.in_ok-unless_doubled.field-0 c.read_events_value.ensures.within (sym c.in_ok-unless_doubled.ensures)
-
-pub returns-clause-single : goal.returns-clause-single
-returns-clause-single c =
-    let plan = plan_value c.args.plan.now in
-    (single_read entries (events (node_names plan.nodes)) (AreEventsOf plan) (events_tells plan) (value_view c.args.value.now)
-    c.read_events_value.result c.in_ok-unless_doubled.field-0 c.read_events_value.ensures.read (sym c.in_ok-unless_doubled.ensures)).1
+    record {
+      ok = h.2;
+      known = ap (λ n. list_all (is_known_event n) (entries c.in_ok-unless_doubled.field-0)) count ∙ events_known (node_names (map node_value nodes)) (view c.args.value.now) (entries c.in_ok-unless_doubled.field-0) h.0;
+      within = kept_read (λ v. vec_len v ≤ 100000) (single (value_view c.args.value.now)) c.read_events_value.result c.in_ok-unless_doubled.field-0 c.read_events_value.ensures.within (sym c.in_ok-unless_doubled.ensures);
+      single = h.1;
+      refused = tt;
+    }
 
 pub returns-in_err-unless_doubled-clause-refused : goal.returns-in_err-unless_doubled-clause-refused
 returns-in_err-unless_doubled-clause-refused c =

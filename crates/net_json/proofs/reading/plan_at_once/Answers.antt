@@ -1,4 +1,4 @@
-use Rattle.std.proofs.Common.{◌≤◌, length, subst}
+use Rattle.std.proofs.Common.{subst}
 use Rattle.net_json.specs.Gathered.{IsPlainText}
 use Rattle.net_json.specs.PlanText.{IsPlanOf}
 use Rattle.net_plan.specs.PlanValues.{plan_value}
@@ -11,6 +11,4 @@ returns-clause-told c =
     if_some c.plain_plan.result (λ p h. stands_for_plain IsPlanOf c.args.text.now (plan_value p) is.1 (subst (λ text. IsPlainText IsPlanOf text (plan_value p)) is.0 h)) c.plain_plan.ensures
 
 pub returns-clause-within : goal.returns-clause-within
-returns-clause-within c =
-    let few : length c.args.text.now ≤ 16777216 = c.in_ok-short_text.ensures.within in
-    if_some c.plain_plan.result (λ p h. few) c.plain_plan.ensures
+returns-clause-within c = if_some c.plain_plan.result (λ p h. c.in_ok-short_text.ensures.within) c.plain_plan.ensures

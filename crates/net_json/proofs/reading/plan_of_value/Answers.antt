@@ -1,7 +1,6 @@
-use Rattle.std.proofs.Common.{sym, refl}
+use Rattle.std.proofs.Common.{sym}
 use Rattle.std.proofs.lemmas.Result.{err_from_is_err_and}
 use Rattle.json.specs.Value.{value_view}
-use Rattle.net_json.specs.Trees.{view}
 use Rattle.net_json.specs.PlanReading.{plan}
 use Rattle.net_json.specs.PlanText.{IsPlanOf}
 use Rattle.net_plan.specs.PlanValues.{plan_value}
@@ -9,13 +8,10 @@ use Rattle.net_json.proofs.PlanLaw.{plan_tells}
 use Rattle.net_json.proofs.Refusing.{single_read, fault_none}
 use Rattle.net_json.proofs.reading.plan_of_value.Goals as goal
 
-pub returns-clause-ok : goal.returns-clause-ok
-returns-clause-ok c =
+pub returns : goal.returns
+returns c =
     let h = single_read plan_value plan IsPlanOf plan_tells (value_view c.args.value.now) c.read_plan_value.result c.in_ok-unless_doubled.field-0 c.read_plan_value.ensures (sym c.in_ok-unless_doubled.ensures) in
-    plan_tells.sound (view c.args.value.now) (plan_value c.in_ok-unless_doubled.field-0) h.0 refl
-
-pub returns-clause-single : goal.returns-clause-single
-returns-clause-single c = (single_read plan_value plan IsPlanOf plan_tells (value_view c.args.value.now) c.read_plan_value.result c.in_ok-unless_doubled.field-0 c.read_plan_value.ensures (sym c.in_ok-unless_doubled.ensures)).1
+    record { ok = h.2; single = h.1; refused = tt }
 
 pub returns-in_err-unless_doubled-clause-refused : goal.returns-in_err-unless_doubled-clause-refused
 returns-in_err-unless_doubled-clause-refused c =

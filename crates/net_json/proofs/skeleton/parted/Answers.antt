@@ -1,6 +1,7 @@
 use Rattle.std.proofs.Common.{◌≡◌, ◌+◌, ◌++◌, length, arith, [], ◌∷◌, map, sym, ap, ◌∙◌, append-nil, rules}
+use Rattle.std.proofs.lemmas.List.{nil_from_length}
 use Rattle.std.specs.Vec.Iter.{into_iter_items, into_iter_len}
-use Rattle.net_json.proofs.StandIns.{item_moved, none_left}
+use Rattle.net_json.proofs.StandIns.{item_moved}
 use Rattle.net_json.proofs.skeleton.parted.Goals as goal
 
 pub nodes-preserved : goal.nodes-preserved
@@ -25,7 +26,7 @@ pub returns : goal.returns
 returns c =
     let l = c.nodes in
     let over : into_iter_len l.rest ≡ 0 = c.in_default.ensures.cases.0 in
-    let none : into_iter_items l.rest ≡ [] = none_left (into_iter_items l.rest) (sym l.invariant.2 ∙ over) in
+    let none : into_iter_items l.rest ≡ [] = nil_from_length (into_iter_items l.rest) (sym l.invariant.2 ∙ over) in
     let first : into_iter_items c.into_iter-rest.result ≡ c.args.nodes.items = search rules in (
       sym (append-nil l.values.items) ∙ ap (λ ns. l.values.items ++ map (λ s. s.value) ns) (sym none) ∙ sym l.invariant.0 ∙ ap (map (λ s. s.value)) first,
       sym (append-nil l.list.items) ∙ ap (λ ns. l.list.items ++ map (λ s. s.parts) ns) (sym none) ∙ sym l.invariant.1 ∙ ap (map (λ s. s.parts)) first,

@@ -1,4 +1,5 @@
 use Rattle.std.proofs.Common.{◌≡◌, ◌+◌, ◌++◌, [], ◌∷◌, List, map, length, option_map, sym, ap, ◌∙◌, append-nil, arith, rules}
+use Rattle.std.proofs.lemmas.List.{nil_from_length}
 use Rattle.std.specs.Vec.Iter.{into_iter_items, into_iter_len}
 use Rattle.net_json.specs.NameIndexes.{find_in}
 use Rattle.net_plan.specs.NodeValues.{RowValue, terminus_value}
@@ -7,7 +8,7 @@ use Rattle.net_json.specs.declared.skeleton.PlacedParts.{PlacedParts}
 use Rattle.net_json.specs.RowParts.{named_row}
 use Rattle.net_json.specs.declared.row_parts.NamedRow.{NamedRow}
 use Rattle.net_json.specs.Skeleton.{PlacedValue, found_row, found_value, cut_value, placed_value}
-use Rattle.net_json.proofs.StandIns.{made_moved, map_twice, none_left}
+use Rattle.net_json.proofs.StandIns.{made_moved, map_twice}
 use Rattle.net_json.proofs.skeleton.placed.Goals as goal
 
 pub parts-preserved : goal.parts-preserved
@@ -33,6 +34,6 @@ returns c =
     let l = c.parts in
     let f : CutParts → PlacedValue = (λ p. found_value (find_in c.args.nodes.now) (cut_value p)) in
     let over : into_iter_len l.rest ≡ 0 = c.in_default.ensures.cases.0 in
-    let none : into_iter_items l.rest ≡ [] = none_left (into_iter_items l.rest) (sym l.invariant.1 ∙ over) in
+    let none : into_iter_items l.rest ≡ [] = nil_from_length (into_iter_items l.rest) (sym l.invariant.1 ∙ over) in
     let first : into_iter_items c.into_iter-rest.result ≡ c.args.parts.items = search rules in
     sym (append-nil (map placed_value l.list.items)) ∙ ap (λ xs. map placed_value l.list.items ++ map f xs) (sym none) ∙ sym l.invariant.0 ∙ ap (map f) first ∙ sym (map_twice (found_value (find_in c.args.nodes.now)) cut_value c.args.parts.items)

@@ -1,12 +1,11 @@
 use Rattle.std.proofs.Common.{◌≡◌, ℕ, List, Ok, map, true, refl, sym, subst, ap, ◌∙◌, vec_len}
 use Rattle.json.specs.Json.{object}
 use Rattle.net_json.specs.Names.{index_among}
-use Rattle.net_plan.specs.NodeValues.{bus_value, node_value, node_names, name_bytes}
 use Rattle.net_plan.specs.Placed.{are_placed}
 use Rattle.net_json.specs.NameIndexes.{find_in}
 use Rattle.net_json.specs.PlanReading.{plan}
 use Rattle.net_json.specs.PlanText.{IsPlanOf}
-use Rattle.net_plan.specs.PlanValues.{plan_value}
+use Rattle.net_plan.specs.PlanValues.{plan_value, bus_value, node_value, node_names, name_bytes}
 use Rattle.net_json.specs.SingleKeys.{single}
 use Rattle.net_json.specs.Skeleton.{cut_value, found_value, with_parts}
 use Rattle.net_json.specs.Trees.{view, data_of}

@@ -1,8 +1,9 @@
 use Rattle.std.proofs.Common.{◌≡◌, ◌+◌, ◌++◌, length, arith, [], ◌∷◌, map, sym, ap, ◌∙◌, append-nil, rules}
+use Rattle.std.proofs.lemmas.List.{nil_from_length}
 use Rattle.std.specs.Vec.Iter.{into_iter_items, into_iter_len}
 use Rattle.net_plan.specs.NodeValues.{node_value}
 use Rattle.net_json.specs.Skeleton.{placed_value, with_parts}
-use Rattle.net_json.proofs.StandIns.{node_moved, none_left}
+use Rattle.net_json.proofs.StandIns.{node_moved}
 use Rattle.net_json.proofs.skeleton.with_parts.Goals as goal
 
 pub nodes-preserved : goal.nodes-preserved
@@ -31,7 +32,7 @@ pub returns : goal.returns
 returns c =
     let l = c.nodes in
     let over : into_iter_len l.rest ≡ 0 = c.in_default.ensures.cases.0 in
-    let none : into_iter_items l.rest ≡ [] = none_left (into_iter_items l.rest) (sym l.invariant.1 ∙ over) in
+    let none : into_iter_items l.rest ≡ [] = nil_from_length (into_iter_items l.rest) (sym l.invariant.1 ∙ over) in
     let first : into_iter_items c.into_iter-rest.result ≡ c.args.nodes.items = search rules in
     let second : into_iter_items c.into_iter-parts.result ≡ c.args.parts.items = search rules in
     sym (append-nil (map node_value l.filled.items)) ∙ ap (λ ns. map node_value l.filled.items ++ with_parts (map node_value ns) (map placed_value (into_iter_items l.parts))) (sym none) ∙ sym l.invariant.0

@@ -7,5 +7,4 @@ use Rattle.net_pointers.proofs.known.texts_in.Goals as goal
 
 pub returns-in-Array : goal.returns-in-Array
 returns-in-Array c =
-    let items = c.in-Array.items in
-    subst (λ texts. IfOk c.texts_of.result (λ names. map (λ name. name.now) names.items ≡ texts)) (names_seen c.args.key.now c.as_slice.result.now (view c.args.list.now) (ap view c.in-Array.is ∙ view-Array items ∙ ap (λ vs. array (items_view vs)) (sym c.as_slice.ensures.value))) c.texts_of.ensures
+    subst (λ texts. IfOk c.texts_of.result (λ names. map (λ name. name.now) names.items ≡ texts)) (names_seen c.args.key.now c.as_slice.result.now (view c.args.list.now) (ap view c.in-Array.is ∙ view-Array c.in-Array.items ∙ ap (λ vs. array (items_view vs)) (sym c.as_slice.ensures.value))) c.texts_of.ensures

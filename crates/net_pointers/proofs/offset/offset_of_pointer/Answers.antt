@@ -1,6 +1,5 @@
 use Rattle.std.proofs.Common.{rules, ◌≡◌, map, Some, None}
 use Rattle.json.specs.Value.{value_view}
-use Rattle.net_pointers.specs.Paths.{path_of}
 use Rattle.net_json.specs.Finding.{step_value}
 use Rattle.net_pointers.proofs.Offsets.{found_pointer_leads}
 use Rattle.net_pointers.proofs.Paths.{leads_nowhere}
@@ -8,10 +7,8 @@ use Rattle.net_pointers.proofs.offset.offset_of_pointer.Goals as goal
 
 pub returns-in-Some : goal.returns-in-Some
 returns-in-Some c =
-    let along : path_of (map step_value c.args.pointer.now) (value_view c.args.tree.now) ≡ Some c.in-Some.path.items = search rules in
-    search (rules, found_pointer_leads c.args.text.now (map step_value c.args.pointer.now) (value_view c.args.tree.now) c.in-Some.path.items c.offset_of_part.result c.requires.1 along)
+    search (rules, found_pointer_leads c.args.text.now (map step_value c.args.pointer.now) (value_view c.args.tree.now) c.in-Some.path.items c.offset_of_part.result c.requires.1 (search rules))
 
 pub returns-in-None : goal.returns-in-None
 returns-in-None c =
-    let nowhere : path_of (map step_value c.args.pointer.now) (value_view c.args.tree.now) ≡ None = search rules in
-    search (rules, leads_nowhere (map step_value c.args.pointer.now) (value_view c.args.tree.now) nowhere)
+    search (rules, leads_nowhere (map step_value c.args.pointer.now) (value_view c.args.tree.now) (search rules))

@@ -5,7 +5,7 @@ use Rattle.net_json.specs.Grammar.{grammar}
 use Rattle.net_json.specs.Trees.{view}
 use Rattle.net_json.proofs.Fitting.{none_fits}
 use Rattle.net_pointers.specs.Asks.{asks}
-use Rattle.net_pointers.specs.OrderOfTests.{AreRight, AreKeysSingle}
+use Rattle.net_pointers.specs.OrderOfTests.{AreKeysSingle}
 use Rattle.net_pointers.proofs.Leads.{leads}
 use Rattle.net_pointers.proofs.Unknown.{unknown_left}
 use Rattle.net_pointers.proofs.order.first_trouble.Goals as goal
@@ -22,7 +22,6 @@ returns-in-Some-4 c =
     let a = asks c.args.asked.now in
     let d = view c.args.value.now in
     let l = located c.in-Some-4.found in
-    let right : AreRight a d = search rules in
     let keys : AreKeysSingle a (value_view c.args.value.now) = search rules in
     let told : first_fault (Some a.known) a.grammar d ≡ Some l = search rules in
-    (keys, unknown_left a.known a.grammar d (none_fits None a.grammar d right) l told, (told, leads (Some a.known) a.grammar d l told))
+    (keys, unknown_left a.known a.grammar d (none_fits None a.grammar d (search rules)) l told, (told, leads (Some a.known) a.grammar d l told))

@@ -5,5 +5,4 @@ use Rattle.net_pointers.proofs.tokens.pass_items.Goals as goal
 
 pub loop-preserved : goal.loop-preserved
 loop-preserved c =
-    let passed : skip_value 127 c.loop.reader ≡ Some c.skip_value.new.self = grind arith in
-    item_passed c.args.count c.loop.counter c.loop.reader c.skip_value.new.self c.loop-test.true passed ∙ c.loop.invariant
+    item_passed c.args.count c.loop.counter c.loop.reader c.skip_value.new.self c.loop-test.true (grind arith) ∙ c.loop.invariant

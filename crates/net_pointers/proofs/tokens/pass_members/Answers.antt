@@ -7,5 +7,4 @@ use Rattle.net_pointers.proofs.tokens.pass_members.Goals as goal
 pub loop-preserved : goal.loop-preserved
 loop-preserved c =
     let named : past_key c.loop.reader ≡ Some c.pass_key.new.reader = grind arith in
-    let passed : skip_value 127 c.pass_key.new.reader ≡ Some c.skip_value.new.self = grind arith in
-    member_passed c.args.count c.loop.counter c.loop.reader c.pass_key.new.reader c.skip_value.new.self c.loop-test.true named passed ∙ c.loop.invariant
+    member_passed c.args.count c.loop.counter c.loop.reader c.pass_key.new.reader c.skip_value.new.self c.loop-test.true named (grind arith) ∙ c.loop.invariant

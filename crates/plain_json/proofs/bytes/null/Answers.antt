@@ -1,11 +1,8 @@
 use Rattle.std.proofs.Common.{◌≡◌, ◌∷◌, true, ap, ◌∙◌, rules}
-use Rattle.json.specs.Word.{ends_word}
 use Rattle.json.specs.Lex.{lex, between}
 use Rattle.plain_json.proofs.Plain.{null_at}
 use Rattle.plain_json.proofs.bytes.null.Goals as goal
 
 pub returns : goal.returns
 returns c =
-    let rest = c.in_ok-rest-4.rest.now in
-    let ended : ends_word rest ≡ true = search rules in
-    ap (lex between) (c.in_ok-rest.ensures ∙ ap (λ l. 110 ∷ l) (c.in_ok-rest-2.ensures ∙ ap (λ l. 117 ∷ l) (c.in_ok-rest-3.ensures ∙ ap (λ l. 108 ∷ l) (c.in_ok-rest-4.ensures)))) ∙ null_at rest ended
+    ap (lex between) (c.in_ok-rest.ensures ∙ ap (λ l. 110 ∷ l) (c.in_ok-rest-2.ensures ∙ ap (λ l. 117 ∷ l) (c.in_ok-rest-3.ensures ∙ ap (λ l. 108 ∷ l) (c.in_ok-rest-4.ensures)))) ∙ null_at c.in_ok-rest-4.rest.now (search rules)

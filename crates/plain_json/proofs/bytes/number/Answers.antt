@@ -1,6 +1,5 @@
 use Rattle.std.proofs.Common.{◌≡◌, true, sym, ◌∙◌, subst, rules}
 use Rattle.std.specs.Char.{is_ascii_digit}
-use Rattle.json.specs.Word.{ends_word}
 use Rattle.plain_json.specs.Plain.{DigitsFollow}
 use Rattle.plain_json.proofs.Plain.{number_at}
 use Rattle.plain_json.proofs.bytes.number.Goals as goal
@@ -12,5 +11,4 @@ returns c =
     let n = c.in_ok-number.number in
     let r = c.in_ok-number.rest.now in
     let digit : is_ascii_digit x ≡ true = sym c.is_digit.ensures ∙ c.if-not-is_digit.false in
-    let ended : ends_word r ≡ true = search rules in
-    number_at c.args.bytes.now x xs n r c.in_ok-byte.ensures digit c.if-byte-eq48.false (subst (λ d. DigitsFollow d xs n r) c.digit_of.ensures.0 c.in_ok-number.ensures) ended
+    number_at c.args.bytes.now x xs n r c.in_ok-byte.ensures digit c.if-byte-eq48.false (subst (λ d. DigitsFollow d xs n r) c.digit_of.ensures.0 c.in_ok-number.ensures) (search rules)

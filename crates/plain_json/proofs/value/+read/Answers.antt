@@ -1,5 +1,5 @@
 use Rattle.std.proofs.Common.{◌≡◌, ◌-◌, [], ◌∷◌, ◌++◌, length, Some, None, Global, sym, ap, ◌∙◌, arith, rules}
-use Rattle.json.specs.Json.{Json, array, object, parse_map, after_end_array, read_key, items, members, value}
+use Rattle.json.specs.Json.{Json, array, object, parse_map, read_key, items, members, value}
 use Rattle.json.specs.Value.{value_view}
 use Rattle.json.specs.declared.value.Value.{String, Number, Null, the_lemmas}
 use Rattle.json.proofs.Grammar.{value_is, value-begin_array, value-begin_object, read_key-shorter, items_end, items_more, members_end, members_more}
@@ -39,8 +39,7 @@ read_items-returns t c =
     let p = value c.args.depth in
     let l = c.items in
     let r = c.take_end_array.new.self in
-    let end : after_end_array l.reader ≡ Some r = grind arith in
-    l.invariant.3 ∙ ap (parse_map (items_before l.found.items)) (items_end p l.invariant.0 l.reader r l.invariant.1 end) ∙ ap (λ js. Some (js, r)) (items_before-no_items l.found.items)
+    l.invariant.3 ∙ ap (parse_map (items_before l.found.items)) (items_end p l.invariant.0 l.reader r l.invariant.1 (grind arith)) ∙ ap (λ js. Some (js, r)) (items_before-no_items l.found.items)
 
 pub read_members-members-smaller : goal.read_members-members-smaller
 read_members-members-smaller t c =
@@ -78,8 +77,7 @@ read_members-returns t c =
     let p = value c.args.depth in
     let l = c.members in
     let r = c.next_key.new.self in
-    let end : read_key l.reader ≡ Some (None, r) = grind arith in
-    l.invariant.3 ∙ ap (parse_map (members_before l.found.items)) (members_end p l.invariant.0 l.reader r l.invariant.1 end) ∙ ap (λ ms. Some (ms, r)) (members_before-no_members l.found.items)
+    l.invariant.3 ∙ ap (parse_map (members_before l.found.items)) (members_end p l.invariant.0 l.reader r l.invariant.1 (grind arith)) ∙ ap (λ ms. Some (ms, r)) (members_before-no_members l.found.items)
 
 pub read_value-returns-in_ok-read_members-in-123 : goal.read_value-returns-in_ok-read_members-in-123
 read_value-returns-in_ok-read_members-in-123 t c =

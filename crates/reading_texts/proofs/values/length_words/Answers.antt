@@ -6,13 +6,13 @@ use Rattle.net_json.specs.Json.{items_count}
 use Rattle.net_json.specs.Trees.{view, items_view}
 use Rattle.net_json.proofs.Trees.{view-Array}
 use Rattle.reading_texts.specs.TroubleLines.{IsLengthTold}
-use Rattle.reading_texts.proofs.ToldTexts.{items_counted}
+use Rattle.net_json.proofs.Items.{items_count_of_view}
 use Rattle.reading_texts.proofs.values.length_words.Goals as goal
 
 pub returns-in-Array : goal.returns-in-Array
 returns-in-Array c =
     let items = c.in-Array.items in
     let is : view c.args.stands.now ≡ array (items_view items.items) = ap view c.in-Array.is ∙ view-Array items in
-    let same : c.len-count.result ≡ items_count (items_view items.items) = grind (arith, items_counted) in
+    let same : c.len-count.result ≡ items_count (items_view items.items) = grind (arith, items_count_of_view) in
     subst (λ (d : Data). IfOk c.format.result (λ words. IsLengthTold d c.args.rest.now (string_bytes words))) (sym is)
     (subst (λ (n : ℕ). IfOk c.format.result (λ words. string_bytes words ≡ codes "is a list of " ++ (decimal n ++ codes " items"))) same c.format.ensures.ok)

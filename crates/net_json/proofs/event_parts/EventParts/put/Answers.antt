@@ -1,14 +1,7 @@
 use Rattle.std.proofs.Common.{◌≡◌, Some, rules}
-use Rattle.net_json.specs.EventParts.{keys_given}
 use Rattle.net_json.specs.NameIndexes.{noted}
 use Rattle.net_json.proofs.EventParts.{put_of}
 use Rattle.net_json.proofs.event_parts.EventParts.put.Goals as goal
 
 pub returns : goal.returns
-returns c =
-    let p = c.args.self in
-    let count : keys_given p ≡ 2 = search rules in
-    let is_node : p.node ≡ Some c.in_ok-node.node = search rules in
-    let is_bytes : p.bytes ≡ Some c.in_ok-bytes.bytes = search rules in
-    let is_index : noted c.args.nodes.now c.in_ok-node.node.now ≡ Some c.in_ok-index.index = search rules in
-    λ ms h does. put_of p ms h (noted c.args.nodes.now) c.in_ok-node.node c.in_ok-bytes.bytes c.in_ok-index.index count is_node is_bytes is_index does
+returns c ms h does = put_of c.args.self ms h (noted c.args.nodes.now) c.in_ok-node.node c.in_ok-bytes.bytes c.in_ok-index.index (search rules) (search rules) (search rules) (search rules) does

@@ -1,5 +1,5 @@
 use Rattle.std.proofs.Common.{◌≡◌, Some, sym, subst, rules}
-use Rattle.net_json.specs.EventParts.{IsEventBy, keys_given}
+use Rattle.net_json.specs.EventParts.{IsEventBy}
 use Rattle.json.specs.Json.{object}
 use Rattle.net_plan.specs.EventValues.{walk}
 use Rattle.net_json.specs.Gathered.{IsPlain}
@@ -10,12 +10,5 @@ use Rattle.net_json.proofs.event_parts.EventParts.walk.Goals as goal
 
 pub returns : goal.returns
 returns c =
-    let p = c.args.self.now in
-    let count : keys_given p ≡ 4 = search rules in
-    let is_node : p.node ≡ Some c.in_ok-node.node = search rules in
-    let is_eid : p.eid ≡ Some c.in_ok-eid.eid = search rules in
-    let is_tag : p.tag ≡ Some c.in_ok-tag.tag = search rules in
-    let is_count : p.count ≡ Some c.in_ok-count.count = search rules in
-    let is_index : noted c.args.nodes.now c.in_ok-node.node.now ≡ Some c.in_ok-index.index = search rules in
     λ ms h does. subst (λ v. IsEventBy (noted c.args.nodes.now) (data_of (object ms)) (walk c.in_ok-index.index v c.in_ok-tag.tag.value c.in_ok-count.count) × IsPlain (object ms)) (sym c.new.ensures)
-    (walk_of p ms h (noted c.args.nodes.now) c.in_ok-node.node c.in_ok-eid.eid c.in_ok-tag.tag c.in_ok-count.count c.in_ok-index.index count is_node is_eid is_tag is_count is_index does)
+    (walk_of c.args.self.now ms h (noted c.args.nodes.now) c.in_ok-node.node c.in_ok-eid.eid c.in_ok-tag.tag c.in_ok-count.count c.in_ok-index.index (search rules) (search rules) (search rules) (search rules) (search rules) (search rules) does)

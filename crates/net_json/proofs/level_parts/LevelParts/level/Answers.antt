@@ -1,12 +1,21 @@
-use Rattle.std.proofs.Common.{◌≡◌, Some, rules}
+use Rattle.std.proofs.Common.{codes, refl, rules}
+use Rattle.json.specs.Json.{object}
+use Rattle.net_json.specs.Trees.{data_of}
+use Rattle.net_json.specs.JsonWords.{IsName, IsNumberWithin}
+use Rattle.net_json.specs.Keys.{level_keys}
 use Rattle.net_json.specs.NameIndexes.{noted}
-use Rattle.net_json.proofs.LevelParts.{level_of}
+use Rattle.net_json.proofs.Gathered.{here, all_keys, object_plain, placed_at}
 use Rattle.net_json.proofs.level_parts.LevelParts.level.Goals as goal
 
 pub returns : goal.returns
-returns c =
+returns c ms h =
     let p = c.args.self.now in
-    let is_level : p.level ≡ Some c.in_ok-level.level = search rules in
-    let is_node : p.node ≡ Some c.in_ok-node.node = search rules in
-    let is_index : noted c.args.nodes.now c.in_ok-node.node.now ≡ Some c.in_ok-index.index = search rules in
-    level_of (noted c.args.nodes.now) p c.in_ok-level.level c.in_ok-node.node c.in_ok-index.index is_level is_node is_index
+    let level = here (codes "level") (IsNumberWithin 1 63) p.level ms h.read.0 c.in_ok-level.level (search rules) in
+    let node = here (codes "node") (λ d name. IsName d name.now) p.node ms h.read.1.0 c.in_ok-node.node (search rules) in (
+      λ names places. record {
+        keys = all_keys level_keys ms h.plain (rw (level.1, node.1) refl);
+        level = level.2;
+        node = placed_at names (noted c.args.nodes.now) places c.in_ok-node.node.now c.in_ok-index.index (search rules) (data_of (object ms)) node.2;
+      },
+      object_plain level_keys ms h.plain,
+    )

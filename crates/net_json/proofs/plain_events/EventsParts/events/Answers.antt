@@ -8,10 +8,7 @@ use Rattle.net_json.proofs.plain_events.EventsParts.events.Goals as goal
 
 pub returns : goal.returns
 returns c =
-    let p = c.args.self in
     let f = c.in_ok-format.format in
     let v = c.in_ok-events.events in
-    let is_format : p.format ≡ Some f = search rules in
-    let is_events : p.events ≡ Some v = search rules in
     let has : list_all (λ e. is_event_in f (event_entry e)) v.items ≡ true = search rules in
-    events_of p f v is_format is_events (list_all_mapped (is_event_in f) event_entry v.items ∙ has)
+    events_of c.args.self f v (search rules) (search rules) (list_all_mapped (is_event_in f) event_entry v.items ∙ has)

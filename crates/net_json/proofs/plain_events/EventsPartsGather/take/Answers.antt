@@ -1,4 +1,4 @@
-use Rattle.std.proofs.Common.{◌≤◌, length, map, codes, refl, rules}
+use Rattle.std.proofs.Common.{◌≤◌, map, codes, refl, rules}
 use Rattle.net_json.specs.EventParts.{IsEventBy}
 use Rattle.net_json.specs.EventText.{IsFormat}
 use Rattle.net_plan.specs.EventValues.{event_entry}
@@ -14,5 +14,4 @@ returns-in_ok-next_format-in-format-clause-more c =
 
 pub returns-in_ok-next_list-in-events-clause-more : goal.returns-in_ok-next_list-in-events-clause-more
 returns-in_ok-next_list-in-events-clause-more c =
-    let few : length c.in_ok-next_list-in-events.field-0.items ≤ 100000 = search rules in
-    there_taken (λ d v. IsShortListOf 100000 (IsEventBy (noted c.args.self.now.nodes.now)) d (map event_entry v.items)) (codes "events") (events_slots c.args.self.now) c.args.self.now.events c.set_once-in-events.new.slot c.in_ok-next_list-in-events.field-0 c.set_once-in-events.result c.args.key.now c.args.depth c.args.reader.now c.next_list.new.reader c.in-events.is (λ o h. h) refl (list_there (IsEventBy (noted c.args.self.now.nodes.now)) event_entry 100000 c.args.depth c.args.reader.now c.next_list.new.reader c.in_ok-next_list-in-events.field-0.items c.in_ok-next_list-in-events.ensures.read few) c.set_once-in-events.ensures
+    there_taken (λ d v. IsShortListOf 100000 (IsEventBy (noted c.args.self.now.nodes.now)) d (map event_entry v.items)) (codes "events") (events_slots c.args.self.now) c.args.self.now.events c.set_once-in-events.new.slot c.in_ok-next_list-in-events.field-0 c.set_once-in-events.result c.args.key.now c.args.depth c.args.reader.now c.next_list.new.reader c.in-events.is (λ o h. h) refl (list_there (IsEventBy (noted c.args.self.now.nodes.now)) event_entry 100000 c.args.depth c.args.reader.now c.next_list.new.reader c.in_ok-next_list-in-events.field-0.items c.in_ok-next_list-in-events.ensures.read (search rules)) c.set_once-in-events.ensures

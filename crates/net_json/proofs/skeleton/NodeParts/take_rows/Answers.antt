@@ -1,4 +1,4 @@
-use Rattle.std.proofs.Common.{◌≡◌, ◌≤◌, [], length, false, is_some, Some, codes, map, option_map, inl, inr, refl, sym, ap, ◌∙◌, subst, rules}
+use Rattle.std.proofs.Common.{◌≡◌, ◌≤◌, [], false, is_some, Some, codes, map, option_map, inl, inr, refl, sym, ap, ◌∙◌, subst, rules}
 use Rattle.json.specs.Json.{array, no_items}
 use Rattle.json.specs.Value.{value_view, items_view, members_view}
 use Rattle.json.specs.declared.value.Value.{Array}
@@ -23,8 +23,7 @@ returns c =
     let S = IsCutRows (Some rs) in
     let took = c.in_ok-rows.ensures.read in
     let j = took.0 in
-    let few : length v.items ≤ 256 = search rules in
-    let listed = list_of IsNamedRowOf named_row 256 j v.items took.2 few in
+    let listed = list_of IsNamedRowOf named_row 256 j v.items took.2 (search rules) in
     let l = value_view (Array c.new-none.result) in
     let empty : c.new-none.result.items ≡ [] = search rules in
     let is : l ≡ array no_items = view-Array c.new-none.result ∙ ap (λ vs. array (items_view vs)) empty in

@@ -1,9 +1,14 @@
-use Rattle.std.proofs.Common.{◌≡◌, Some, rules}
-use Rattle.net_json.proofs.TerminusParts.{terminus_of}
+use Rattle.std.proofs.Common.{map, codes, refl, rules}
+use Rattle.net_json.specs.JsonWords.{IsNumberWithin, IsShortListOf}
+use Rattle.net_json.specs.Keys.{terminus_keys}
+use Rattle.net_json.specs.PlanText.{IsRecordOf}
+use Rattle.net_plan.specs.NodeValues.{record_value}
+use Rattle.net_json.proofs.Gathered.{here, all_keys, object_plain}
 use Rattle.net_json.proofs.terminus_parts.TerminusParts.terminus.Goals as goal
 
 pub returns : goal.returns
-returns c =
-    let tid : c.args.self.tid ≡ Some c.in_ok-tid.tid = search rules in
-    let records : c.args.self.records ≡ Some c.in_ok-records.records = search rules in
-    terminus_of c.args.self c.in_ok-tid.tid c.in_ok-records.records tid records
+returns c ms h =
+    let p = c.args.self in
+    let tid = here (codes "tid") (IsNumberWithin 0 254) p.tid ms h.read.0 c.in_ok-tid.tid (search rules) in
+    let records = here (codes "records") (λ d v. IsShortListOf 4096 IsRecordOf d (map record_value v.items)) p.records ms h.read.1.0 c.in_ok-records.records (search rules) in
+    (record { keys = all_keys terminus_keys ms h.plain (rw (tid.1, records.1) refl); tid = tid.2; records = records.2 }, object_plain terminus_keys ms h.plain)

@@ -1,4 +1,4 @@
-use Rattle.std.proofs.Common.{◌≤◌, length, map, codes, refl, rules}
+use Rattle.std.proofs.Common.{◌≤◌, map, codes, refl, rules}
 use Rattle.net_json.specs.JsonWords.{IsNumberWithin, IsShortListOf}
 use Rattle.net_plan.specs.NodeValues.{record_value}
 use Rattle.net_json.specs.PlanText.{IsRecordOf}
@@ -12,5 +12,4 @@ returns-in_ok-next_number_within-in-tid-clause-more c =
 
 pub returns-in_ok-next_list-in-records-clause-more : goal.returns-in_ok-next_list-in-records-clause-more
 returns-in_ok-next_list-in-records-clause-more c =
-    let few : length c.in_ok-next_list-in-records.field-0.items ≤ 4096 = search rules in
-    there_taken (λ d v. IsShortListOf 4096 IsRecordOf d (map record_value v.items)) (codes "records") (terminus_slots c.args.self.now) c.args.self.now.records c.set_once-in-records.new.slot c.in_ok-next_list-in-records.field-0 c.set_once-in-records.result c.args.key.now c.args.depth c.args.reader.now c.next_list.new.reader c.in-records.is (λ o h. h) refl (list_there IsRecordOf record_value 4096 c.args.depth c.args.reader.now c.next_list.new.reader c.in_ok-next_list-in-records.field-0.items c.in_ok-next_list-in-records.ensures.read few) c.set_once-in-records.ensures
+    there_taken (λ d v. IsShortListOf 4096 IsRecordOf d (map record_value v.items)) (codes "records") (terminus_slots c.args.self.now) c.args.self.now.records c.set_once-in-records.new.slot c.in_ok-next_list-in-records.field-0 c.set_once-in-records.result c.args.key.now c.args.depth c.args.reader.now c.next_list.new.reader c.in-records.is (λ o h. h) refl (list_there IsRecordOf record_value 4096 c.args.depth c.args.reader.now c.next_list.new.reader c.in_ok-next_list-in-records.field-0.items c.in_ok-next_list-in-records.ensures.read (search rules)) c.set_once-in-records.ensures

@@ -5,7 +5,7 @@ use Rattle.json.proofs.Trees.{view-Object}
 use Rattle.net_plan.specs.NodeValues.{terminus_value}
 use Rattle.net_json.specs.RowParts.{named_row}
 use Rattle.net_json.specs.Skeleton.{AreStandIns, IsCutTerminus, IsCutRows}
-use Rattle.net_json.proofs.skeleton.next_node.Goals as goal
+use Rattle.net_json.proofs.skeleton.NextNodeNextItem.next_item.Goals as goal
 
 pub returns : goal.returns
 returns c =

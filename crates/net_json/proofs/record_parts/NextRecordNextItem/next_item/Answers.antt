@@ -1,6 +1,6 @@
 use Rattle.json.specs.Json.{object}
 use Rattle.net_json.proofs.Gathered.{if_some}
-use Rattle.net_json.proofs.record_parts.next_record.Goals as goal
+use Rattle.net_json.proofs.record_parts.NextRecordNextItem.next_item.Goals as goal
 
 pub returns : goal.returns
 returns c =
