@@ -20,5 +20,6 @@ mod writing;
 pub use capture::{Capture, CaptureFault, Direction, End, Entry, Kind, MAX_ENTRIES, Time};
 pub use carried::CarriedPacket;
 pub use laws::one_list_of_records;
+pub use line::{split_word, uncommented};
 pub use reading::read_capture;
 pub use writing::{add_packet, begin_file, written_reads_back};

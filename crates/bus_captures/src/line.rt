@@ -36,7 +36,7 @@ pub fn read_line<'a>(alloc: Global, line: &'a [u8]) -> Result<Line<'a>, AllocErr
 }
 
 /// The line without its comment.
-fn uncommented(line: &[u8]) -> &[u8]
+pub fn uncommented(line: &[u8]) -> &[u8]
     ensures { result.now ≡ uncommented line.now }
 {
     line.split_at(Sort::Hash.before(line)).0
@@ -134,7 +134,7 @@ fn split_time(text: &[u8]) -> (Time<'_>, &[u8])
 }
 
 /// The first word, and what stands behind it.
-fn split_word(text: &[u8]) -> (&[u8], &[u8])
+pub fn split_word(text: &[u8]) -> (&[u8], &[u8])
     ensures word { result.0.now ≡ word text.now }
     ensures behind { result.1.now ≡ behind_word text.now }
 {

@@ -7,10 +7,6 @@ use Rattle.bus_captures.specs.Values.{EntryValue}
 use Rattle.bus_captures.specs.declared.capture.End.{End}
 use Rattle.bus_captures.specs.declared.capture.End.TheVariants as end
 use Rattle.bus_captures.specs.declared.capture.Kind.TheVariants as kind
-use Rattle.bus_captures.specs.declared.sort.Sort.{Sort}
-use Rattle.bus_captures.specs.declared.sort.Sort.TheVariants as sort
-use Rattle.bus_commands.specs.declared.line.Mark.{Mark}
-use Rattle.bus_commands.specs.declared.line.Mark.TheVariants as mark
 use Rattle.bus_commands.specs.declared.line.Said.{Said}
 use Rattle.bus_commands.specs.declared.line.Said.TheVariants as said
 use Rattle.net_plan.specs.declared.plan.Plan.{Plan}
@@ -29,11 +25,6 @@ said_value said.Nothing = Nothing
 said_value said.NoBus = NoBus
 said_value said.NoPacket = NoPacket
 said_value (said.Packet bus bytes) = Packet bus bytes.items
-
-abbrev pub sort_of : Mark → Sort
-sort_of mark.Hash = sort.Hash
-sort_of mark.Space = sort.Space
-sort_of mark.NoSpace = sort.NoSpace
 
 -- b is a bus of the name, and n has a port on it
 abbrev pub NamesBus : Plan → ℕ → List ℕ → ℕ → Type 0

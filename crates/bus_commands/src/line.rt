@@ -1,11 +1,9 @@
 //! What a line of the line protocol says.
-ghost use Rattle.std.specs.Prelude.{◌≡◌, ◌≤◌, ◌↔◌, ℕ, List, length, IfOk, IsTrue, MatchOption, map, string_bytes};
-ghost use Rattle.bus_captures.specs.Lines.{behind_word, uncommented, word};
-ghost use Rattle.bus_captures.specs.Sorts.{before, is_of, is_space};
+ghost use Rattle.std.specs.Prelude.{◌≡◌, ◌↔◌, ℕ, List, IfOk, IsTrue, MatchOption, map, string_bytes};
 ghost use Rattle.bus_captures.specs.Values.{entry_value};
-ghost use Rattle.bus_commands.specs.PacketLines.{IsOnePacket, IsReadOver, NamesBus, Says, said_value, sort_of};
+ghost use Rattle.bus_commands.specs.PacketLines.{IsOnePacket, IsReadOver, NamesBus, Says, said_value};
 
-use bus_captures::{Capture, End, Kind, read_capture};
+use bus_captures::{Capture, End, Kind, read_capture, split_word, uncommented};
 use net_plan::{Bus, Plan};
 use net_tables::lookup::is_on_bus;
 use std::alloc::{AllocError, Global};
@@ -85,61 +83,4 @@ fn is_named(bus: &Bus, name: &[u8]) -> bool
     ensures { IsTrue result ↔ (string_bytes bus.now.name.text ≡ name.now) }
 {
     bus.name.text.as_bytes() == name
-}
-
-/// What a byte of a line may be.
-#[derive(Clone, Copy, Debug, PartialEq, Eq)]
-enum Mark {
-    Hash,
-    Space,
-    NoSpace,
-}
-
-impl Mark {
-    /// Whether the byte is one.
-    fn has(self, byte: u8) -> bool
-        ensures { result ≡ is_of (sort_of self) byte }
-    {
-        match self {
-            Mark::Hash => byte == b'#',
-            Mark::Space => is_space(byte),
-            Mark::NoSpace => !is_space(byte),
-        }
-    }
-
-    /// How many bytes stand before the first one: all of them where there is none.
-    fn before(self, text: &[u8]) -> usize
-        ensures place { result ≡ before (sort_of self) text.now }
-        ensures within { result ≤ length text.now }
-    {
-        for (i, byte) in text.iter().enumerate() {
-            if self.has(*byte) {
-                return i;
-            }
-        }
-        text.len()
-    }
-}
-
-/// A blank, a tab, or the carriage return at the end of a line.
-fn is_space(byte: u8) -> bool
-    ensures { result ≡ is_space byte }
-{
-    byte == b' ' || byte == b'\t' || byte == b'\r'
-}
-
-/// The line without its comment.
-fn uncommented(line: &[u8]) -> &[u8]
-    ensures { result.now ≡ uncommented line.now }
-{
-    line.split_at(Mark::Hash.before(line)).0
-}
-
-/// The first word of a text, and what stands behind it.
-fn split_word(text: &[u8]) -> (&[u8], &[u8])
-    ensures word { result.0.now ≡ word text.now }
-    ensures behind { result.1.now ≡ behind_word text.now }
-{
-    let from_word = text.split_at(Mark::NoSpace.before(text)).1;
-    from_word.split_at(Mark::Space.before(from_word))
 }
