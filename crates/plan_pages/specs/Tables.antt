@@ -21,6 +21,7 @@ use Rattle.plan_pages.specs.Escaping.{escaped}
 use Rattle.plan_pages.specs.Lists.{AreJoined, AreListed, AreNamesOf}
 use Rattle.plan_pages.specs.Markup.{IsTable, cell_text, row_line}
 use Rattle.plan_pages.specs.Words.{bus_name, node_name, number_or_dash, or_dash, span_text}
+use Rattle.plan_texts.specs.WayLines.{bus_text}
 
 -- a row of a table: a heading, and a cell for each text
 abbrev pub row_of_cells : List ℕ → List (List ℕ) → List ℕ
@@ -108,14 +109,10 @@ IsPoolTable plan text =
 
 -- ---- rows of routing tables
 
-abbrev pub bus_name_or_dash : Plan → Option ℕ → List ℕ
-bus_name_or_dash plan (Some bus) = bus_name plan bus
-bus_name_or_dash plan None = codes "-"
-
 -- the row's number, its endpoint IDs, its port with the bus, and the next node with its address there
 abbrev pub entry_cells : Plan → (n r : ℕ) → Row → List (List ℕ)
 entry_cells plan n r row = decimal r ∷ span_text row.first.value (row.first.value + row.size) ∷ decimal row.port
-    ∷ bus_name_or_dash plan (bus_of plan n row.port) ∷ node_name plan row.next
+    ∷ bus_text plan (bus_of plan n row.port) ∷ node_name plan row.next
     ∷ or_dash (encode_lower (address_on plan row.next (bus_of plan n row.port))) ∷ []
 
 abbrev pub IsEntryRow : Plan → ℕ → ℕ → List ℕ → Type 0

@@ -4,7 +4,7 @@ ghost use Rattle.net_tables.specs.Ownership.{owner_of, pool_of};
 ghost use Rattle.net_tables.specs.Routing.{eid_of, node_at, ports_of, rows_of};
 ghost use Rattle.net_tables.specs.Rows.{IsOnBus};
 ghost use Rattle.plan_pages.specs.Lists.{AddsName, AreJoined, AreListed, AreNamesOf};
-ghost use Rattle.plan_pages.specs.Tables.{AreEntryRows, HoldsOf, IsBusRow, IsBusTable, IsEntryRow, IsNodeRow, IsNodeTable, IsPoolRow, IsPoolTable, IsPortText, IsRowTable, bus_cells, bus_name_or_dash, entry_cells, kind_text, level_by, node_cells, owner_text, pool_cells, port_text, row_of_cells, tid_of};
+ghost use Rattle.plan_pages.specs.Tables.{AreEntryRows, HoldsOf, IsBusRow, IsBusTable, IsEntryRow, IsNodeRow, IsNodeTable, IsPoolRow, IsPoolTable, IsPortText, IsRowTable, bus_cells, entry_cells, kind_text, level_by, node_cells, owner_text, pool_cells, port_text, row_of_cells, tid_of};
 ghost use Rattle.plan_pages.specs.Words.{bus_name, node_name, number_or_dash, or_dash};
 
 use crate::markup::{row, table};
@@ -14,6 +14,7 @@ use net_tables::lookup::{
     address_on, bus_at, bus_name, eid_at, is_in_pool, is_on_bus, level_of, node_name, owner_at,
     pool_at, pool_end, port_at, ports_at, row_at, row_end, rows_at, terminus_at,
 };
+use plan_texts::bus_text;
 use std::alloc::{AllocError, Global};
 
 /// The buses, with the nodes on each.
@@ -431,18 +432,9 @@ fn row_of_entry(
         &place,
         &span,
         &port,
-        bus_name_or_dash(plan, bus),
+        bus_text(plan, bus),
         node_name(plan, entry.next),
         or_dash(&address),
     ];
     row(alloc, node_name(plan, node), &cells)
-}
-
-fn bus_name_or_dash(plan: &Plan, bus: Option<usize>) -> &str
-    ensures { result.now ≡ bus_name_or_dash plan.now bus }
-{
-    match bus {
-        Some(bus) => bus_name(plan, bus),
-        None => "-",
-    }
 }

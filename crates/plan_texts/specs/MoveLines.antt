@@ -17,6 +17,7 @@ use Rattle.net_rules.specs.MoveFaults.{code_of_move}
 use Rattle.net_plan.specs.declared.plan.Plan.{Plan}
 use Rattle.net_tables.specs.Names.{node_name}
 use Rattle.plan_texts.specs.Lines.{number_or_dash, names_text, obstacle_text}
+use Rattle.plan_texts.specs.Pieces.{name_or_none}
 
 -- whose rule is broken: the code, the node's name, the entry and the endpoint ID
 abbrev pub move_fault_text : Plan → List ℕ → MoveFault → List ℕ
@@ -25,14 +26,9 @@ move_fault_text plan whose fault =
     ++ (codes " entry " ++ (number_or_dash fault.entry
     ++ (codes " eid " ++ (number_or_dash (eid_number fault.eid) ++ codes "\n"))))))))
 
--- the name of the node at an index, or a dash where no index is given
-abbrev pub name_of_some : Plan → Option ℕ → List ℕ
-name_of_some plan (Some node) = node_name plan node
-name_of_some plan None = codes "-"
-
 -- the plans differ in more than rows, at a node of the name
 abbrev pub difference_text : Plan → Option ℕ → List ℕ
-difference_text plan node = codes "fault M01 node " ++ (name_of_some plan node ++ codes " entry - eid -\n")
+difference_text plan node = codes "fault M01 node " ++ (name_or_none plan node ++ codes " entry - eid -\n")
 
 -- why the plans and the certificate are not accepted as a move, where nodes have their names in the plan; want of
 -- memory has no text

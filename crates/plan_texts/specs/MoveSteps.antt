@@ -12,7 +12,8 @@ use Rattle.net_rollout.specs.declared.change.Rollout.{Rollout}
 use Rattle.net_rollout.specs.declared.change.Rollout.TheVariants as way
 use Rattle.net_tables.specs.Names.{node_name}
 use Rattle.plan_texts.specs.Lines.{names_text}
-use Rattle.plan_texts.specs.MoveLines.{move_obstacle_text, name_of_some}
+use Rattle.plan_texts.specs.MoveLines.{move_obstacle_text}
+use Rattle.plan_texts.specs.Pieces.{name_or_none}
 
 -- the endpoint IDs of a part: the one, or the first and the last
 abbrev pub eids_text : ℕ → ℕ → List ℕ
@@ -21,7 +22,7 @@ eids_text first last = if nat_eq first last then decimal first else decimal firs
 -- the number of the step, the node, the endpoint IDs and the node to which the new rows send them
 abbrev pub part_text : Plan → ℕ → Part → List ℕ
 part_text plan number part = codes "step " ++ (decimal number ++ (codes " rows of " ++ (node_name plan part.node
-    ++ (codes ": " ++ (eids_text part.first.value part.last.value ++ (codes " by " ++ (name_of_some plan part.next
+    ++ (codes ": " ++ (eids_text part.first.value part.last.value ++ (codes " by " ++ (name_or_none plan part.next
     ++ codes "\n")))))))
 
 -- the number of the step, and the nodes

@@ -41,7 +41,7 @@ use std::alloc::{AllocError, Global};
 use std::fmt;
 pub use summaries::summary_lines;
 pub use walks::walk_text;
-pub use ways::{address_text, trace_lines};
+pub use ways::{address_text, bus_text, trace_lines};
 
 /// What is said where a certificate is at fault, and its plan has another.
 pub const REMEDY: &str =

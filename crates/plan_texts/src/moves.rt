@@ -1,10 +1,11 @@
 //! The lines that tell why two plans and a certificate are not accepted as a move, and why a move has no certificate.
 ghost use Rattle.std.specs.Prelude.{◌≡◌, Some, IfOk, string_bytes};
-ghost use Rattle.plan_texts.specs.MoveLines.{name_of_some, difference_text, move_fault_text, move_error_text, move_obstacle_text, old_obstacle_text, old_loop_text, mixed_loop_text, sides_text, side_word};
+ghost use Rattle.plan_texts.specs.MoveLines.{difference_text, move_fault_text, move_error_text, move_obstacle_text, old_obstacle_text, old_loop_text, mixed_loop_text, sides_text, side_word};
 
 pub mod steps;
 
 use super::{OrDash, names_after_spaces, obstacle_line};
+use crate::lookups::name_or_none;
 use mctp_transport::Eid;
 use net_plan::Plan;
 use net_rules::{CertifyError, MoveError, MoveFault, MoveObstacle, Side, fault_of_plan};
@@ -122,18 +123,8 @@ fn side_word(side: Side) -> &'static str
 fn difference_line(alloc: Global, before: &Plan, node: Option<usize>) -> Result<String, AllocError>
     ensures { IfOk result (λ line. string_bytes line ≡ difference_text before.now node) }
 {
-    let name = name_of_some(before, node);
+    let name = name_or_none(before, node);
     format!(in alloc; "fault M01 node {name} entry - eid -\n")
-}
-
-/// The name of the node at an index, or a dash where no index is given.
-pub fn name_of_some(plan: &Plan, node: Option<usize>) -> &str
-    ensures { result.now ≡ name_of_some plan.now node }
-{
-    match node {
-        Some(node) => node_name(plan, node),
-        None => "-",
-    }
 }
 
 /// The line of a fault; `whose` is a word for one of the plans and a space, or empty where the rule is of both.

@@ -4,7 +4,8 @@ ghost use Rattle.std.specs.List.{flat_map};
 ghost use Rattle.plan_texts.specs.MoveSteps.{change_text, eids_text, part_text, rollout_text, steps_text, switch_text};
 
 use super::super::names_after_spaces;
-use super::{move_obstacle_line, name_of_some};
+use super::move_obstacle_line;
+use crate::lookups::name_or_none;
 use net_plan::Plan;
 use net_rollout::{Change, Part, Rollout, Step};
 use net_tables::lookup::node_name;
@@ -92,7 +93,7 @@ fn part_line(alloc: Global, before: &Plan, number: usize, part: &Part) -> Result
 {
     let node = node_name(before, part.node);
     let eids = eids_text(alloc, part.first.value, part.last.value)?;
-    let next = name_of_some(before, part.next);
+    let next = name_or_none(before, part.next);
     format!(in alloc; "step {number} rows of {node}: {eids} by {next}\n")
 }
 
