@@ -2,7 +2,7 @@
 use net_plan::Kind;
 
 /// What an engineer says of a network.
-#[derive(Debug, Drop)]
+#[derive(Drop)]
 pub struct Board {
     /// The transmission unit in bytes, 64 to 1024.
     pub unit: u16,
@@ -12,7 +12,7 @@ pub struct Board {
 }
 
 /// A bus.
-#[derive(Debug, Drop)]
+#[derive(Drop)]
 pub struct BoardBus {
     pub name: String,
     pub binding: u8,
@@ -20,7 +20,7 @@ pub struct BoardBus {
 }
 
 /// A node, with what is given of it. Nodes are named by their indices.
-#[derive(Debug, Drop)]
+#[derive(Drop)]
 pub struct BoardNode {
     pub name: String,
     pub kind: Option<Kind>,
@@ -37,7 +37,7 @@ pub struct BoardNode {
 }
 
 /// A pool.
-#[derive(Clone, Copy, Debug, PartialEq, Eq)]
+#[derive(Clone, Copy)]
 pub enum BoardPool {
     /// These endpoint IDs.
     Range { first: u8, size: u8 },
@@ -46,14 +46,14 @@ pub enum BoardPool {
 }
 
 /// A port: the index of its bus, and its address in hex.
-#[derive(Debug, Drop)]
+#[derive(Drop)]
 pub struct BoardPort {
     pub bus: usize,
     pub address: String,
 }
 
 /// A row. Rows are in order by their next nodes, then by their endpoint IDs.
-#[derive(Clone, Copy, Debug, PartialEq, Eq, PartialOrd, Ord)]
+#[derive(Clone, Copy, PartialEq, Eq, PartialOrd, Ord)]
 pub struct BoardRow {
     /// The index of the next node.
     pub next: usize,
@@ -65,7 +65,7 @@ pub struct BoardRow {
 }
 
 /// A record.
-#[derive(Debug, Drop)]
+#[derive(Drop)]
 pub struct BoardRecord {
     pub handle: Option<u32>,
     pub next: Option<u32>,
@@ -73,7 +73,7 @@ pub struct BoardRecord {
 }
 
 /// What a record holds.
-#[derive(Debug, Drop)]
+#[derive(Drop)]
 pub enum RecordContent {
     /// These bytes, in hex.
     Hex(String),
@@ -84,14 +84,14 @@ pub enum RecordContent {
 }
 
 /// A field of a record.
-#[derive(Debug, Drop)]
+#[derive(Drop)]
 pub struct FieldWord {
     pub name: String,
     pub text: FieldText,
 }
 
 /// What a field holds.
-#[derive(Debug, Drop)]
+#[derive(Drop)]
 pub enum FieldText {
     Text(String),
     /// The endpoint ID of the node at an index.
@@ -99,7 +99,7 @@ pub enum FieldText {
 }
 
 /// A file that records of a board name, and its bytes.
-#[derive(Debug, Drop)]
+#[derive(Drop)]
 pub struct RecordFile {
     pub name: String,
     pub bytes: Vec<u8>,

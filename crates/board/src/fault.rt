@@ -2,7 +2,7 @@
 use std::alloc::{AllocError, AllocFailed};
 
 /// Why a text is no board.
-#[derive(Debug, Drop)]
+#[derive(Drop)]
 pub enum BoardError {
     /// The text says at a line and a column, both from 1, what can't stand there.
     Unread {

@@ -11,7 +11,10 @@ pub struct Given<'v> {
     pub alloc: Global,
     pub text: &'v str,
     pub table: &'v Table,
-    pub place: Place<'v>,
+    /// The list of tables that it stands in, and its index there; none at the top.
+    pub within: Option<(&'static str, usize)>,
+    /// The index of a record of the node.
+    pub record: Option<usize>,
 }
 
 impl<'v> Given<'v> {
@@ -51,8 +54,9 @@ impl<'v> Given<'v> {
         name: &str,
         known: &[&str],
     ) -> Result<String, AllocError> {
+        let near = nearest_of(self.alloc, name, known)?;
         let reason = self.reason(key, item, wanted)?;
-        match nearest_of(self.alloc, name, known)? {
+        match near {
             Some(near) => format!(in self.alloc; "{reason}, as \"{near}\""),
             None => Ok(reason),
         }
@@ -60,8 +64,8 @@ impl<'v> Given<'v> {
 
     fn fault_of(&self, key: &str, item: Option<usize>, reason: String) -> BoardError {
         let place = Place {
-            table: self.place.table,
-            record: self.place.record,
+            table: self.within,
+            record: self.record,
             key,
             item,
         };
@@ -113,9 +117,15 @@ impl<'v> Given<'v> {
         }
     }
 
-    /// The byte at a key, if anything stands there.
-    pub fn byte(&self, key: &str, wanted: &str) -> Result<Option<u8>, BoardError> {
-        match self.number(key, 0, 255, wanted)? {
+    /// The byte at a key, if anything stands there, from the least to the most.
+    pub fn byte(
+        &self,
+        key: &str,
+        least: i64,
+        most: i64,
+        wanted: &str,
+    ) -> Result<Option<u8>, BoardError> {
+        match self.number(key, least, most, wanted)? {
             Some(number) => Ok(u8::try_from(number).ok()),
             None => Ok(None),
         }
@@ -161,7 +171,8 @@ pub fn nearest_of<'n>(
     }
 }
 
-fn is_among(known: &[&'static str], key: &str) -> bool {
+/// Whether a key is one of these.
+pub fn is_among(known: &[&'static str], key: &str) -> bool {
     for name in known {
         if *name == key {
             return true;
@@ -180,20 +191,21 @@ fn found_at(value: Option<&Value>, item: Option<usize>) -> Option<&Value> {
 
 /// What stands somewhere, in words.
 fn found_text(alloc: Global, value: Option<&Value>) -> Result<String, AllocError> {
-    match value {
-        None => "nothing".to_string(alloc),
+    let words = match value {
+        None => "nothing",
         Some(Value::String(text)) => {
             let text = text.as_str();
-            format!(in alloc; "\"{text}\"")
+            return format!(in alloc; "\"{text}\"");
         }
         Some(Value::Integer(number)) => {
             let number = *number;
-            format!(in alloc; "{number}")
+            return format!(in alloc; "{number}");
         }
-        Some(Value::Table(_)) => "a table".to_string(alloc),
-        Some(Value::Array(_)) => "a list".to_string(alloc),
-        Some(Value::Boolean(_)) => "true or false".to_string(alloc),
-        Some(Value::Float(_)) => "a number with a fraction".to_string(alloc),
-        Some(Value::Datetime(_)) => "a date".to_string(alloc),
-    }
+        Some(Value::Table(_)) => "a table",
+        Some(Value::Array(_)) => "a list",
+        Some(Value::Boolean(_)) => "true or false",
+        Some(Value::Float(_)) => "a number with a fraction",
+        Some(Value::Datetime(_)) => "a date",
+    };
+    words.to_string(alloc)
 }

@@ -31,16 +31,15 @@ fn bus_of(alloc: Global, bus: &Bus) -> Result<BoardBus, AllocError> {
 }
 
 fn node_of(alloc: Global, node: &Node) -> Result<BoardNode, AllocError> {
-    let name = node.name.text.as_str().to_string(alloc)?;
     let ports = ports_of(alloc, &node.ports)?;
     let rows = rows_of(alloc, &node.rows)?;
     let records = records_of(alloc, node)?;
     Ok(BoardNode {
-        name,
+        name: node.name.text.as_str().to_string(alloc)?,
         kind: Some(node.kind),
         eid: Some(node.eid.value),
         owner: node.owner,
-        pool: node.pool.map(|pool| pool_of(pool)),
+        pool: node.pool.map(pool_of),
         ports,
         reaches: None,
         rows,

@@ -62,7 +62,7 @@ fn is_address(text: &str) -> bool {
 
 /// Whether a text is hex, in lower-case letters.
 pub fn is_lower_hex(text: &str) -> bool {
-    text.len() % 2 == 0 && text.bytes().all(|byte| is_hex_digit(byte))
+    text.len() % 2 == 0 && text.bytes().all(is_hex_digit)
 }
 
 fn is_hex_digit(byte: u8) -> bool {

@@ -11,11 +11,11 @@ use eids::choose_eids;
 use net_plan::Kind;
 use records::make_records;
 pub use records::named_files;
-use rows::make_rows;
+use rows::{given_rows, make_rows};
 use std::alloc::{AllocError, AllocFailed, Global};
 
 /// Why no plan is made of a board. Nodes are named by their indices.
-#[derive(Clone, Copy, Debug, PartialEq, Eq)]
+#[derive(Clone, Copy)]
 pub enum NoPlan {
     /// The node's owners go round in a circle, and something is to be chosen for a node of which that is so.
     OwnerLoop {
@@ -63,14 +63,14 @@ impl<T: Drop> From<AllocFailed<T>> for NoPlan {
 }
 
 /// A pool: its first endpoint ID, and how many it has.
-#[derive(Clone, Copy, Debug, PartialEq, Eq)]
+#[derive(Clone, Copy)]
 pub struct MadePool {
     pub first: u8,
     pub size: u8,
 }
 
 /// What is chosen for a node.
-#[derive(Clone, Copy, Debug, PartialEq, Eq)]
+#[derive(Clone, Copy)]
 pub struct Chosen {
     pub kind: Kind,
     pub eid: u8,
@@ -78,7 +78,7 @@ pub struct Chosen {
 }
 
 /// A record with its handles and its bytes in hex.
-#[derive(Debug, Drop)]
+#[derive(Drop)]
 pub struct MadeRecord {
     pub handle: u32,
     pub next: u32,
@@ -86,7 +86,7 @@ pub struct MadeRecord {
 }
 
 /// What was made of a board.
-#[derive(Debug, Drop)]
+#[derive(Drop)]
 pub struct Made {
     /// The text of a plan.
     pub text: String,
@@ -95,7 +95,7 @@ pub struct Made {
 }
 
 /// Two nodes between which no way was found. They are named by their indices.
-#[derive(Clone, Copy, Debug, PartialEq, Eq)]
+#[derive(Clone, Copy)]
 pub struct Cut {
     pub from: usize,
     pub to: usize,
@@ -113,6 +113,14 @@ pub fn made_plan(alloc: Global, board: &Board, files: &[RecordFile]) -> Result<M
     })
 }
 
+/// The text of a plan that a board gives as a whole, with the rows that it gives and no others.
+pub fn given_plan(alloc: Global, board: &Board) -> Result<String, NoPlan> {
+    let chosen = choose_eids(alloc, board)?;
+    let rows = given_rows(alloc, board)?;
+    let records = make_records(alloc, board, &[], &chosen)?;
+    Ok(plan_text(alloc, board, &chosen, &rows, &records)?)
+}
+
 /// Whether the node is a bridge: where the board doesn't say, one that has a pool, owns a node, or has rows and ports on
 /// two buses.
 pub fn kind_of(board: &Board, index: usize, node: &BoardNode) -> Kind {
@@ -128,15 +136,21 @@ pub fn kind_of(board: &Board, index: usize, node: &BoardNode) -> Kind {
 }
 
 fn owns_some(board: &Board, index: usize) -> bool {
-    board.nodes.iter().any(|other| other.owner == Some(index))
+    for other in &board.nodes {
+        if other.owner == Some(index) {
+            return true;
+        }
+    }
+    false
 }
 
 fn is_on_two_buses(node: &BoardNode) -> bool {
-    let Some(first) = node.ports.first() else {
-        return false;
-    };
-    let bus = first.bus;
-    node.ports.iter().any(|port| port.bus != bus)
+    for port in &node.ports {
+        if port.bus != node.ports[0].bus {
+            return true;
+        }
+    }
+    false
 }
 
 /// A row that the board gives at a node for an endpoint ID.

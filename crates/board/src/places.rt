@@ -1,7 +1,7 @@
 //! Where something stands in the text of a board.
 
 /// Where a value stands: in a table of a list of tables, or of one inside it, at a key and an index of the list there.
-#[derive(Clone, Copy, Debug)]
+#[derive(Clone, Copy)]
 pub struct Place<'a> {
     /// `bus` or `node`, and the index of the table; none at the top.
     pub table: Option<(&'static str, usize)>,

@@ -3,7 +3,6 @@ use crate::board::{Board, BoardBus, BoardNode, BoardPool, BoardPort, BoardRow};
 use crate::fault::BoardError;
 use crate::given::{Given, nearest_of};
 use crate::items::{index_of, read_eids, read_port, read_row};
-use crate::places::Place;
 use crate::record_words::read_records;
 use net_plan::{Kind, is_name};
 use std::alloc::{AllocError, Global};
@@ -30,12 +29,8 @@ pub fn read_board<'v>(alloc: Global, text: &'v str, table: &'v Table) -> Result<
         alloc,
         text,
         table,
-        place: Place {
-            table: None,
-            record: None,
-            key: "",
-            item: None,
-        },
+        within: None,
+        record: None,
     };
     top.check_keys(&["unit", "bus", "node"], "only unit, bus or node")?;
     let unit = read_unit(&top)?;
@@ -47,11 +42,20 @@ pub fn read_board<'v>(alloc: Global, text: &'v str, table: &'v Table) -> Result<
         buses: buses.as_slice(),
         nodes: nodes.as_slice(),
     };
-    Ok(Board {
-        unit,
-        buses: read_buses(&top, bus_values)?,
-        nodes: read_nodes(&top, node_values, names)?,
-    })
+    read_parts(&top, unit, bus_values, node_values, names)
+}
+
+/// The board of these buses and nodes, which have these names.
+fn read_parts(
+    top: &Given,
+    unit: u16,
+    buses: &[Value],
+    nodes: &[Value],
+    names: Names,
+) -> Result<Board, BoardError> {
+    let buses = read_buses(top, buses)?;
+    let nodes = read_nodes(top, nodes, names)?;
+    Ok(Board { unit, buses, nodes })
 }
 
 /// The names of buses and of nodes, in their order.
@@ -62,8 +66,7 @@ pub struct Names<'n, 'v> {
 }
 
 fn read_unit(top: &Given) -> Result<u16, BoardError> {
-    let unit = top.number("unit", 64, 1024, "a number from 64 to 1024")?;
-    match unit {
+    match top.number("unit", 64, 1024, "a number from 64 to 1024")? {
         Some(unit) => Ok(u16::try_from(unit).unwrap_or(64)),
         None => Ok(64),
     }
@@ -81,12 +84,8 @@ fn table_at<'v>(
             alloc: top.alloc,
             text: top.text,
             table,
-            place: Place {
-                table: Some((list, index)),
-                record: None,
-                key: "",
-                item: None,
-            },
+            within: Some((list, index)),
+            record: None,
         }),
         _ => Err(top.fault(list, Some(index), "a table")),
     }
@@ -100,14 +99,18 @@ fn names_of<'v>(
 ) -> Result<Vec<&'v str>, BoardError> {
     let mut names = Vec::new(top.alloc);
     for (index, value) in values.iter().enumerate() {
-        let given = table_at(top, list, index, value)?;
-        let name = read_name(&given)?;
-        if index_of(&names, name).is_some() {
-            return Err(given.fault("name", None, "a name that no earlier table of the list has"));
-        }
+        let name = read_new_name(&table_at(top, list, index, value)?, &names)?;
         names.push(name)?;
     }
     Ok(names)
+}
+
+fn read_new_name<'v>(given: &Given<'v>, names: &[&str]) -> Result<&'v str, BoardError> {
+    let name = read_name(given)?;
+    if index_of(names, name).is_some() {
+        return Err(given.fault("name", None, "a name that no earlier table of the list has"));
+    }
+    Ok(name)
 }
 
 fn read_name<'v>(given: &Given<'v>) -> Result<&'v str, BoardError> {
@@ -121,21 +124,20 @@ fn read_name<'v>(given: &Given<'v>) -> Result<&'v str, BoardError> {
 fn read_buses<'v>(top: &Given<'v>, values: &'v [Value]) -> Result<Vec<BoardBus>, BoardError> {
     let mut buses = Vec::new(top.alloc);
     for (index, value) in values.iter().enumerate() {
-        let given = table_at(top, "bus", index, value)?;
-        buses.push(read_bus(&given)?)?;
+        buses.push(read_bus(&table_at(top, "bus", index, value)?)?)?;
     }
     Ok(buses)
 }
 
 fn read_bus(given: &Given) -> Result<BoardBus, BoardError> {
     given.check_keys(&["name", "binding", "media"], "only name, binding or media")?;
-    let name = read_name(given)?.to_string(given.alloc)?;
+    let name = read_name(given)?;
     let binding = read_binding(given)?;
-    let media = given.byte("media", "a number from 0 to 255")?.unwrap_or(0);
+    let media = given.byte("media", 0, 255, "a number from 0 to 255")?;
     Ok(BoardBus {
-        name,
+        name: name.to_string(given.alloc)?,
         binding,
-        media,
+        media: media.unwrap_or(0),
     })
 }
 
@@ -153,7 +155,7 @@ fn read_binding(given: &Given) -> Result<u8, BoardError> {
             _ => Err(given.fault("binding", None, wanted)),
         };
     }
-    match given.byte("binding", wanted)? {
+    match given.byte("binding", 0, 255, wanted)? {
         Some(number) => Ok(number),
         None => Err(given.fault("binding", None, wanted)),
     }
@@ -166,36 +168,49 @@ fn read_nodes<'v>(
 ) -> Result<Vec<BoardNode>, BoardError> {
     let mut nodes = Vec::new(top.alloc);
     for (index, value) in values.iter().enumerate() {
-        let given = table_at(top, "node", index, value)?;
-        nodes.push(read_node(&given, names)?)?;
+        nodes.push(read_node(&table_at(top, "node", index, value)?, names)?)?;
     }
     Ok(nodes)
 }
 
 fn read_node(given: &Given, names: Names) -> Result<BoardNode, BoardError> {
     check_node_keys(given)?;
-    let name = read_name(given)?.to_string(given.alloc)?;
-    let kind = read_kind(given)?;
-    let eid = read_eid(given)?;
-    let owner = read_owner(given, names)?;
-    let pool = read_pool(given)?;
-    let ports = read_ports(given, names)?;
-    let reaches = read_reaches(given, names)?;
-    let rows = read_rows(given, names)?;
-    let tid = read_tid(given)?;
-    let records = read_records(given, names)?;
+    let mut node = node_of_name(given, read_name(given)?)?;
+    read_choices(given, names, &mut node)?;
+    read_lists(given, names, &mut node)?;
+    Ok(node)
+}
+
+/// A node of which nothing is given but its name.
+fn node_of_name(given: &Given, name: &str) -> Result<BoardNode, BoardError> {
     Ok(BoardNode {
-        name,
-        kind,
-        eid,
-        owner,
-        pool,
-        ports,
-        reaches,
-        rows,
-        tid,
-        records,
+        name: name.to_string(given.alloc)?,
+        kind: None,
+        eid: None,
+        owner: None,
+        pool: None,
+        ports: Vec::new(given.alloc),
+        reaches: None,
+        rows: Vec::new(given.alloc),
+        tid: None,
+        records: Vec::new(given.alloc),
     })
+}
+
+fn read_choices(given: &Given, names: Names, node: &mut BoardNode) -> Result<(), BoardError> {
+    node.kind = read_kind(given)?;
+    node.eid = given.byte("eid", 8, 254, "a number from 8 to 254")?;
+    node.owner = read_owner(given, names)?;
+    node.pool = read_pool(given)?;
+    Ok(())
+}
+
+fn read_lists(given: &Given, names: Names, node: &mut BoardNode) -> Result<(), BoardError> {
+    read_ports(given, names, &mut node.ports)?;
+    node.reaches = read_reaches(given, names)?;
+    read_rows(given, names, &mut node.rows)?;
+    node.tid = given.byte("tid", 0, 254, "a number from 0 to 254")?;
+    read_records(given, names, &mut node.records)
 }
 
 fn check_node_keys(given: &Given) -> Result<(), BoardError> {
@@ -214,13 +229,6 @@ fn read_kind(given: &Given) -> Result<Option<Kind>, BoardError> {
         Some("bridge") => Ok(Some(Kind::Bridge)),
         Some("endpoint") => Ok(Some(Kind::Endpoint)),
         Some(_) => Err(given.fault("kind", None, wanted)),
-    }
-}
-
-fn read_eid(given: &Given) -> Result<Option<u8>, BoardError> {
-    match given.number("eid", 8, 254, "a number from 8 to 254")? {
-        Some(eid) => Ok(u8::try_from(eid).ok()),
-        None => Ok(None),
     }
 }
 
@@ -246,14 +254,6 @@ fn read_pool(given: &Given) -> Result<Option<BoardPool>, BoardError> {
     }
 }
 
-fn read_tid(given: &Given) -> Result<Option<u8>, BoardError> {
-    let wanted = "a number from 0 to 254";
-    match given.number("tid", 0, 254, wanted)? {
-        Some(tid) => Ok(u8::try_from(tid).ok()),
-        None => Ok(None),
-    }
-}
-
 /// The text at an index of a list.
 fn text_in<'v>(
     given: &Given,
@@ -268,16 +268,12 @@ fn text_in<'v>(
     }
 }
 
-fn read_ports(given: &Given, names: Names) -> Result<Vec<BoardPort>, BoardError> {
-    let mut ports = Vec::new(given.alloc);
-    for (index, value) in given
-        .list("ports", 32, "a list of at most 32 ports")?
-        .iter()
-        .enumerate()
-    {
+fn read_ports(given: &Given, names: Names, ports: &mut Vec<BoardPort>) -> Result<(), BoardError> {
+    let values = given.list("ports", 32, "a list of at most 32 ports")?;
+    for (index, value) in values.iter().enumerate() {
         ports.push(read_one_port(given, names, index, value)?)?;
     }
-    Ok(ports)
+    Ok(())
 }
 
 fn read_one_port(
@@ -320,12 +316,9 @@ fn read_reaches(given: &Given, names: Names) -> Result<Option<Vec<usize>>, Board
     if given.value("reaches").is_none() {
         return Ok(None);
     }
+    let values = given.list("reaches", MOST, "a list of names")?;
     let mut nodes = Vec::new(given.alloc);
-    for (index, value) in given
-        .list("reaches", MOST, "a list of names")?
-        .iter()
-        .enumerate()
-    {
+    for (index, value) in values.iter().enumerate() {
         nodes.push(read_one_node(given, names, index, value)?)?;
     }
     Ok(Some(nodes))
@@ -344,16 +337,12 @@ fn read_one_node(
     }
 }
 
-fn read_rows(given: &Given, names: Names) -> Result<Vec<BoardRow>, BoardError> {
-    let mut rows = Vec::new(given.alloc);
-    for (index, value) in given
-        .list("rows", 256, "a list of at most 256 rows")?
-        .iter()
-        .enumerate()
-    {
+fn read_rows(given: &Given, names: Names, rows: &mut Vec<BoardRow>) -> Result<(), BoardError> {
+    let values = given.list("rows", 256, "a list of at most 256 rows")?;
+    for (index, value) in values.iter().enumerate() {
         rows.push(read_one_row(given, names, index, value)?)?;
     }
-    Ok(rows)
+    Ok(())
 }
 
 fn read_one_row(

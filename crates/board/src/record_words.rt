@@ -1,11 +1,10 @@
 //! Reading records from a board: bytes in hex, or the fields of a record by their names.
 use crate::board::{BoardRecord, FieldText, FieldWord, RecordContent};
 use crate::fault::BoardError;
-use crate::given::Given;
+use crate::given::{Given, is_among};
 use crate::items::{index_of, is_lower_hex};
-use crate::places::Place;
 use crate::reading::Names;
-use std::alloc::Global;
+use std::slice::from_ref;
 use toml::Value;
 
 /// The most records of a terminus.
@@ -16,24 +15,34 @@ const MOST_VALUES: usize = 256;
 
 const RECORDS: &str = "a list of at most 4096 tables, each under [[node.record]],";
 
+const TYPES: &[&str] = &[
+    "terminus-locator",
+    "numeric-sensor",
+    "state-sensor",
+    "entity-association",
+];
+
 const A_TYPE: &str =
     "\"terminus-locator\", \"numeric-sensor\", \"state-sensor\" or \"entity-association\"";
+
+/// The keys of a record that are none of its fields. The handle is a field too, and is added later.
+const OWN_KEYS: &[&str] = &["type", "next", "handle"];
 
 const A_FILE: &str = "the path of a file, seen from the board's folder,";
 
 const A_FIELD: &str = "a number, a text or a list of these";
 
 /// The records of a node.
-pub fn read_records(given: &Given, names: Names) -> Result<Vec<BoardRecord>, BoardError> {
-    let mut records = Vec::new(given.alloc);
-    for (index, value) in given
-        .list("record", MOST_RECORDS, RECORDS)?
-        .iter()
-        .enumerate()
-    {
+pub fn read_records(
+    given: &Given,
+    names: Names,
+    records: &mut Vec<BoardRecord>,
+) -> Result<(), BoardError> {
+    let values = given.list("record", MOST_RECORDS, RECORDS)?;
+    for (index, value) in values.iter().enumerate() {
         records.push(read_record_at(given, names, index, value)?)?;
     }
-    Ok(records)
+    Ok(())
 }
 
 fn read_record_at<'v>(
@@ -49,12 +58,8 @@ fn read_record_at<'v>(
         alloc: given.alloc,
         text: given.text,
         table,
-        place: Place {
-            table: given.place.table,
-            record: Some(index),
-            key: "",
-            item: None,
-        },
+        within: given.within,
+        record: Some(index),
     };
     read_record(&inner, names)
 }
@@ -62,15 +67,21 @@ fn read_record_at<'v>(
 fn read_record(given: &Given, names: Names) -> Result<BoardRecord, BoardError> {
     let handle = given.word("handle", "a number from 1 to 4294967295")?;
     let next = given.word("next", "a number from 0 to 4294967295")?;
-    let content = match given.text("hex", "bytes in lower-case hex")? {
-        Some(hex) => read_hex(given, hex)?,
-        None => read_file_or_fields(given, names)?,
-    };
     Ok(BoardRecord {
         handle,
         next,
-        content,
+        content: read_content(given, names)?,
     })
+}
+
+fn read_content(given: &Given, names: Names) -> Result<RecordContent, BoardError> {
+    if let Some(hex) = given.text("hex", "bytes in lower-case hex")? {
+        return read_hex(given, hex);
+    }
+    match given.text("file", A_FILE)? {
+        Some(file) => read_file(given, file),
+        None => read_fields(given, names),
+    }
 }
 
 fn read_hex(given: &Given, hex: &str) -> Result<RecordContent, BoardError> {
@@ -81,19 +92,12 @@ fn read_hex(given: &Given, hex: &str) -> Result<RecordContent, BoardError> {
     Ok(RecordContent::Hex(hex.to_string(given.alloc)?))
 }
 
-fn read_file_or_fields(given: &Given, names: Names) -> Result<RecordContent, BoardError> {
-    match given.text("file", A_FILE)? {
-        Some(file) => read_file(given, file),
-        None => read_fields(given, names),
-    }
-}
-
 fn read_file(given: &Given, file: &str) -> Result<RecordContent, BoardError> {
     given.check_keys(
         &["handle", "next", "file"],
         "beside file only handle or next",
     )?;
-    if file.is_empty() || file.bytes().any(|byte| byte == 0) {
+    if file.is_empty() || file.as_bytes().contains(&0) {
         return Err(given.fault("file", None, A_FILE));
     }
     Ok(RecordContent::File(file.to_string(given.alloc)?))
@@ -101,11 +105,7 @@ fn read_file(given: &Given, file: &str) -> Result<RecordContent, BoardError> {
 
 fn read_fields(given: &Given, names: Names) -> Result<RecordContent, BoardError> {
     let kind = given.needed_text("type", A_TYPE)?;
-    let is_known = matches!(
-        kind,
-        "terminus-locator" | "numeric-sensor" | "state-sensor" | "entity-association"
-    );
-    if !is_known {
+    if !is_among(TYPES, kind) {
         return Err(given.fault("type", None, A_TYPE));
     }
     Ok(RecordContent::Fields {
@@ -117,16 +117,11 @@ fn read_fields(given: &Given, names: Names) -> Result<RecordContent, BoardError>
 fn read_words(given: &Given, names: Names) -> Result<Vec<FieldWord>, BoardError> {
     let mut words = Vec::new(given.alloc);
     for (name, value) in given.table.iter() {
-        if !is_own_key(name.as_str()) {
+        if !is_among(OWN_KEYS, name.as_str()) {
             add_words(&mut words, given, names, name.as_str(), value)?;
         }
     }
     Ok(words)
-}
-
-/// Whether a key of a record is none of its fields. The handle is a field too, and is added later.
-fn is_own_key(key: &str) -> bool {
-    matches!(key, "type" | "next" | "handle")
 }
 
 fn add_words(
@@ -136,9 +131,9 @@ fn add_words(
     name: &str,
     value: &Value,
 ) -> Result<(), BoardError> {
-    let Value::Array(values) = value else {
-        words.push(read_word(given, names, name, value)?)?;
-        return Ok(());
+    let values = match value {
+        Value::Array(values) => values.as_slice(),
+        one => from_ref(one),
     };
     if values.len() > MOST_VALUES {
         return Err(given.fault(name, None, "a list of at most 256 values"));
@@ -156,10 +151,8 @@ fn read_word(
     value: &Value,
 ) -> Result<FieldWord, BoardError> {
     let text = match value {
-        Value::Integer(number) => FieldText::Text(text_of(given.alloc, *number)?),
         Value::String(said) if name == "eid" => read_eid(given, names, said.as_str())?,
-        Value::String(said) => FieldText::Text(said.as_str().to_string(given.alloc)?),
-        _ => return Err(given.fault(name, None, A_FIELD)),
+        _ => FieldText::Text(read_text(given, name, value)?),
     };
     Ok(FieldWord {
         name: name.to_string(given.alloc)?,
@@ -167,8 +160,15 @@ fn read_word(
     })
 }
 
-fn text_of(alloc: Global, number: i64) -> Result<String, BoardError> {
-    Ok(format!(in alloc; "{number}")?)
+fn read_text(given: &Given, name: &str, value: &Value) -> Result<String, BoardError> {
+    match value {
+        Value::Integer(number) => {
+            let number = *number;
+            Ok(format!(in given.alloc; "{number}")?)
+        }
+        Value::String(said) => Ok(said.as_str().to_string(given.alloc)?),
+        _ => Err(given.fault(name, None, A_FIELD)),
+    }
 }
 
 /// The node whose endpoint ID a field holds.

@@ -1,7 +1,7 @@
 //! Choosing endpoint IDs and pools.
 use super::pools::choose_pool;
 use super::{Chosen, MadePool, NoPlan, covers, kind_of};
-use crate::board::{Board, BoardPool};
+use crate::board::{Board, BoardNode, BoardPool};
 use std::alloc::Global;
 
 /// The first endpoint ID that can be assigned, and the last.
@@ -22,8 +22,8 @@ pub struct Known {
 /// nodes that they own.
 pub fn choose_eids(alloc: Global, board: &Board) -> Result<Vec<Chosen>, NoPlan> {
     let mut known = Vec::new(alloc);
-    for index in 0..board.nodes.len() {
-        known.push(given_of(board, index))?;
+    for (index, node) in board.nodes.iter().enumerate() {
+        known.push(given_of(board, index, node))?;
     }
     for level in 0..board.nodes.len() {
         choose_level(board, &mut known, level)?;
@@ -55,34 +55,27 @@ pub fn known_at(known: &[Known], index: usize) -> Known {
 }
 
 /// What the board gives of a node.
-fn given_of(board: &Board, index: usize) -> Known {
-    let pool = match pool_at(board, index) {
+fn given_of(board: &Board, index: usize, node: &BoardNode) -> Known {
+    let pool = match node.pool {
         Some(BoardPool::Range { first, size }) => Some(MadePool { first, size }),
         _ => None,
     };
     Known {
-        eid: eid_at(board, index),
+        eid: node.eid,
         pool,
         level: level_of(board, index),
     }
-}
-
-fn eid_at(board: &Board, index: usize) -> Option<u8> {
-    board.nodes.get(index)?.eid
-}
-
-fn pool_at(board: &Board, index: usize) -> Option<BoardPool> {
-    board.nodes.get(index)?.pool
 }
 
 /// The first node whose owners go round in a circle, where something is to be chosen for one of these.
 fn first_unchosen(board: &Board, known: &[Known]) -> Option<usize> {
     let mut first = None;
     let mut are_some = false;
-    for (index, own) in known.iter().enumerate() {
+    for (index, node) in board.nodes.iter().enumerate() {
+        let own = known_at(known, index);
         if own.level == board.nodes.len() {
             first = first.or(Some(index));
-            let is_pool_left = own.pool.is_none() && pool_at(board, index).is_some();
+            let is_pool_left = own.pool.is_none() && node.pool.is_some();
             are_some = are_some || own.eid.is_none() || is_pool_left;
         }
     }
@@ -113,9 +106,9 @@ fn choose_level(board: &Board, known: &mut Vec<Known>, level: usize) -> Result<(
             choose_eid(board, known, index)?;
         }
     }
-    for index in 0..board.nodes.len() {
+    for (index, node) in board.nodes.iter().enumerate() {
         if known_at(known, index).level == level {
-            choose_pool(board, known, index)?;
+            choose_pool(board, known, index, node.pool)?;
         }
     }
     Ok(())
@@ -161,7 +154,12 @@ pub fn last_of(pool: MadePool) -> u8 {
 }
 
 fn is_held(known: &[Known], eid: u8) -> bool {
-    known.iter().any(|other| other.eid == Some(eid))
+    for other in known {
+        if other.eid == Some(eid) {
+            return true;
+        }
+    }
+    false
 }
 
 /// Whether an endpoint ID is in the pool of a node of the same owner.

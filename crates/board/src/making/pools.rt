@@ -4,11 +4,13 @@ use super::{MadePool, NoPlan, covers};
 use crate::board::{Board, BoardPool};
 
 /// Chooses a node's pool, where the board gives its size alone.
-pub fn choose_pool(board: &Board, known: &mut Vec<Known>, index: usize) -> Result<(), NoPlan> {
-    let Some(node) = board.nodes.get(index) else {
-        return Ok(());
-    };
-    let Some(BoardPool::Size(size)) = node.pool else {
+pub fn choose_pool(
+    board: &Board,
+    known: &mut Vec<Known>,
+    index: usize,
+    given: Option<BoardPool>,
+) -> Result<(), NoPlan> {
+    let Some(BoardPool::Size(size)) = given else {
         return Ok(());
     };
     let pool = free_run(board, known, index, size)?;

@@ -34,15 +34,11 @@ fn records_of(
             None => following(&node.records, place),
         };
         let handle = handle_of(record, place);
-        let hex = match bytes_of(alloc, files, chosen, record, handle)? {
-            Some(hex) => hex,
-            None => {
-                return Err(NoPlan::WrongRecord {
-                    node: index,
-                    record: place,
-                });
-            }
+        let wrong = NoPlan::WrongRecord {
+            node: index,
+            record: place,
         };
+        let hex = bytes_of(alloc, files, chosen, record, handle, wrong)?;
         records.push(MadeRecord { handle, next, hex })?;
     }
     Ok(records)
@@ -64,26 +60,27 @@ fn handle_of(record: &BoardRecord, place: usize) -> u32 {
     }
 }
 
-/// The bytes of a record in hex; none where its fields are not those of its type, or its file was not given.
+/// The bytes of a record in hex, or what is wrong where its fields are not those of its type, or its file was not given.
 fn bytes_of(
     alloc: Global,
     files: &[RecordFile],
     chosen: &[Chosen],
     record: &BoardRecord,
     handle: u32,
-) -> Result<Option<String>, AllocError> {
+    wrong: NoPlan,
+) -> Result<String, NoPlan> {
     match &record.content {
-        RecordContent::Hex(hex) => Ok(Some(hex.clone()?)),
+        RecordContent::Hex(hex) => Ok(hex.clone()?),
         RecordContent::File(name) => match file_named(files, name.as_str()) {
-            Some(file) => Ok(Some(hex::encode(alloc, &file.bytes)?)),
-            None => Ok(None),
+            Some(file) => Ok(hex::encode(alloc, &file.bytes)?),
+            None => Err(wrong),
         },
         RecordContent::Fields { kind, words } => {
             let words = words_of(alloc, chosen, words, handle)?;
             match made_record(alloc, kind.as_str(), &words) {
-                Ok(bytes) => Ok(Some(hex::encode(alloc, &bytes)?)),
-                Err(MakeError::Wrong) => Ok(None),
-                Err(MakeError::OutOfMemory) => Err(AllocError),
+                Ok(bytes) => Ok(hex::encode(alloc, &bytes)?),
+                Err(MakeError::Wrong) => Err(wrong),
+                Err(MakeError::OutOfMemory) => Err(NoPlan::OutOfMemory),
             }
         }
     }

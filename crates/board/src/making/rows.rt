@@ -32,14 +32,12 @@ pub fn make_rows(alloc: Global, board: &Board, chosen: &[Chosen]) -> Result<Made
             last = Some(ways);
         }
     }
-    for node in 0..rows.len() {
-        sort_rows(&mut rows, node)?;
-    }
+    sort_all(&mut rows)?;
     Ok(MadeRows { rows, cut })
 }
 
 /// The rows that the board gives.
-fn given_rows(alloc: Global, board: &Board) -> Result<Vec<Vec<BoardRow>>, AllocError> {
+pub fn given_rows(alloc: Global, board: &Board) -> Result<Vec<Vec<BoardRow>>, AllocError> {
     let mut rows = Vec::new(alloc);
     for node in &board.nodes {
         rows.push(node.rows.clone()?)?;
@@ -47,13 +45,12 @@ fn given_rows(alloc: Global, board: &Board) -> Result<Vec<Vec<BoardRow>>, AllocE
     Ok(rows)
 }
 
-fn sort_rows(rows: &mut Vec<Vec<BoardRow>>, node: usize) -> Result<(), NoPlan> {
-    if node >= rows.len() {
-        return Ok(());
-    }
-    rows[node].sort()?;
-    if rows[node].len() > MOST_ROWS {
-        return Err(NoPlan::TooManyRows { node });
+fn sort_all(rows: &mut Vec<Vec<BoardRow>>) -> Result<(), NoPlan> {
+    for node in 0..rows.len() {
+        rows[node].sort()?;
+        if rows[node].len() > MOST_ROWS {
+            return Err(NoPlan::TooManyRows { node });
+        }
     }
     Ok(())
 }
@@ -77,24 +74,22 @@ struct Ways {
 }
 
 fn target_of(board: &Board, chosen: &[Chosen], eid: u8) -> Option<Target> {
-    let is_given = board
-        .nodes
-        .iter()
-        .any(|node| given_row(node, eid).is_some());
-    if let Some(node) = holder_of(chosen, eid) {
-        return Some(Target {
-            eid,
-            node,
-            is_held: true,
-            is_given,
-        });
-    }
+    let holder = holder_of(chosen, eid);
     Some(Target {
         eid,
-        node: innermost_of(chosen, eid)?,
-        is_held: false,
-        is_given,
+        node: holder.or(innermost_of(chosen, eid))?,
+        is_held: holder.is_some(),
+        is_given: is_given(board, eid),
     })
+}
+
+fn is_given(board: &Board, eid: u8) -> bool {
+    for node in &board.nodes {
+        if given_row(node, eid).is_some() {
+            return true;
+        }
+    }
+    false
 }
 
 fn holder_of(chosen: &[Chosen], eid: u8) -> Option<usize> {
@@ -154,10 +149,7 @@ fn add_rows(
     ways: &Ways,
     rows: &mut Vec<Vec<BoardRow>>,
 ) -> Result<Option<usize>, AllocError> {
-    let mut marked = Vec::new(alloc);
-    for _ in &board.nodes {
-        marked.push(false)?;
-    }
+    let mut marked = vec![in alloc; false; board.nodes.len()]?;
     let cut = mark_all(board, ways, &mut marked);
     for (index, node) in board.nodes.iter().enumerate() {
         if is_set(&marked, index) && given_row(node, ways.target.eid).is_none() {
@@ -186,7 +178,7 @@ fn asks(node: &BoardNode, target: Target) -> bool {
     match &node.reaches {
         None => true,
         Some(nodes) => {
-            let is_asked = nodes.iter().any(|asked| *asked == target.node);
+            let is_asked = nodes.contains(&target.node);
             target.is_held && (is_asked || given_row(node, target.eid).is_some())
         }
     }

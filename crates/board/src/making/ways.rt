@@ -5,7 +5,7 @@ use net_plan::Kind;
 use std::alloc::{AllocError, Global};
 
 /// Where a node sends on: through a port, to a next node.
-#[derive(Clone, Copy, Debug, PartialEq, Eq, PartialOrd, Ord)]
+#[derive(Clone, Copy)]
 pub struct Link {
     pub next: usize,
     pub port: usize,
@@ -50,11 +50,16 @@ fn add_links(
 }
 
 fn is_on(node: &BoardNode, bus: usize) -> bool {
-    node.ports.iter().any(|port| port.bus == bus)
+    for port in &node.ports {
+        if port.bus == bus {
+            return true;
+        }
+    }
+    false
 }
 
 /// How many hops a node is from a destination, and where it sends what is for it.
-#[derive(Clone, Copy, Debug)]
+#[derive(Clone, Copy)]
 pub struct Step {
     pub hops: usize,
     pub link: Link,
