@@ -1,7 +1,7 @@
 -- What the end of `audit` tells of an answer.
 use Rattle.std.proofs.Common.{◌≡◌, ◌≢◌, ℕ, zero, suc, List, Result, Ok, Err, inl, inr, refl, sym, subst}
 use Rattle.std.proofs.Math.Nat.{suc-ne-zero}
-use Rattle.std.specs.Prelude.{IfOk, IfErr, Option, codes}
+use Rattle.std.specs.Prelude.{IfOk, Option, codes}
 use Rattle.std.specs.Cow.{cow_str_bytes}
 use Rattle.audited_captures.specs.Audits.{AreAudited, difference_count, audit_text}
 use Rattle.audited_captures.specs.Lines.{LineValue}
@@ -17,8 +17,8 @@ use Rattle.command_answers.specs.declared.refused.Refused.{Refused}
 use Rattle.command_answers.specs.declared.refused.Refused.TheVariants as refused
 use Rattle.command_answers.specs.declared.status.Status.{Status}
 use Rattle.command_answers.specs.declared.status.Status.TheVariants as status
-use Rattle.command_answers.specs.Answers.{Stream, AreGiven, AreUnread, IsFaultText}
-use Rattle.audit_commands.specs.Auditing.{TellsCapture, AuditsCapture, AuditsOn, AuditsOf, AuditsAt, AuditsSo}
+use Rattle.command_answers.specs.Answers.{Stream, IsFaultText}
+use Rattle.audit_commands.specs.Auditing.{TellsCapture, AuditsCapture, AuditsOn, AuditsOf, AuditsAt}
 use Rattle.audit_commands.specs.Buses.{IsBusOf, NamesNoBus}
 
 module _ (plan : Plan) (cert : Certificate) (bus : Option ℕ) (bytes text : List ℕ) (ended : Status) where
@@ -45,12 +45,6 @@ module _ (plan : Plan) (cert : Certificate) (bus : Option ℕ) (bytes text : Lis
       ended_so how (difference_count lines) (record { entries = entries; lines = lines; captured = captured; audited = audited; counted = refl; told = told })
 
 module _ (plan : Plan) (cert : Certificate) where
-  pub given_so : (name : Option (List ℕ)) (plans certificates captures : Stream) (result : Result Answer Refused) → AreGiven plans certificates plan cert
-      → IfOk result (λ (a : Answer). AuditsAt plan cert name captures a.status (cow_str_bytes a.text))
-      → IfOk result (λ (a : Answer). AuditsSo name plans certificates captures a.status (cow_str_bytes a.text))
-  given_so name plans certificates captures (Ok a) given answers = (plan, cert, given, answers)
-  given_so name plans certificates captures (Err why) given answers = tt
-
   pub at_bus : (name : Option (List ℕ)) (bus : Option ℕ) (captures : Stream) (result : Result Answer Refused) → IsBusOf plan name bus
       → IfOk result (λ (a : Answer). AuditsOf plan cert bus captures a.status (cow_str_bytes a.text))
       → IfOk result (λ (a : Answer). AuditsAt plan cert name captures a.status (cow_str_bytes a.text))
@@ -75,9 +69,3 @@ module _ (plan : Plan) (cert : Certificate) where
       → IfOk result (λ (a : Answer). AuditsOn plan cert bus bytes a.status (cow_str_bytes a.text))
   fault_so bus bytes (Ok a) told = inr told
   fault_so bus bytes (Err why) told = tt
-
--- want of memory is why nothing more is said
-pub memory_so : (plans certificates : Stream) (result : Result Answer Refused) → IfErr result (λ why. why ≡ refused.NoMemory)
-    → IfErr result (λ why. AreUnread why plans certificates)
-memory_so plans certificates (Ok a) is = tt
-memory_so plans certificates (Err why) is = subst (λ w. AreUnread w plans certificates) (sym is) tt

@@ -15,7 +15,7 @@ use crate::repositories::repositories_of;
 use audited_captures::{Line, audit_text, audited_lines, difference_count};
 use bus_captures::{End, read_capture};
 use byte_commands::not_given;
-use command_answers::{Answer, Refused, Status, fault_answer, read_inputs, tell};
+use command_answers::{Answer, Refused, Status, fault_answer, read_inputs, refuse, tell};
 use net_check::{Checked, check};
 use net_json::{Sink, Source, TEXT_LIMIT, read_within};
 use net_plan::{Certificate, Plan};
@@ -48,32 +48,13 @@ pub fn run_audit<P: Source, C: Source, T: Source, O: Sink, E: Sink>(
     ensures in_order { IsWithoutPlan (stream P.account plan.old plan.new)
         → (certificate.new ≡ certificate.old) × (capture.new ≡ capture.old) }
 {
-    let answered = answer_audit(alloc, bus, plan, certificate, capture);
-    tell(alloc, answered, output, errors)
-}
-
-fn answer_audit<P: Source, C: Source, T: Source>(
-    alloc: Global,
-    bus: Option<&str>,
-    plan: &mut P,
-    certificate: &mut C,
-    capture: &mut T,
-) -> Result<Answer, Refused>
-    requires plan { HasRoom (P.account plan.old) }
-    requires certificate { HasRoom (C.account certificate.old) }
-    requires capture { HasRoom (T.account capture.old) }
-    ensures answers { let plans = stream P.account plan.old plan.new in
-        let certificates = stream C.account certificate.old certificate.new in
-        let captures = stream T.account capture.old capture.new in
-        IfOk result (λ answer. AuditsSo (option_map (λ name. name.now) bus.entry) plans certificates captures answer.status (cow_str_bytes answer.text)) }
-    ensures unread { let plans = stream P.account plan.old plan.new in
-        let certificates = stream C.account certificate.old certificate.new in
-        IfErr result (λ why. AreUnread why plans certificates) }
-    ensures in_order { IsWithoutPlan (stream P.account plan.old plan.new)
-        → (certificate.new ≡ certificate.old) × (capture.new ≡ capture.old) }
-{
-    let (plan, certificate) = read_inputs(alloc, plan, certificate)?;
-    answer_at_bus(alloc, bus, &plan, &certificate, capture)
+    match read_inputs(alloc, plan, certificate) {
+        Ok((plan, certificate)) => {
+            let answered = answer_at_bus(alloc, bus, &plan, &certificate, capture);
+            tell(alloc, answered, output, errors)
+        }
+        Err(refused) => refuse(alloc, refused, errors),
+    }
 }
 
 /// The answer on a plan, a certificate, the name of a bus and what a source gives.

@@ -17,7 +17,7 @@ use Rattle.command_answers.specs.declared.refused.Refused.TheVariants as refused
 use Rattle.command_answers.specs.declared.status.Status.{Status}
 use Rattle.command_answers.specs.declared.status.Status.TheVariants as status
 use Rattle.bus_commands.specs.Emulating.{AnswersEmulation, AnswersNode, AnswersOn, EndsEmulation, Stops}
-use Rattle.bus_commands.specs.declared.emulate.Emulation.{Emulation}
+use Rattle.command_questions.specs.declared.emulation.Emulation.{Emulation}
 use Rattle.bus_commands.specs.declared.playing.Stop.{Stop}
 use Rattle.bus_commands.specs.declared.playing.Stop.TheVariants as stop
 

@@ -15,7 +15,7 @@ use Rattle.net_rules.specs.Names.{name_of}
 use Rattle.net_rules.specs.Rules.{Accepts}
 use Rattle.bus_commands.specs.Playing.{IsUnwritten, PlaysLines}
 use Rattle.bus_commands.specs.Starting.{IsStart}
-use Rattle.bus_commands.specs.declared.emulate.Emulation.{Emulation}
+use Rattle.command_questions.specs.declared.emulation.Emulation.{Emulation}
 use Rattle.bus_commands.specs.declared.playing.Stop.{Stop}
 use Rattle.bus_commands.specs.declared.playing.Stop.TheVariants as stop
 

@@ -10,7 +10,9 @@ ghost use Rattle.bus_commands.specs.Capturing.{AnswersCapture, AnswersRun, IsRun
 
 use crate::hops::{add_hop, departing};
 use bus_captures::begin_file;
-use command_answers::{BytesAnswer, Refused, Status, fault_text, planned_network, tell_bytes};
+use command_answers::{
+    BytesAnswer, Refused, Status, fault_text, planned_network, refuse, tell_bytes,
+};
 use net_check::{AcceptedNetwork, Checked, check};
 use net_json::{Sink, Source};
 use net_plan::{Certificate, Event, Plan};
@@ -45,32 +47,13 @@ pub fn run_capture<P: Source, C: Source, V: Source, O: Sink, E: Sink>(
     ensures in_order { IsWithoutPlan (stream P.account plan.old plan.new)
         → (certificate.new ≡ certificate.old) × (events.new ≡ events.old) }
 {
-    let answered = answer_capture(alloc, plan, certificate, events);
-    tell_bytes(alloc, answered, output, errors)
-}
-
-fn answer_capture<P: Source, C: Source, V: Source>(
-    alloc: Global,
-    plan: &mut P,
-    certificate: &mut C,
-    events: &mut V,
-) -> Result<BytesAnswer, Refused>
-    requires plan { HasRoom (P.account plan.old) }
-    requires certificate { HasRoom (C.account certificate.old) }
-    requires events { HasRoom (V.account events.old) }
-    ensures answers { let plans = stream P.account plan.old plan.new in
-        let certificates = stream C.account certificate.old certificate.new in
-        let happenings = stream V.account events.old events.new in
-        IfOk result (λ answer. AnswersCapture plans certificates happenings answer.status answer.bytes.items) }
-    ensures unread { let plans = stream P.account plan.old plan.new in
-        let certificates = stream C.account certificate.old certificate.new in
-        let happenings = stream V.account events.old events.new in
-        IfErr result (λ why. AreUnreadAmong why plans certificates happenings) }
-    ensures in_order { IsWithoutPlan (stream P.account plan.old plan.new)
-        → (certificate.new ≡ certificate.old) × (events.new ≡ events.old) }
-{
-    let (plan, certificate, events) = read_run(alloc, plan, certificate, events)?;
-    answer_run(alloc, &plan, &certificate, &events)
+    match read_run(alloc, plan, certificate, events) {
+        Ok((plan, certificate, events)) => {
+            let answered = answer_run(alloc, &plan, &certificate, &events);
+            tell_bytes(alloc, answered, output, errors)
+        }
+        Err(refused) => refuse(alloc, refused, errors),
+    }
 }
 
 /// The answer on a plan, its certificate and events.

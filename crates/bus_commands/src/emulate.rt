@@ -9,20 +9,11 @@ ghost use Rattle.bus_commands.specs.Playing.{KeepsRoom};
 use crate::playing::{Stop, play_lines};
 use crate::start::start;
 use command_answers::{Refused, Status, fault_answer, first_named, give, read_inputs, refuse};
+use command_questions::Emulation;
 use net_check::{Checked, check};
 use net_json::{Sink, Source};
 use net_plan::{Certificate, Plan};
 use std::alloc::Global;
-
-/// A node that is emulated, and whether its device was configured.
-#[derive(Clone, Copy, Debug, PartialEq, Eq)]
-pub struct Emulation<'a> {
-    /// The name of the node.
-    pub node: &'a str,
-    /// Whether its device holds its planned endpoint ID and its pool. Otherwise it is as an assignment finds it: without
-    /// them where another node owns it.
-    pub is_configured: bool,
-}
 
 /// Emulates a node of a plan where the certificate fits the plan, or tells the fault there.
 ///

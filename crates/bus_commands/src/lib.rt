@@ -13,4 +13,5 @@ mod start;
 mod turn;
 
 pub use capture::run_capture;
-pub use emulate::{Emulation, run_emulate};
+pub use command_questions::Emulation;
+pub use emulate::run_emulate;

@@ -1,17 +1,13 @@
 -- What the end of `decode` tells of an answer.
-use Rattle.std.proofs.Common.{◌≡◌, ◌≢◌, ℕ, List, Result, Ok, Err, refl, sym, subst}
-use Rattle.std.specs.Prelude.{IfOk, IfErr, Option, Some}
-use Rattle.std.specs.Cow.{cow_str_bytes}
+use Rattle.std.proofs.Common.{◌≡◌, ◌≢◌, ℕ, List, Ok, refl, sym, subst}
+use Rattle.std.specs.Prelude.{Option, Some}
 use Rattle.bus_captures.specs.Captures.{IsCapture}
 use Rattle.bus_captures.specs.Values.{EntryValue}
 use Rattle.bus_captures.specs.declared.capture.End.{End}
 use Rattle.bus_captures.specs.declared.capture.End.TheVariants as end
 use Rattle.decoded_texts.specs.Decoding.{IsDecodedBy}
 use Rattle.net_plan.specs.declared.plan.Plan.{Plan}
-use Rattle.byte_commands.specs.Decoding.{IsDecodedSo, DecodesBy, DecodesNamedSo}
-use Rattle.command_answers.specs.Answers.{Stream, GavePlan, IsPlanUnread}
-use Rattle.command_answers.specs.declared.answer.Answer.{Answer}
-use Rattle.command_answers.specs.declared.refused.Refused.{Refused}
+use Rattle.byte_commands.specs.Decoding.{IsDecodedSo}
 use Rattle.command_answers.specs.declared.refused.Refused.TheVariants as refused
 use Rattle.command_answers.specs.declared.status.Status.{Status}
 use Rattle.command_answers.specs.declared.status.Status.TheVariants as status
@@ -26,15 +22,3 @@ decoded_so plan bytes entries end.Full text ended is told whole broken =
 decoded_so plan bytes entries (end.Broken place why) text ended is told whole broken =
     let other : end.Broken place why ≢ end.Whole = λ e. cc in
     subst (λ (s : Status). IsDecodedSo plan bytes s text) (sym (broken other)) (end.Broken place why, other, (entries, is, told))
-
--- with the plan that a source gave
-pub given_so : (plan : Plan) (plans captures : Stream) (result : Result Answer Refused) → GavePlan plans plan
-    → IfOk result (λ (a : Answer). DecodesBy (Some plan) captures a.status (cow_str_bytes a.text))
-    → IfOk result (λ (a : Answer). DecodesNamedSo plans captures a.status (cow_str_bytes a.text))
-given_so plan plans captures (Ok a) given answers = (plan, given, answers)
-given_so plan plans captures (Err why) given answers = tt
-
--- want of memory is why nothing more is said
-pub memory_so : (plans : Stream) (result : Result Answer Refused) → IfErr result (λ why. why ≡ refused.NoMemory) → IfErr result (λ why. IsPlanUnread why plans)
-memory_so plans (Ok a) is = tt
-memory_so plans (Err why) is = subst (λ w. IsPlanUnread w plans) (sym is) tt

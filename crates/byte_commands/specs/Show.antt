@@ -10,8 +10,8 @@ use Rattle.pdr_record.specs.declared.record_error.RecordError.{RecordError}
 use Rattle.pdr_record.specs.Codes as records
 use Rattle.pdr_record.specs.Faults.{IsFault}
 use Rattle.pdr_record.specs.Records as record_of
-use Rattle.byte_commands.specs.declared.show.ShownKind.{ShownKind}
-use Rattle.byte_commands.specs.declared.show.ShownKind.TheVariants as kind
+use Rattle.command_questions.specs.declared.words.ShownKind.{ShownKind}
+use Rattle.command_questions.specs.declared.words.ShownKind.TheVariants as kind
 use Rattle.command_answers.specs.declared.refused.Refused.{Refused}
 use Rattle.command_answers.specs.declared.status.Status.{Status}
 use Rattle.command_answers.specs.declared.status.Status.TheVariants as status

@@ -9,8 +9,8 @@ use Rattle.pdr_record.specs.Records.{RecordValue, Spelled}
 use Rattle.record_fields.specs.Named.{named_fields}
 use Rattle.record_fields.specs.Said.{IsRecordOfWords}
 use Rattle.record_fields.specs.Texts.{AreFieldLines}
-use Rattle.byte_commands.specs.declared.worded.WordQuestion.{WordQuestion}
-use Rattle.byte_commands.specs.declared.worded.WordQuestion.TheVariants as question
+use Rattle.command_questions.specs.declared.words.WordQuestion.{WordQuestion}
+use Rattle.command_questions.specs.declared.words.WordQuestion.TheVariants as question
 use Rattle.command_answers.specs.declared.refused.Refused.{Refused}
 use Rattle.command_answers.specs.declared.refused.Refused.TheVariants as refused
 use Rattle.command_answers.specs.declared.status.Status.{Status}

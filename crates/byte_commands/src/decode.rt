@@ -9,7 +9,7 @@ ghost use Rattle.byte_commands.specs.Decoding.{DecodesBy, DecodesSo, DecodesName
 ghost use Rattle.command_answers.specs.Told.{ConcludesOnBoth, ConcludesOnOutput};
 
 use bus_captures::{End, read_capture};
-use command_answers::{Answer, Refused, Status, given_plan, tell};
+use command_answers::{Answer, Refused, Status, given_plan, refuse, tell};
 use decoded_texts::{decoded_lines, named_lines};
 use net_json::{Sink, Source, TEXT_LIMIT, TextFault, read_within};
 use net_plan::Plan;
@@ -77,26 +77,13 @@ pub fn run_decode_named<P: Source, C: Source, O: Sink, E: Sink>(
         (output.new ≡ output.old) (errors.new ≡ errors.old) }
     ensures in_order { IsWithoutPlan (stream P.account plan.old plan.new) → capture.new ≡ capture.old }
 {
-    let answered = answer_named(alloc, plan, capture);
-    tell(alloc, answered, output, errors)
-}
-
-fn answer_named<P: Source, C: Source>(
-    alloc: Global,
-    plan: &mut P,
-    capture: &mut C,
-) -> Result<Answer, Refused>
-    requires plan { HasRoom (P.account plan.old) }
-    requires capture { HasRoom (C.account capture.old) }
-    ensures answers { let plans = stream P.account plan.old plan.new in
-        let captures = stream C.account capture.old capture.new in
-        IfOk result (λ answer. DecodesNamedSo plans captures answer.status (cow_str_bytes answer.text)) }
-    ensures unread { let plans = stream P.account plan.old plan.new in
-        IfErr result (λ why. IsPlanUnread why plans) }
-    ensures in_order { IsWithoutPlan (stream P.account plan.old plan.new) → capture.new ≡ capture.old }
-{
-    let plan = given_plan(alloc, plan)?;
-    answer_by(alloc, &plan, capture)
+    match given_plan(alloc, plan) {
+        Ok(plan) => {
+            let answered = answer_by(alloc, &plan, capture);
+            tell(alloc, answered, output, errors)
+        }
+        Err(refused) => refuse(alloc, refused, errors),
+    }
 }
 
 /// The answer on a plan and what a source gives.

@@ -5,6 +5,7 @@ mod decode;
 mod show;
 mod worded;
 
+pub use command_questions::{ShownKind, WordQuestion};
 pub use decode::{not_given, run_decode, run_decode_named};
-pub use show::{ShownKind, run_show};
-pub use worded::{WordQuestion, run_worded};
+pub use show::run_show;
+pub use worded::run_worded;

@@ -7,19 +7,13 @@ ghost use Rattle.byte_commands.specs.Show.{IsDecoded, IsNotShown, IsShown, Shows
 ghost use Rattle.command_answers.specs.Told.{Concludes};
 
 use command_answers::{Answer, Refused, Status, tell};
+use command_questions::ShownKind;
 use hex::FromHexError;
 use mctp_transport::{PacketView, Wire};
 use net_json::Sink;
 use pdr_record::Record;
 use plan_texts::{packet_text, record_text, refused_text};
 use std::alloc::{AllocError, Global};
-
-/// What bytes are shown as.
-#[derive(Clone, Copy, Debug, PartialEq, Eq)]
-pub enum ShownKind {
-    Packet,
-    Record,
-}
 
 /// Says on `output` what the bytes of a hex text are, or why they are refused. Where the text is no hex, says so on
 /// `errors`.

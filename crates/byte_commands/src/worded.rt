@@ -11,19 +11,11 @@ mod describe;
 mod record;
 
 use command_answers::{Answer, Refused, Status, tell};
+use command_questions::WordQuestion;
 use describe::described;
 use net_json::Sink;
 use record::recorded;
 use std::alloc::Global;
-
-/// A question that words answer: the command of the name asks it.
-#[derive(Clone, Copy, Debug, PartialEq, Eq)]
-pub enum WordQuestion {
-    /// What does each field of the record hold, whose bytes the words are in hex?
-    Describe,
-    /// What are the bytes of the record whose type and fields the words say?
-    Record,
-}
 
 /// Answers a question on `output`. Where the words can't be read, says so on `errors`.
 pub fn run_worded<O: Sink, E: Sink>(

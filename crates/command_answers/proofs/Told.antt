@@ -2,14 +2,17 @@
 use Rattle.std.proofs.Common.{◌≡◌, ◌≢◌, ◌⊎◌, ℕ, List, Result, Ok, Err, inl, inr, refl, sym, ◌∙◌, ap, subst}
 use Rattle.std.specs.Prelude.{IfOk, IfErr, OnErr}
 use Rattle.std.specs.Cow.{cow_str_bytes}
+use Rattle.std.specs.declared.alloc.AllocError.{AllocError}
+use Rattle.net_json.specs.declared.error.PlanError.{PlanError}
 use Rattle.command_answers.specs.declared.answer.Answer.{Answer}
 use Rattle.command_answers.specs.declared.bytes_answer.BytesAnswer.{BytesAnswer}
+use Rattle.command_answers.specs.declared.refused.Input.{Input}
 use Rattle.command_answers.specs.declared.refused.Refused.{Refused}
 use Rattle.command_answers.specs.declared.refused.Refused.TheVariants as refused
 use Rattle.command_answers.specs.declared.status.Status.{Status}
 use Rattle.command_answers.specs.declared.status.Status.TheVariants as status
 use Rattle.command_answers.specs.Answers.{Stream, IsReported, Refuses, BreaksOff}
-use Rattle.command_answers.specs.Statuses.{status_of, IsReportedFor}
+use Rattle.command_answers.specs.Statuses.{status_of, IsReportedFor, HasCause}
 use Rattle.command_answers.specs.Told.{IsTold, IsSomeAnswer, Gives, Ends, Concludes, ConcludesOnBoth, ConcludesOnOutput}
 
 module _ (Ends : Status → Type 0) (errors : Stream) where
@@ -49,6 +52,21 @@ pub of_memory : (why : Refused) (s : Status) (errors : Stream) → why ≡ refus
 of_memory why s errors is refuses =
     let reported : refuses.reported ≡ refused.NoMemory = subst (λ w. IsReportedFor w refuses.reported) is refuses.for_it in
     (refuses.ends ∙ ap status_of reported, subst (λ w. IsReported w errors) reported refuses.line)
+
+-- want of memory needs no cause
+pub memory_lacks : (IsUnread : Input → PlanError → Type 0) (unknown no_hex too_much : Type 0) (why : Refused) → why ≡ refused.NoMemory
+    → HasCause IsUnread unknown no_hex too_much why
+memory_lacks IsUnread unknown no_hex too_much why is = subst (HasCause IsUnread unknown no_hex too_much) (sym is) tt
+
+-- how no refusal ends
+module _ (quiet : Type 0) where
+  unread_is_silent : (status.Unreadable ≡ status.Yes) ⊎ (status.Unreadable ≡ status.Fault) → quiet
+  unread_is_silent (inl is) = absurd (cc)
+  unread_is_silent (inr is) = absurd (cc)
+
+  lack_is_silent : (status.NoMemory ≡ status.Yes) ⊎ (status.NoMemory ≡ status.Fault) → quiet
+  lack_is_silent (inl is) = absurd (cc)
+  lack_is_silent (inr is) = absurd (cc)
 
 -- of answers of any kind, each with the status that is due and a text
 module _ {A : Type 0} (due : A → Status) (text_of : A → List ℕ) (some : (a : A) → due a ≢ status.NoMemory) (Answers : Status → List ℕ → Type 0) (ended : Status)
@@ -120,6 +138,25 @@ module _ (Answers : Status → List ℕ → Type 0) (ended : Status) (output err
       → ((text : List ℕ) → Answers status.Unreadable text → ⊥) → Concludes Answers IsWhy ended output errors untouched quiet
   concludes = concludes_by (λ (a : Answer). a.status) (λ a. cow_str_bytes a.text) (λ a. a.memory) Answers ended output errors
 
+  -- where only memory can be wanting
+  pub concludes_made : (IsWhy : Refused → Type 0) (untouched quiet : Type 0) (answered : Result Answer AllocError)
+      → IfOk answered (λ (a : Answer). Answers a.status (cow_str_bytes a.text)) → IsWhy refused.NoMemory
+      → IfOk answered (λ (a : Answer). IsTold a.status (cow_str_bytes a.text) ended output errors) → IfErr answered (λ _. Refuses refused.NoMemory ended errors)
+      → OnErr answered untouched → ((ended ≡ status.Yes) ⊎ (ended ≡ status.Fault) → quiet) → (ended ≡ status.NoMemory → untouched)
+      → ((text : List ℕ) → Answers status.Unreadable text → ⊥) → Concludes Answers IsWhy ended output errors untouched quiet
+  concludes_made IsWhy untouched quiet (Ok a) answers lacks told refuses same = concludes IsWhy untouched quiet (Ok a) answers tt told tt tt
+  concludes_made IsWhy untouched quiet (Err e) answers lacks told refuses same = concludes IsWhy untouched quiet (Err refused.NoMemory) tt lacks tt refuses same
+
+  -- where nothing was read
+  pub concludes_unread : (IsWhy : Refused → Type 0) (untouched quiet : Type 0) (why : Refused) → IsWhy why → Refuses why ended errors → untouched
+      → Concludes Answers IsWhy ended output errors untouched quiet
+  concludes_unread IsWhy untouched quiet why is refuses same = record {
+    tells = refuses_so (λ s. Ends Answers IsWhy s output errors) errors why (λ unread line. inr (why, unread, inl is, line)) (λ line. line) ended refuses;
+    silent = refuses_so (λ s. (s ≡ status.Yes) ⊎ (s ≡ status.Fault) → quiet) errors why (λ unread line. unread_is_silent quiet) (λ line. lack_is_silent quiet) ended refuses;
+    unwritten = λ ends. inl same;
+    no_memory = λ ends. same;
+  }
+
   same_gives_or_breaks : (Same : Type 0) (answered : Result Answer Refused) → IfOk answered (λ (a : Answer). Answers a.status (cow_str_bytes a.text))
       → IfOk answered (λ (a : Answer). IsTold a.status (cow_str_bytes a.text) ended output errors) → OnErr answered Same → ended ≡ status.Unreadable
       → Same ⊎ (Gives Answers status.Unreadable output ⊎ BreaksOff (IsSomeAnswer Answers) output)
@@ -166,3 +203,17 @@ pub quiet_told : (P Q : Type 0) (s : Status) (errors : Stream) (answered : Resul
     → IfOk answered (λ _. P → Q) → IfErr answered (λ why. Refuses why s errors) → s ≢ status.NoMemory → P → Q
 quiet_told P Q s errors (Ok answer) none quiet ends told p = quiet p
 quiet_told P Q s errors (Err why) none quiet ends told p = absurd (told (of_memory why s errors none ends).0)
+
+-- what is concluded of any answer is concluded where some tell why an input can't be read
+pub on_both : {Answers : Status → List ℕ → Type 0} {IsWhy : Refused → Type 0} {ended : Status} {output errors : Stream} {untouched quiet : Type 0}
+    → Concludes Answers IsWhy ended output errors untouched quiet → ConcludesOnBoth Answers IsWhy ended output errors untouched quiet
+on_both {Answers} {IsWhy} {ended} {output} {errors} {untouched} {quiet} c = record {
+  tells = c.tells;
+  silent = c.silent;
+  unwritten = λ is. or_breaks (c.unwritten is);
+  no_memory = c.no_memory;
+}
+  where
+    or_breaks : untouched ⊎ BreaksOff (IsSomeAnswer Answers) output → untouched ⊎ (Gives Answers status.Unreadable output ⊎ BreaksOff (IsSomeAnswer Answers) output)
+    or_breaks (inl same) = inl same
+    or_breaks (inr breaks) = inr (inr breaks)

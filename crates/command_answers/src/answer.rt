@@ -173,3 +173,27 @@ pub fn tell<O: Sink, E: Sink>(
         Err(refused) => refuse(alloc, refused, errors),
     }
 }
+
+/// The same for an answer for which only memory can have been wanting.
+pub fn tell_made<O: Sink, E: Sink>(
+    alloc: Global,
+    answered: Result<Answer, AllocError>,
+    output: &mut O,
+    errors: &mut E,
+) -> Status
+    requires output { HasRoom (O.account output.old) }
+    requires errors { HasRoom (E.account errors.old) }
+    ensures told { let outputs = stream O.account output.old output.new in
+        let said = stream E.account errors.old errors.new in
+        IfOk answered (λ answer. IsTold answer.status (cow_str_bytes answer.text) result outputs said) }
+    ensures refuses { let said = stream E.account errors.old errors.new in
+        IfErr answered (λ _. Refuses Refused.NoMemory result said) }
+    ensures untouched { OnErr answered (output.new ≡ output.old) }
+    ensures silent { (result ≡ Yes) ⊎ (result ≡ Fault) → errors.new ≡ errors.old }
+    ensures no_memory { result ≡ NoMemory → output.new ≡ output.old }
+{
+    match answered {
+        Ok(answer) => tell(alloc, Ok(answer), output, errors),
+        Err(AllocError) => tell(alloc, Err(Refused::NoMemory), output, errors),
+    }
+}

@@ -1,12 +1,12 @@
 //! The command `certify`: the certificate of a plan, or why there is none.
-ghost use Rattle.std.specs.Prelude.{IfOk};
+ghost use Rattle.std.specs.Prelude.{◌≡◌, IfOk};
 ghost use Rattle.std.specs.Cow.{cow_str_bytes};
 ghost use Rattle.command_answers.specs.Certifying.{Certifies};
 
 use crate::answer::Answer;
-use net_check::certify;
+use net_check::{Checked, certify, check};
 use net_json::text_of_certificate;
-use net_plan::Plan;
+use net_plan::{Certificate, Plan};
 use plan_texts::obstacle_line;
 use std::alloc::{AllocError, Global};
 
@@ -18,4 +18,15 @@ pub fn certificate_of_plan(alloc: Global, plan: &Plan) -> Result<Answer, AllocEr
         Ok(certificate) => Ok(Answer::found(text_of_certificate(alloc, plan, &certificate)?)),
         Err(obstacle) => Ok(Answer::fault(obstacle_line(alloc, plan, &obstacle)?)),
     }
+}
+
+/// A plan and a certificate that is accepted: so nothing but memory can be wanting.
+pub fn accepted<'a>(
+    alloc: Global,
+    plan: &'a Plan,
+    certificate: &'a Certificate,
+) -> Result<Checked<'a>, AllocError>
+    ensures { IfOk result (λ checked. checked ≡ (plan.now, certificate.now)) }
+{
+    check(alloc, plan, certificate).map_err(|_| AllocError)
 }

@@ -10,15 +10,14 @@ mod gathered;
 mod inputs;
 mod known;
 mod naming;
-mod part_size;
 mod refused;
 mod repositories;
 mod status;
 mod termini;
 
-pub use answer::{Answer, YES, give, print, refuse, tell};
+pub use answer::{Answer, YES, give, print, refuse, tell, tell_made};
 pub use bytes_answer::{BytesAnswer, tell_bytes};
-pub use certify::certificate_of_plan;
+pub use certify::{accepted, certificate_of_plan};
 pub use faults::{fault_answer, fault_text, move_fault_answer};
 pub use gathered::Gathered;
 pub use inputs::{
@@ -29,7 +28,6 @@ pub use known::run_known;
 pub use naming::ends::{eid_of_word, named_ends};
 pub use naming::first_named;
 pub use naming::terminus::named_terminus;
-pub use part_size::PartSize;
 pub use refused::{Input, Refused};
 pub use repositories::records_by_place;
 pub use status::Status;

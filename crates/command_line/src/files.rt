@@ -6,9 +6,9 @@ ghost use Rattle.std.specs.Prelude.{◌≡◌, None, ⊤};
 ghost use Rattle.either.specs.Either.{either};
 ghost use Rattle.net_json.specs.Stream.{HasRoom};
 
+use command_questions::RecordFiles;
 use either::Either;
 use net_json::{Counted, Failed, Sink, TextFault, read_within, write_whole};
-use plan_commands::RecordFiles;
 use std::alloc::{AllocError, Global};
 use std::fs::File;
 use std::io::{self, Input, Read, Write};

@@ -4,10 +4,10 @@ ghost use Rattle.net_json.specs.Stream.{HasRoom};
 
 use crate::subcommand::{command_names, form_of, part_size_of};
 use command_answers::{eid_of_word, first_named, named_terminus};
+use command_questions::Question;
 use net_json::{Sink, Source, read_plan, write_whole};
 use net_plan::Plan;
 use net_pointers::nearest_name;
-use plan_commands::Question;
 use program_texts::{guide_to, text_of};
 use record_fields::made_record;
 use std::alloc::{AllocError, Global};

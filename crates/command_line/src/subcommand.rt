@@ -1,14 +1,12 @@
 //! The program's command line.
-use bus_commands::Emulation;
-use byte_commands::{ShownKind, WordQuestion};
 use clap::error::ErrorKind;
 use clap::{Arg, ArgAction, ArgMatches};
-use command_answers::{PartSize, Refused, eid_of_word};
-use export_commands::{Export, ExportKind};
-use json_commands::{CertifiedJson, Form, PlanJson};
-use plan_commands::{DrawnRows, PlanQuestion, Question};
+use command_answers::{Refused, eid_of_word};
+use command_questions::{
+    CertifiedJson, DrawnRows, Emulation, Export, ExportKind, Flights, Form, PartSize, PlanJson,
+    PlanQuestion, Question, ShownKind, WalkScript, WordQuestion,
+};
 use plan_exports::Link;
-use play_commands::{Flights, WalkScript};
 use program_texts::{GUIDE, VERSION, guide_to, schema_of, text_of};
 use std::alloc::{AllocError, Global};
 

@@ -9,7 +9,7 @@ use Rattle.net_plan.specs.declared.plan.Plan.{Plan}
 use Rattle.command_answers.specs.Answers.{IsErrorText, IsFaultText}
 use Rattle.command_answers.specs.declared.refused.Refused.{Refused}
 use Rattle.command_answers.specs.declared.refused.Refused.TheVariants as refused
-use Rattle.export_commands.specs.declared.exports.Export.{Export}
+use Rattle.command_questions.specs.declared.exports.Export.{Export}
 use Rattle.command_answers.specs.declared.bytes_answer.BytesAnswer.{BytesAnswer}
 use Rattle.export_commands.specs.Exporting.{AnswersAt, AnswersExportOn, IsSubject, IsUnexportedOn}
 use Rattle.plan_exports.specs.declared.links.Link.{Link}

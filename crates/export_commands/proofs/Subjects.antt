@@ -4,7 +4,7 @@ use Rattle.std.specs.Prelude.{All}
 use Rattle.net_plan.specs.declared.plan.Plan.{Plan}
 use Rattle.net_rules.specs.Names.{name_of}
 use Rattle.command_answers.specs.Naming.{IsFirstNamed}
-use Rattle.export_commands.specs.declared.exports.Export.{Export}
+use Rattle.command_questions.specs.declared.exports.Export.{Export}
 use Rattle.export_commands.specs.Exporting.{HasBus, HasForm, IsNamedIn}
 use Rattle.plan_exports.specs.declared.links.Link.{Link}
 

@@ -6,9 +6,9 @@ use Rattle.command_answers.specs.Statuses.{HasCause}
 use Rattle.command_answers.specs.declared.refused.Refused.{Refused}
 use Rattle.command_answers.specs.declared.status.Status.{Status}
 use Rattle.command_answers.specs.declared.status.Status.TheVariants as status
-use Rattle.export_commands.specs.declared.exports.Export.{Export}
-use Rattle.export_commands.specs.declared.exports.ExportKind.{ExportKind}
-use Rattle.export_commands.specs.declared.exports.ExportKind.TheVariants as kind
+use Rattle.command_questions.specs.declared.exports.Export.{Export}
+use Rattle.command_questions.specs.declared.exports.ExportKind.{ExportKind}
+use Rattle.command_questions.specs.declared.exports.ExportKind.TheVariants as kind
 use Rattle.net_plan.specs.declared.certificate.Certificate.{Certificate}
 use Rattle.net_plan.specs.declared.plan.Plan.{Plan}
 use Rattle.net_rules.specs.Rules.{Accepts}

@@ -8,8 +8,8 @@ ghost use Rattle.plan_exports.specs.LinuxScripts.{IsLinuxScript};
 ghost use Rattle.plan_exports.specs.Repositories.{joined_bytes};
 ghost use Rattle.plan_exports.specs.TableAnswers.{AreEntryLines};
 
-use crate::exports::ExportKind;
 use command_answers::records_by_place;
+use command_questions::ExportKind;
 use net_check::Checked;
 use net_plan::Plan;
 use net_tables::lookup::{bus_named, eid_at, terminus_at};

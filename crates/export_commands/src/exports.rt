@@ -8,35 +8,15 @@ ghost use Rattle.net_json.specs.Stream.{HasRoom};
 
 use crate::exported::{exported, knows_buses};
 use command_answers::{
-    BytesAnswer, Refused, Status, fault_text, first_named, read_inputs, tell_bytes,
+    BytesAnswer, Refused, Status, fault_text, first_named, read_inputs, refuse, tell_bytes,
 };
+use command_questions::{Export, ExportKind};
 use net_check::check;
 use net_json::{Sink, Source};
 use net_plan::{Certificate, Plan};
 use net_tables::lookup::{is_bridge, terminus_at};
 use plan_exports::Link;
 use std::alloc::Global;
-
-/// In which form a node is exported.
-#[derive(Clone, Copy, Debug, PartialEq, Eq)]
-pub enum ExportKind {
-    /// A shell script with the commands for a Linux node.
-    Linux,
-    /// A C99 source of the node's tables.
-    C,
-    /// The responses of Get Routing Table Entries, each in a line in hex.
-    Entries,
-    /// The bytes of the node's records, one record after another.
-    Records,
-}
-
-/// A node and the form in which it is exported.
-#[derive(Clone, Copy, Debug, PartialEq, Eq)]
-pub struct Export<'a> {
-    pub kind: ExportKind,
-    /// The name of the node.
-    pub node: &'a str,
-}
 
 /// Writes what a node of a plan is in a form on `output`, where the certificate fits the plan, or tells the fault there.
 /// Where a file can't be read, or then where the plan has no such node or no bus of a link, says so on `errors`.
@@ -60,29 +40,13 @@ pub fn run_export<P: Source, C: Source, O: Sink, E: Sink>(
         (output.new ≡ output.old) (errors.new ≡ errors.old) }
     ensures in_order { IsWithoutPlan (stream P.account plan.old plan.new) → certificate.new ≡ certificate.old }
 {
-    let answered = answer_export(alloc, export, links, plan, certificate);
-    tell_bytes(alloc, answered, output, errors)
-}
-
-fn answer_export<P: Source, C: Source>(
-    alloc: Global,
-    export: &Export,
-    links: &[Link],
-    plan: &mut P,
-    certificate: &mut C,
-) -> Result<BytesAnswer, Refused>
-    requires plan { HasRoom (P.account plan.old) }
-    requires certificate { HasRoom (C.account certificate.old) }
-    ensures answers { let plans = stream P.account plan.old plan.new in
-        let certificates = stream C.account certificate.old certificate.new in
-        IfOk result (λ answer. AnswersExportSo export.now links.now plans certificates answer.status answer.bytes.items) }
-    ensures unanswered { let plans = stream P.account plan.old plan.new in
-        let certificates = stream C.account certificate.old certificate.new in
-        IfErr result (IsUnexportedFor export.now links.now plans certificates) }
-    ensures in_order { IsWithoutPlan (stream P.account plan.old plan.new) → certificate.new ≡ certificate.old }
-{
-    let (given, certificate) = read_inputs(alloc, plan, certificate)?;
-    answer_of_both(alloc, export, links, &given, &certificate)
+    match read_inputs(alloc, plan, certificate) {
+        Ok((given, certificate)) => {
+            let answered = answer_of_both(alloc, export, links, &given, &certificate);
+            tell_bytes(alloc, answered, output, errors)
+        }
+        Err(refused) => refuse(alloc, refused, errors),
+    }
 }
 
 /// The answer on a plan and a certificate.

@@ -4,4 +4,5 @@
 mod exported;
 mod exports;
 
-pub use exports::{Export, ExportKind, run_export};
+pub use command_questions::{Export, ExportKind};
+pub use exports::run_export;

@@ -4,7 +4,7 @@ use Rattle.std.specs.Prelude.{IfOk}
 use Rattle.serde_json.specs.View.{view}
 use Rattle.net_plan.specs.declared.plan.Plan.{Plan}
 use Rattle.command_answers.specs.Answers.{Stream, GavePlanText}
-use Rattle.json_commands.specs.declared.certified.CertifiedJson.{CertifiedJson}
+use Rattle.command_questions.specs.declared.certified.CertifiedJson.{CertifiedJson}
 use Rattle.json_commands.specs.declared.said.Said.{Said}
 use Rattle.json_commands.specs.Certified.{AreSourcesSaid, IsCertificateSaid}
 

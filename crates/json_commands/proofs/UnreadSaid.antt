@@ -7,7 +7,7 @@ use Rattle.command_answers.specs.declared.refused.Input.TheVariants as input
 use Rattle.command_answers.specs.Answers.{Stream}
 use Rattle.command_answers.specs.UnreadInputs.{IsNoPlanBy, IsNoCertificateBy}
 use Rattle.explain_commands.proofs.UnreadTexts.{plan_told, certificate_told}
-use Rattle.json_commands.specs.declared.form.Form.{Form}
+use Rattle.command_questions.specs.declared.form.Form.{Form}
 use Rattle.json_commands.specs.Unread.{IsInputUnreadSaid, IsPlanUnreadSaid, IsCertificateUnreadSaid}
 
 module _ (form asked : Form) (command by name : List ℕ) (u : Unread) (d : Data) (f : form ≡ asked) (c : command ≡ by) where

@@ -15,10 +15,10 @@ use Rattle.command_answers.specs.declared.status.Status.TheVariants as status
 use Rattle.command_answers.specs.Answers.{Stream, GavePlanText, GaveCertificate}
 use Rattle.command_answers.specs.Naming.{IsDestination, IsFirstNamed, NameTheEnds}
 use Rattle.command_answers.specs.UnreadInputs.{IsNoPlanBy, IsNoCertificateBy}
-use Rattle.json_commands.specs.declared.certified.CertifiedJson.{CertifiedJson}
-use Rattle.json_commands.specs.declared.certified.CertifiedJson.TheVariants as asks
-use Rattle.json_commands.specs.declared.form.Form.{Form}
-use Rattle.json_commands.specs.declared.form.Form.TheVariants.{Json}
+use Rattle.command_questions.specs.declared.certified.CertifiedJson.{CertifiedJson}
+use Rattle.command_questions.specs.declared.certified.CertifiedJson.TheVariants as asks
+use Rattle.command_questions.specs.declared.form.Form.{Form}
+use Rattle.command_questions.specs.declared.form.Form.TheVariants.{Json}
 use Rattle.json_commands.specs.Explained.{IsFaultExplained, IsSummedUp}
 use Rattle.json_commands.specs.Faults.{AreFaultsSaid}
 use Rattle.json_commands.specs.Lists.{empty_data}

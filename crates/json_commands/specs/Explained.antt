@@ -27,7 +27,7 @@ use Rattle.plan_texts.specs.CertificateSubjects.{certificate_subjects}
 use Rattle.plan_texts.specs.Explanations.{IsObstacleTold, told_subjects}
 use Rattle.plan_texts.specs.Pieces.{Tells}
 use Rattle.plan_texts.specs.SummaryLines.{summary_text}
-use Rattle.json_commands.specs.declared.form.Form.TheVariants.{Json}
+use Rattle.command_questions.specs.declared.form.Form.TheVariants.{Json}
 use Rattle.json_commands.specs.Edits.{edit_data}
 use Rattle.json_commands.specs.Lists.{IsListTold, empty_data}
 use Rattle.json_commands.specs.Notes.{lines_data}

@@ -10,7 +10,7 @@ use Rattle.net_rules.specs.FaultLists.{AreFaults}
 use Rattle.net_rules.specs.Rules.{Accepts}
 use Rattle.command_answers.specs.declared.status.Status.{Status}
 use Rattle.command_answers.specs.declared.status.Status.TheVariants as status
-use Rattle.json_commands.specs.declared.form.Form.{Form}
+use Rattle.command_questions.specs.declared.form.Form.{Form}
 use Rattle.json_commands.specs.Lists.{IsListTold, empty_data}
 use Rattle.json_commands.specs.Obstacles.{IsObstacleAlone, IsRunNote}
 use Rattle.json_commands.specs.Reports.{IsReport}

@@ -6,8 +6,8 @@ use Rattle.serde_json.specs.Data.{Data, null, string, array, object, member, no_
 use Rattle.serde_json.specs.View.{items_of}
 use Rattle.net_plan.specs.declared.plan.Plan.{Plan}
 use Rattle.net_tables.specs.Names.{node_name}
-use Rattle.json_commands.specs.declared.form.Form.{Form}
-use Rattle.json_commands.specs.declared.form.Form.TheVariants.{Json, Sarif}
+use Rattle.command_questions.specs.declared.form.Form.{Form}
+use Rattle.command_questions.specs.declared.form.Form.TheVariants.{Json, Sarif}
 use Rattle.json_commands.specs.declared.notes.Subject.{Subject}
 use Rattle.json_commands.specs.Lists.{IsListTold, one_data}
 use Rattle.json_commands.specs.Places.{number_data, number_or_null}

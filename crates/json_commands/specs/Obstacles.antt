@@ -20,7 +20,7 @@ use Rattle.plan_texts.specs.Lines.{obstacle_text}
 use Rattle.fault_texts.specs.FaultListLines.{run_text}
 use Rattle.fault_texts.specs.Places.{obstacle_pointer, part_pointer, record_pointer, row_pointer}
 use Rattle.fault_texts.specs.Places.{site_pointer, way_pointer}
-use Rattle.json_commands.specs.declared.form.Form.{Form}
+use Rattle.command_questions.specs.declared.form.Form.{Form}
 use Rattle.json_commands.specs.Lists.{IsListTold, empty_data, one_data}
 use Rattle.json_commands.specs.Notes.{AreNodesTold, IsNote, SubjectValue}
 use Rattle.json_commands.specs.Places.{IsPlaceListTold, IsPlaceTold}

@@ -10,8 +10,8 @@ use Rattle.net_pointers.specs.declared.position.Position.{Position}
 use Rattle.net_pointers.specs.Positions.{is_line_feed, begins_character, last_line}
 use Rattle.fault_texts.specs.Places.{IsPlaceIn}
 use Rattle.reading_texts.specs.ReadingLines.{step_text}
-use Rattle.json_commands.specs.declared.form.Form.{Form}
-use Rattle.json_commands.specs.declared.form.Form.TheVariants.{Json, Sarif}
+use Rattle.command_questions.specs.declared.form.Form.{Form}
+use Rattle.command_questions.specs.declared.form.Form.TheVariants.{Json, Sarif}
 use Rattle.json_commands.specs.Lists.{empty_data, one_data}
 
 -- ---- values

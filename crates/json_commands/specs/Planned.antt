@@ -7,10 +7,10 @@ use Rattle.command_answers.specs.declared.status.Status.{Status}
 use Rattle.command_answers.specs.declared.status.Status.TheVariants as status
 use Rattle.command_answers.specs.Answers.{Stream, GavePlanText}
 use Rattle.command_answers.specs.UnreadInputs.{IsNoPlanBy}
-use Rattle.json_commands.specs.declared.form.Form.{Form}
-use Rattle.json_commands.specs.declared.form.Form.TheVariants.{Json}
-use Rattle.json_commands.specs.declared.planned.PlanJson.{PlanJson}
-use Rattle.json_commands.specs.declared.planned.PlanJson.TheVariants as asks
+use Rattle.command_questions.specs.declared.form.Form.{Form}
+use Rattle.command_questions.specs.declared.form.Form.TheVariants.{Json}
+use Rattle.command_questions.specs.declared.planned.PlanJson.{PlanJson}
+use Rattle.command_questions.specs.declared.planned.PlanJson.TheVariants as asks
 use Rattle.json_commands.specs.Explained.{IsExplainedSaid}
 use Rattle.json_commands.specs.Faults.{IsFaultsSaid}
 use Rattle.json_commands.specs.Findings.{IsLintSaid}

@@ -6,8 +6,8 @@ use Rattle.json.specs.Print.{print}
 use Rattle.serde_json.specs.Written.{IsInOrder}
 use Rattle.command_answers.specs.declared.status.Status.{Status}
 use Rattle.command_answers.specs.Statuses.{number_of}
-use Rattle.json_commands.specs.declared.form.Form.{Form}
-use Rattle.json_commands.specs.declared.form.Form.TheVariants.{Json, Sarif}
+use Rattle.command_questions.specs.declared.form.Form.{Form}
+use Rattle.command_questions.specs.declared.form.Form.TheVariants.{Json, Sarif}
 use Rattle.json_commands.specs.Lists.{one_data}
 use Rattle.json_commands.specs.Places.{number_data}
 

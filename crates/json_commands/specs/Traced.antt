@@ -10,7 +10,7 @@ use Rattle.net_questions.specs.declared.way.End.{End}
 use Rattle.net_questions.specs.declared.way.End.TheVariants.{Arrives, Stops}
 use Rattle.net_questions.specs.Ways.{IsWay}
 use Rattle.net_tables.specs.Ranks.{rank}
-use Rattle.json_commands.specs.declared.form.Form.TheVariants.{Json}
+use Rattle.command_questions.specs.declared.form.Form.TheVariants.{Json}
 use Rattle.json_commands.specs.Lists.{IsListTold, empty_data}
 use Rattle.json_commands.specs.Notes.{node_data}
 use Rattle.json_commands.specs.Obstacles.{hop_pointer}

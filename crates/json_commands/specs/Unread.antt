@@ -21,7 +21,7 @@ use Rattle.command_answers.specs.declared.status.Status.TheVariants as status
 use Rattle.command_answers.specs.Answers.{Stream}
 use Rattle.explain_commands.specs.UnreadTexts.{IsUnreadText, IsUnreadCertificateText, IsWrittenOf}
 use Rattle.reading_texts.specs.ReadingLines.{unread_code}
-use Rattle.json_commands.specs.declared.form.Form.{Form}
+use Rattle.command_questions.specs.declared.form.Form.{Form}
 use Rattle.json_commands.specs.Lists.{empty_data, one_data}
 use Rattle.json_commands.specs.Notes.{IsNote, SubjectValue}
 use Rattle.json_commands.specs.Places.{IsPlaceListTold, IsPlaceTold, spot_data}

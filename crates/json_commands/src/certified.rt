@@ -14,7 +14,6 @@ ghost use Rattle.json_commands.specs.Certified.{AnswersInJson, AreBothSaid, AreC
 
 use crate::explained::{explained_fault, sound_said};
 use crate::faults::{faults_of_both, obstacle_results};
-use crate::form::Form;
 use crate::lists::empty_list;
 use crate::reached::reached;
 use crate::reports::report;
@@ -24,23 +23,11 @@ use crate::unread::{unknown_name, unread_input};
 use command_answers::{
     Answer, Input, PlanText, Refused, Status, certificate_or_text, named_ends, plan_or_text, tell,
 };
+use command_questions::{CertifiedJson, Form};
 use net_check::{CertifyError, CheckError, Checked, Fault, check};
 use net_json::{Sink, Source};
 use net_plan::{Certificate, Plan};
 use std::alloc::{AllocError, Global};
-
-/// What is asked of a plan with its certificate, where the answer is to be JSON: the command of the name asks it.
-#[derive(Clone, Copy, Debug, PartialEq, Eq)]
-pub enum CertifiedJson<'a> {
-    /// What does `check` answer, and why?
-    Explain,
-    /// What are all faults of both?
-    Faults(Form),
-    /// Who reaches whom, and by how many hops?
-    Reach,
-    /// Which way does a packet take from a node to another, or to an endpoint ID?
-    Trace { from: &'a str, to: &'a str },
-}
 
 /// Answers in JSON what is asked of a plan and its certificate, on `output`: one value, in one line. Where a file can't be
 /// read, or then where the plan has nothing that is named, the value tells so. Of two files that can't be read, the plan is

@@ -10,11 +10,11 @@ ghost use Rattle.json_commands.specs.Explained.{AreMore, IsExplainedSaid, IsFaul
 
 use crate::edits::edits_value;
 use crate::faults::obstacle_results;
-use crate::form::Form;
 use crate::lists::empty_list;
 use crate::said::Said;
 use crate::sentences::lines_value;
 use command_answers::{PlanText, Status};
+use command_questions::Form;
 use explain_commands::others_of;
 use net_check::{CertifyError, Fault, certify, faults};
 use net_explained::{Cause, find_cause, most_hops, tried_edits};

@@ -10,13 +10,13 @@ ghost use Rattle.json_commands.specs.Faults.{AreFaultsSaid, IsFaultsSaid};
 ghost use Rattle.json_commands.specs.Lists.{IsListTold};
 ghost use Rattle.json_commands.specs.Obstacles.{IsObstacleAlone, IsRunNote};
 
-use crate::form::Form;
 use crate::lists::{empty_list, list_of_one};
 use crate::obstacles::{obstacle_note, run_notes};
 use crate::places::Placing;
 use crate::reports::report;
 use crate::said::Said;
 use command_answers::{PlanText, Status};
+use command_questions::Form;
 use json::{Scratch, Value as Tree};
 use net_check::{CertifyError, certify, faults};
 use net_json::json_of;

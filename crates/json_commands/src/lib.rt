@@ -7,7 +7,6 @@ mod edits;
 mod explained;
 mod faults;
 mod findings;
-mod form;
 mod linted;
 mod lists;
 mod notes;
@@ -23,6 +22,6 @@ mod traced;
 mod unread;
 mod way_values;
 
-pub use certified::{CertifiedJson, run_certified_json};
-pub use form::Form;
-pub use planned::{PlanJson, run_planned_json};
+pub use certified::run_certified_json;
+pub use command_questions::{CertifiedJson, Form, PlanJson};
+pub use planned::run_planned_json;

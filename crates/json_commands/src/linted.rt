@@ -5,14 +5,14 @@ ghost use Rattle.net_pointers.specs.Offsets.{IsTextOf};
 ghost use Rattle.serde_json.specs.View.{view};
 ghost use Rattle.json_commands.specs.Findings.{IsFindingNote, IsLintSaid, status_of};
 ghost use Rattle.json_commands.specs.Lists.{IsListTold};
-ghost use Rattle.json_commands.specs.declared.form.Form.TheVariants.{Json};
+ghost use Rattle.command_questions.specs.declared.form.Form.TheVariants.{Json};
 
 use crate::findings::finding_notes;
-use crate::form::Form;
 use crate::places::Placing;
 use crate::reports::report;
 use crate::said::Said;
 use command_answers::{PlanText, Status};
+use command_questions::Form;
 use json::{Scratch, Value as Tree};
 use net_json::json_of;
 use net_plan::Plan;

@@ -3,10 +3,10 @@ ghost use Rattle.std.specs.Prelude.{◌≡◌, IfOk, ⊤};
 ghost use Rattle.serde_json.specs.View.{view};
 ghost use Rattle.json_commands.specs.Notes.{AreNodesTold, IsNote, eids_data, node_data, note_data, result_data, subject_value};
 
-use crate::form::Form;
 use crate::lists::{Listed, list_of, list_of_one};
 use crate::sentences::{lines_value, message_of};
 use crate::spots::number_or_null;
+use command_questions::Form;
 use mctp_transport::Eid;
 use net_plan::Plan;
 use net_tables::lookup::node_name;

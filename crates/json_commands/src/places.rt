@@ -6,8 +6,8 @@ ghost use Rattle.net_pointers.specs.Offsets.{IsTextOf};
 ghost use Rattle.serde_json.specs.View.{view};
 ghost use Rattle.json_commands.specs.Places.{IsPlaceTold, json_pointer};
 
-use crate::form::Form;
 use crate::spots::spot_of;
+use command_questions::Form;
 use fault_texts::offset_in;
 use json::Value as Tree;
 use net_json::PointerStep;

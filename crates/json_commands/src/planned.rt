@@ -12,24 +12,13 @@ ghost use Rattle.json_commands.specs.Planned.{IsPlanSaid, IsSaidOfSource, SaysIn
 
 use crate::explained::explained_plan;
 use crate::faults::faults_of_plan;
-use crate::form::Form;
 use crate::linted::findings_of_plan;
 use crate::said::{Said, answer_of};
 use crate::unread::unread_input;
 use command_answers::{Answer, Input, PlanText, Refused, Status, plan_or_text, tell};
+use command_questions::{Form, PlanJson};
 use net_json::{Sink, Source};
 use std::alloc::{AllocError, Global};
-
-/// What is asked of a plan alone, where the answer is to be JSON: the command of the name asks it.
-#[derive(Clone, Copy, Debug, PartialEq, Eq)]
-pub enum PlanJson {
-    /// What does `certify` answer, and why?
-    Explain,
-    /// What are all its faults, or what else rules certificates out?
-    Faults(Form),
-    /// What in it is lawful and still looks wrong?
-    Lint,
-}
 
 /// Answers in JSON what is asked of a plan, on `output`: one value, in one line. Where the plan can't be read, the value
 /// tells so. The name is that of the plan's file. The run ends as that of the command without JSON.

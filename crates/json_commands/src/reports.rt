@@ -3,10 +3,10 @@ ghost use Rattle.std.specs.Prelude.{◌≡◌, IfOk};
 ghost use Rattle.serde_json.specs.View.{view};
 ghost use Rattle.json_commands.specs.Reports.{IsReport, found_data, log_data, run_data};
 
-use crate::form::Form;
 use crate::lists::list_of_one;
 use crate::said::Said;
 use command_answers::Status;
+use command_questions::Form;
 use program_texts::{VERSION, text_of};
 use serde_json::{Value, json};
 use std::alloc::{AllocError, Global};

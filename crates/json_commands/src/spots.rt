@@ -3,8 +3,8 @@ ghost use Rattle.std.specs.Prelude.{◌≡◌, IfOk, option_map, string_bytes};
 ghost use Rattle.serde_json.specs.View.{view};
 ghost use Rattle.json_commands.specs.Places.{artifact_data, location_data, logical_data, number_or_null, physical_data, place_data, position_in, region_data, spot_data, string_or_null, uri_bytes};
 
-use crate::form::Form;
 use crate::lists::{empty_list, list_of_one};
+use command_questions::Form;
 use net_pointers::{Position, position_of};
 use percent_encoding::{AsciiSet, NON_ALPHANUMERIC, ascii_set, utf8_percent_encode};
 use serde_json::{Value, json};

@@ -7,7 +7,6 @@ ghost use Rattle.serde_json.specs.View.{view};
 ghost use Rattle.command_answers.specs.declared.status.Status.TheVariants as status;
 ghost use Rattle.json_commands.specs.Unread.{AreKeysPlaced, AreNowhere, ArePlaces, ArePointersPlaced, AreTroublePlaces, AreUnreadPlaces, IsInputUnreadSaid, IsUnknownSaid, IsUnreadSaid, code_of, entry_pointer, offset_of, range_pointer};
 
-use crate::form::Form;
 use crate::lists::{empty_list, list_of_one};
 use crate::notes::{Subject, note_value};
 use crate::places::{Placing, place_of};
@@ -15,6 +14,7 @@ use crate::reports::report;
 use crate::said::Said;
 use crate::spots::spot_of;
 use command_answers::{Input, Status, Unread};
+use command_questions::Form;
 use explain_commands::unread_text;
 use json::{Scratch, Value as Tree};
 use net_json::{PointerStep, json_of};

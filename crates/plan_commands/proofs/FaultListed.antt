@@ -11,8 +11,8 @@ use Rattle.net_rules.specs.declared.fault_run.FaultRun.{FaultRun}
 use Rattle.net_rules.specs.FaultLists.{AreFaults}
 use Rattle.net_rules.specs.Faults.{IsFirstFault, site_of}
 use Rattle.command_answers.specs.declared.answer.Answer.{Answer}
-use Rattle.plan_commands.specs.declared.certified.Question.{Question}
-use Rattle.plan_commands.specs.declared.certified.Question.TheVariants as question
+use Rattle.command_questions.specs.declared.certified.Question.{Question}
+use Rattle.command_questions.specs.declared.certified.Question.TheVariants as question
 use Rattle.command_answers.specs.declared.refused.Refused.{Refused}
 use Rattle.command_answers.specs.declared.status.Status.TheVariants as status
 use Rattle.command_answers.specs.Answers.{IsFaultText}

@@ -6,7 +6,7 @@ use Rattle.net_rules.specs.Rules.{Accepts}
 use Rattle.net_plan.specs.declared.certificate.Certificate.{Certificate}
 use Rattle.net_plan.specs.declared.plan.Plan.{Plan}
 use Rattle.command_answers.specs.declared.answer.Answer.{Answer}
-use Rattle.plan_commands.specs.declared.certified.Question.{Question}
+use Rattle.command_questions.specs.declared.certified.Question.{Question}
 use Rattle.command_answers.specs.declared.refused.Refused.{Refused}
 use Rattle.command_answers.specs.declared.refused.Refused.TheVariants as refused
 use Rattle.command_answers.specs.declared.status.Status.{Status}

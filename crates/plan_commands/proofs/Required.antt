@@ -1,6 +1,6 @@
 -- What the end of `require` tells of an answer.
 use Rattle.std.proofs.Common.{◌≡◌, ℕ, List, length, ◌≤◌, Result, Ok, Err, inl, inr, sym, subst}
-use Rattle.std.specs.Prelude.{IfOk, IfErr}
+use Rattle.std.specs.Prelude.{IfOk}
 use Rattle.std.specs.Cow.{cow_str_bytes}
 use Rattle.std.specs.Io.KnownBytes.{Consumes, IsAtEnd}
 use Rattle.net_plan.specs.declared.certificate.Certificate.{Certificate}
@@ -10,16 +10,10 @@ use Rattle.command_answers.specs.declared.answer.Answer.{Answer}
 use Rattle.command_answers.specs.declared.refused.Refused.{Refused}
 use Rattle.command_answers.specs.declared.refused.Refused.TheVariants as refused
 use Rattle.command_answers.specs.declared.status.Status.TheVariants as status
-use Rattle.command_answers.specs.Answers.{Stream, AreGiven, AreUnread, IsFaultText}
-use Rattle.plan_commands.specs.Requiring.{IsRequiredOn, RequiresOn, IsWithoutWanted, RequiresOf, RequiresSo}
+use Rattle.command_answers.specs.Answers.{Stream, IsFaultText}
+use Rattle.plan_commands.specs.Requiring.{IsRequiredOn, RequiresOn, IsWithoutWanted, RequiresOf}
 
 module _ (plan : Plan) (cert : Certificate) where
-  pub given_so : (plans certificates wanted : Stream) (result : Result Answer Refused) → AreGiven plans certificates plan cert
-      → IfOk result (λ (a : Answer). RequiresOf plan cert wanted a.status (cow_str_bytes a.text))
-      → IfOk result (λ (a : Answer). RequiresSo plans certificates wanted a.status (cow_str_bytes a.text))
-  given_so plans certificates wanted (Ok a) given answers = (plan, cert, given, answers)
-  given_so plans certificates wanted (Err why) given answers = tt
-
   pub text_so : (wanted : Stream) (bytes : List ℕ) (result : Result Answer Refused) → Consumes wanted.before.bytes wanted.after.bytes bytes → IsAtEnd wanted.after.bytes
       → length bytes ≤ 16777216 → IfOk result (λ (a : Answer). RequiresOn plan cert bytes a.status (cow_str_bytes a.text))
       → IfOk result (λ (a : Answer). RequiresOf plan cert wanted a.status (cow_str_bytes a.text))
@@ -44,9 +38,3 @@ module _ (plan : Plan) (cert : Certificate) where
       → IfOk result (λ (a : Answer). RequiresOn plan cert wanted a.status (cow_str_bytes a.text))
   fault_so wanted (Ok a) told = inr told
   fault_so wanted (Err why) told = tt
-
--- want of memory is why nothing more is said
-pub memory_so : (plans certificates : Stream) (result : Result Answer Refused) → IfErr result (λ why. why ≡ refused.NoMemory)
-    → IfErr result (λ why. AreUnread why plans certificates)
-memory_so plans certificates (Ok a) is = tt
-memory_so plans certificates (Err why) is = subst (λ w. AreUnread w plans certificates) (sym is) tt

@@ -4,8 +4,8 @@ use Rattle.net_rules.specs.Rules.{Accepts}
 use Rattle.net_plan.specs.declared.certificate.Certificate.{Certificate}
 use Rattle.net_plan.specs.declared.plan.Plan.{Plan}
 use Rattle.net_reached.specs.Matrices.{IsMatrix}
-use Rattle.plan_commands.specs.declared.certified.Question.{Question}
-use Rattle.plan_commands.specs.declared.certified.Question.TheVariants as question
+use Rattle.command_questions.specs.declared.certified.Question.{Question}
+use Rattle.command_questions.specs.declared.certified.Question.TheVariants as question
 use Rattle.command_answers.specs.declared.refused.Refused.{Refused}
 use Rattle.command_answers.specs.declared.status.Status.{Status}
 use Rattle.command_answers.specs.declared.status.Status.TheVariants as status

@@ -7,8 +7,8 @@ use Rattle.net_rules.specs.Rules.{Accepts}
 use Rattle.net_plan.specs.declared.certificate.Certificate.{Certificate}
 use Rattle.net_plan.specs.declared.plan.Plan.{Plan}
 use Rattle.mctp_transport.specs.declared.address.Eid.{Eid}
-use Rattle.plan_commands.specs.declared.draw.DrawnRows.{DrawnRows}
-use Rattle.plan_commands.specs.declared.draw.DrawnRows.TheVariants as rows
+use Rattle.command_questions.specs.declared.drawn_rows.DrawnRows.{DrawnRows}
+use Rattle.command_questions.specs.declared.drawn_rows.DrawnRows.TheVariants as rows
 use Rattle.plan_texts.specs.DrawingLines.{IsDrawing}
 use Rattle.plan_texts.specs.RowDrawings.{IsBundleDrawing, IsWayDrawing}
 

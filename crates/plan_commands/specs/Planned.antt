@@ -1,8 +1,8 @@
 -- What answers a question about a plan.
 use Rattle.std.specs.Prelude.{◌≡◌, ℕ, List}
 use Rattle.net_plan.specs.declared.plan.Plan.{Plan}
-use Rattle.plan_commands.specs.declared.planned.PlanQuestion.{PlanQuestion}
-use Rattle.plan_commands.specs.declared.planned.PlanQuestion.TheVariants as question
+use Rattle.command_questions.specs.declared.planned.PlanQuestion.{PlanQuestion}
+use Rattle.command_questions.specs.declared.planned.PlanQuestion.TheVariants as question
 use Rattle.command_answers.specs.declared.status.Status.{Status}
 use Rattle.command_answers.specs.declared.status.Status.TheVariants as status
 use Rattle.command_answers.specs.Answers.{Stream, GavePlanText}

@@ -10,42 +10,22 @@ ghost use Rattle.command_answers.specs.Told.{Concludes};
 ghost use Rattle.plan_commands.specs.Certified.{IsAnswer, IsFaultAnswer, IsNamedIn, IsTooMuch, AnswersOn, AnswersSo, IsUnansweredOn, IsUnansweredFor};
 
 use crate::assign::requests_text;
-use crate::draw::{DrawnRows, certified_drawing};
+use crate::draw::certified_drawing;
 use crate::listing::faults_of_both;
 use crate::reach::pairs_text;
 use crate::trace::way_between;
 use crate::walk::records_text;
 use command_answers::{
-    Answer, PartSize, PlanText, Refused, Status, YES, fault_answer, named_ends, named_terminus,
-    read_texts, tell,
+    Answer, PlanText, Refused, Status, YES, fault_answer, named_ends, named_terminus, read_texts,
+    refuse, tell,
 };
+use command_questions::Question;
 use net_check::{CheckError, Checked, check};
 use net_json::{Sink, Source};
 use net_plan::{Certificate, Plan};
 use net_reached::matrix_text;
 use std::alloc::Global;
 use std::borrow::CowStr;
-
-/// A question about a plan with its certificate: the command of the name asks it.
-#[derive(Clone, Copy, Debug, PartialEq, Eq)]
-pub enum Question<'a> {
-    /// Does the certificate fit the plan?
-    Check,
-    /// What are all faults of both? The name is that of the plan's file, which stands before each place.
-    Faults { name: &'a str },
-    /// Which requests give the nodes their endpoint IDs and pools?
-    Assign,
-    /// Who reaches whom, and by how many hops?
-    Reach,
-    /// The same as a table.
-    Matrix,
-    /// What does the network look like, with the certificate's levels and ranks?
-    Draw { rows: DrawnRows },
-    /// Which records does a walk over a node's terminus collect, by parts of so many bytes?
-    Walk { node: &'a str, part: PartSize },
-    /// Which way does a packet take from a node to another, or to an endpoint ID?
-    Trace { from: &'a str, to: &'a str },
-}
 
 /// Answers a question on `output`, where the certificate fits the plan, or tells the fault there. Where a file can't be
 /// read, or then where the plan has nothing that the question names, says so on `errors`. Of two files that can't be read,
@@ -69,28 +49,13 @@ pub fn run_certified<P: Source, C: Source, O: Sink, E: Sink>(
         (output.new ≡ output.old) (errors.new ≡ errors.old) }
     ensures in_order { IsWithoutPlan (stream P.account plan.old plan.new) → certificate.new ≡ certificate.old }
 {
-    let answered = answer_certified(alloc, question, plan, certificate);
-    tell(alloc, answered, output, errors)
-}
-
-fn answer_certified<P: Source, C: Source>(
-    alloc: Global,
-    question: &Question,
-    plan: &mut P,
-    certificate: &mut C,
-) -> Result<Answer, Refused>
-    requires plan { HasRoom (P.account plan.old) }
-    requires certificate { HasRoom (C.account certificate.old) }
-    ensures answers { let plans = stream P.account plan.old plan.new in
-        let certificates = stream C.account certificate.old certificate.new in
-        IfOk result (λ answer. AnswersSo question.now plans certificates answer.status (cow_str_bytes answer.text)) }
-    ensures unanswered { let plans = stream P.account plan.old plan.new in
-        let certificates = stream C.account certificate.old certificate.new in
-        IfErr result (IsUnansweredFor question.now plans certificates) }
-    ensures in_order { IsWithoutPlan (stream P.account plan.old plan.new) → certificate.new ≡ certificate.old }
-{
-    let (given, certificate) = read_texts(alloc, plan, certificate)?;
-    answer_of_both(alloc, question, &given, &certificate)
+    match read_texts(alloc, plan, certificate) {
+        Ok((given, certificate)) => {
+            let answered = answer_of_both(alloc, question, &given, &certificate);
+            tell(alloc, answered, output, errors)
+        }
+        Err(refused) => refuse(alloc, refused, errors),
+    }
 }
 
 /// The answer on a plan and a certificate.

@@ -1,5 +1,5 @@
 //! The command `certifymove`: the certificate of a move from one plan to another, or why there is none.
-ghost use Rattle.std.specs.Prelude.{◌≡◌, IfOk, IfErr};
+ghost use Rattle.std.specs.Prelude.{◌≡◌, IfOk};
 ghost use Rattle.std.specs.Cow.{cow_str_bytes};
 ghost use Rattle.net_json.specs.Stream.{HasRoom};
 ghost use Rattle.command_answers.specs.Answers.{stream, IsWithoutPlan};
@@ -7,7 +7,7 @@ ghost use Rattle.plan_commands.specs.MoveCertifying.{CertifiesMove, CertifiesMov
 ghost use Rattle.command_answers.specs.Moves.{ArePlansUnread};
 ghost use Rattle.command_answers.specs.Told.{Concludes};
 
-use command_answers::{Answer, Refused, Status, read_plans, tell};
+use command_answers::{Answer, Status, read_plans, refuse, tell_made};
 use net_check::certify_move;
 use net_json::{Sink, Source, text_of_certificate};
 use net_plan::Plan;
@@ -36,28 +36,13 @@ pub fn run_certify_move<P: Source, Q: Source, O: Sink, E: Sink>(
     ensures in_order { let befores = stream P.account before.old before.new in
         IsWithoutPlan befores → after.new ≡ after.old }
 {
-    let answered = answer_certify_move(alloc, before, after);
-    tell(alloc, answered, output, errors)
-}
-
-fn answer_certify_move<P: Source, Q: Source>(
-    alloc: Global,
-    before: &mut P,
-    after: &mut Q,
-) -> Result<Answer, Refused>
-    requires before { HasRoom (P.account before.old) }
-    requires after { HasRoom (Q.account after.old) }
-    ensures answers { let befores = stream P.account before.old before.new in
-        let afters = stream Q.account after.old after.new in
-        IfOk result (λ answer. CertifiesMoveSo befores afters answer.status (cow_str_bytes answer.text)) }
-    ensures unread { let befores = stream P.account before.old before.new in
-        let afters = stream Q.account after.old after.new in
-        IfErr result (λ why. ArePlansUnread why befores afters) }
-    ensures in_order { let befores = stream P.account before.old before.new in
-        IsWithoutPlan befores → after.new ≡ after.old }
-{
-    let (before, after) = read_plans(alloc, before, after)?;
-    Ok(certificate_of_move(alloc, &before, &after)?)
+    match read_plans(alloc, before, after) {
+        Ok((before, after)) => {
+            let answered = certificate_of_move(alloc, &before, &after);
+            tell_made(alloc, answered, output, errors)
+        }
+        Err(refused) => refuse(alloc, refused, errors),
+    }
 }
 
 /// The certificate of a move, or the line of what rules certificates of it out.

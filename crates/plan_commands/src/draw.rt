@@ -6,22 +6,12 @@ ghost use Rattle.plan_commands.specs.Drawing.{IsCertifiedDrawing, IsPlanDrawing,
 ghost use Rattle.net_rules.specs.declared.certify_error.CertifyError.TheVariants.{OutOfMemory};
 
 use command_answers::Answer;
+use command_questions::DrawnRows;
 use mctp_transport::Eid;
 use net_check::{CertifyError, Checked, certify};
 use net_plan::Plan;
 use plan_texts::{bundle_drawing, drawing, way_drawing};
 use std::alloc::{AllocError, Global};
-
-/// Which rows a drawing shows.
-#[derive(Clone, Copy, Debug, PartialEq, Eq)]
-pub enum DrawnRows {
-    /// None: it shows buses, ports and owners.
-    Hidden,
-    /// All, those of a node to a next node together.
-    All,
-    /// Those by which packets for an endpoint ID go.
-    For(Eid),
-}
 
 /// The drawing of a checked plan with its certificate.
 pub fn certified_drawing(

@@ -17,10 +17,10 @@ mod rows;
 mod trace;
 mod walk;
 
-pub use certified::{Question, run_certified};
+pub use certified::run_certified;
 pub use certify_move::run_certify_move;
-pub use draw::DrawnRows;
-pub use make::{RecordFiles, run_make, run_make_certified};
+pub use command_questions::{DrawnRows, PlanQuestion, Question, RecordFiles};
+pub use make::{run_make, run_make_certified};
 pub use moving::run_move;
-pub use planned::{PlanQuestion, run_planned};
+pub use planned::run_planned;
 pub use require::run_require;

@@ -11,18 +11,9 @@ ghost use Rattle.command_answers.specs.Told.{ConcludesOnBoth, ConcludesOnOutput}
 
 use board_made::{BoardAnswer, RecordFile, answer_board, files_of_board, unread_file};
 use command_answers::{Answer, Input, Refused, Status, tell};
+use command_questions::RecordFiles;
 use net_json::{PlanError, Sink, Source, TEXT_LIMIT, TextFault, read_within, write_whole};
 use std::alloc::{AllocError, AllocFailed, Global};
-
-/// Files that the records of a board name.
-pub trait RecordFiles {
-    // What the files hold, by their names, as far as that is known.
-    ghost holds: { Self → List ℕ → List ℕ → Type 0 };
-
-    /// The bytes of a file, if they are no more than a record has.
-    fn read(&self, alloc: Global, name: &str) -> Result<Vec<u8>, TextFault>
-        ensures { IfOk result (λ bytes. holds self.now name.now bytes.items) };
-}
 
 /// Prints on `output` the plan that is made of a board, or why none is, also where the board can't be read.
 pub fn run_make<B: Source, F: RecordFiles, O: Sink, E: Sink>(

@@ -1,5 +1,5 @@
 //! The command `move`: whether the nodes of a running network may go from the rows of one plan to those of another.
-ghost use Rattle.std.specs.Prelude.{◌≡◌, IfOk, IfErr};
+ghost use Rattle.std.specs.Prelude.{◌≡◌, IfOk};
 ghost use Rattle.net_json.specs.Stream.{HasRoom};
 ghost use Rattle.std.specs.Cow.{cow_str_bytes};
 ghost use Rattle.command_answers.specs.Answers.{stream, IsWithoutPlan};
@@ -7,7 +7,7 @@ ghost use Rattle.plan_commands.specs.Moving.{AnswersMoveOn, AnswersMoveSo};
 ghost use Rattle.command_answers.specs.Moves.{IsMoveUnread};
 ghost use Rattle.command_answers.specs.Told.{Concludes};
 
-use command_answers::{Answer, Refused, Status, move_fault_answer, read_move, tell};
+use command_answers::{Answer, Status, move_fault_answer, read_move, refuse, tell_made};
 use net_check::check_move;
 use net_json::{Sink, Source};
 use net_plan::{Certificate, Plan};
@@ -40,34 +40,13 @@ pub fn run_move<P: Source, Q: Source, C: Source, O: Sink, E: Sink>(
     ensures after_in_order { let afters = stream Q.account after.old after.new in
         IsWithoutPlan afters → certificate.new ≡ certificate.old }
 {
-    let answered = answer_move(alloc, before, after, certificate);
-    tell(alloc, answered, output, errors)
-}
-
-fn answer_move<P: Source, Q: Source, C: Source>(
-    alloc: Global,
-    before: &mut P,
-    after: &mut Q,
-    certificate: &mut C,
-) -> Result<Answer, Refused>
-    requires before { HasRoom (P.account before.old) }
-    requires after { HasRoom (Q.account after.old) }
-    requires certificate { HasRoom (C.account certificate.old) }
-    ensures answers { let befores = stream P.account before.old before.new in
-        let afters = stream Q.account after.old after.new in
-        let certificates = stream C.account certificate.old certificate.new in
-        IfOk result (λ answer. AnswersMoveSo befores afters certificates answer.status (cow_str_bytes answer.text)) }
-    ensures unread { let befores = stream P.account before.old before.new in
-        let afters = stream Q.account after.old after.new in
-        let certificates = stream C.account certificate.old certificate.new in
-        IfErr result (λ why. IsMoveUnread why befores afters certificates) }
-    ensures in_order { let befores = stream P.account before.old before.new in
-        IsWithoutPlan befores → (after.new ≡ after.old) × (certificate.new ≡ certificate.old) }
-    ensures after_in_order { let afters = stream Q.account after.old after.new in
-        IsWithoutPlan afters → certificate.new ≡ certificate.old }
-{
-    let (before, after, certificate) = read_move(alloc, before, after, certificate)?;
-    Ok(answer_of_move(alloc, &before, &after, &certificate)?)
+    match read_move(alloc, before, after, certificate) {
+        Ok((before, after, certificate)) => {
+            let answered = answer_of_move(alloc, &before, &after, &certificate);
+            tell_made(alloc, answered, output, errors)
+        }
+        Err(refused) => refuse(alloc, refused, errors),
+    }
 }
 
 /// The answer on two plans and a certificate.

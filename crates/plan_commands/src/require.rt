@@ -9,7 +9,7 @@ ghost use Rattle.command_answers.specs.Answers.{stream, AreUnread, IsWithoutPlan
 ghost use Rattle.plan_commands.specs.Requiring.{AnswersWishes, unread_wanted, unread_line_text, IsRequiredOn, RequiresOn, RequiresOf, RequiresSo};
 ghost use Rattle.command_answers.specs.Told.{ConcludesOnBoth};
 
-use command_answers::{Answer, Refused, Status, fault_answer, read_inputs, tell};
+use command_answers::{Answer, Refused, Status, fault_answer, read_inputs, refuse, tell};
 use net_check::{Checked, check};
 use net_json::{Sink, Source, TEXT_LIMIT, TextFault, read_within};
 use net_plan::{Certificate, Plan};
@@ -41,31 +41,13 @@ pub fn run_require<P: Source, C: Source, W: Source, O: Sink, E: Sink>(
     ensures in_order { IsWithoutPlan (stream P.account plan.old plan.new)
         → (certificate.new ≡ certificate.old) × (wanted.new ≡ wanted.old) }
 {
-    let answered = answer_require(alloc, plan, certificate, wanted);
-    tell(alloc, answered, output, errors)
-}
-
-fn answer_require<P: Source, C: Source, W: Source>(
-    alloc: Global,
-    plan: &mut P,
-    certificate: &mut C,
-    wanted: &mut W,
-) -> Result<Answer, Refused>
-    requires plan { HasRoom (P.account plan.old) }
-    requires certificate { HasRoom (C.account certificate.old) }
-    requires wanted { HasRoom (W.account wanted.old) }
-    ensures answers { let plans = stream P.account plan.old plan.new in
-        let certificates = stream C.account certificate.old certificate.new in
-        let texts = stream W.account wanted.old wanted.new in
-        IfOk result (λ answer. RequiresSo plans certificates texts answer.status (cow_str_bytes answer.text)) }
-    ensures unread { let plans = stream P.account plan.old plan.new in
-        let certificates = stream C.account certificate.old certificate.new in
-        IfErr result (λ why. AreUnread why plans certificates) }
-    ensures in_order { IsWithoutPlan (stream P.account plan.old plan.new)
-        → (certificate.new ≡ certificate.old) × (wanted.new ≡ wanted.old) }
-{
-    let (plan, certificate) = read_inputs(alloc, plan, certificate)?;
-    answer_wanted(alloc, &plan, &certificate, wanted)
+    match read_inputs(alloc, plan, certificate) {
+        Ok((plan, certificate)) => {
+            let answered = answer_wanted(alloc, &plan, &certificate, wanted);
+            tell(alloc, answered, output, errors)
+        }
+        Err(refused) => refuse(alloc, refused, errors),
+    }
 }
 
 /// The answer on a plan, a certificate and what a source gives.

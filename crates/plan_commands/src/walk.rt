@@ -11,7 +11,8 @@ mod collecting;
 mod ordering;
 
 use collecting::collect;
-use command_answers::{PartSize, Refused, named_terminus};
+use command_answers::{Refused, named_terminus};
+use command_questions::PartSize;
 use net_check::Checked;
 use net_plan::{Certificate, Plan, PlannedTerminus};
 use ordering::terminus_by_place;

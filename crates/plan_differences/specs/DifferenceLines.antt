@@ -7,6 +7,7 @@ use Rattle.plan_differences.specs.declared.difference.Difference.{Difference}
 use Rattle.plan_differences.specs.declared.difference.Difference.TheVariants.{Removed, Changed, Added}
 use Rattle.plan_differences.specs.Facts.{FactValue, unit, bus, node, pool, port, row, terminus, record_of}
 use Rattle.plan_differences.specs.Things.{ThingValue, thing_of}
+use Rattle.plan_texts.specs.WayLines.{address_text}
 
 -- the words for a thing
 abbrev pub thing_words : ThingValue → List ℕ
@@ -26,11 +27,6 @@ thing_text f = thing_words (thing_of f)
 abbrev pub name_or_dash : Option (List ℕ) → List ℕ
 name_or_dash (Some name) = name
 name_or_dash None = codes "-"
-
--- in hex, or a dash where it is empty
-abbrev pub address_text : List ℕ → List ℕ
-address_text [] = codes "-"
-address_text (byte ∷ bytes) = encode_lower (byte ∷ bytes)
 
 -- what a fact says of its thing
 abbrev pub said_text : FactValue → List ℕ

@@ -2,12 +2,13 @@
 ghost use Rattle.std.specs.Prelude.{◌≡◌, IfOk, map, option_map, string_bytes};
 ghost use Rattle.std.specs.List.{flat_map};
 ghost use Rattle.plan_differences.specs.Facts.{fact_value};
-ghost use Rattle.plan_differences.specs.DifferenceLines.{address_text, difference_text, fact_text, name_or_dash, said_at, said_text, thing_at, thing_text, thing_words};
+ghost use Rattle.plan_differences.specs.DifferenceLines.{difference_text, fact_text, name_or_dash, said_at, said_text, thing_at, thing_text, thing_words};
 ghost use Rattle.plan_differences.specs.Things.{thing_value};
 
 use crate::difference::Difference;
 use crate::fact::{Fact, Thing};
 use net_tables::lookup::kind_word;
+use plan_texts::address_text;
 use std::alloc::{AllocError, Global};
 
 /// A line for each difference.
@@ -156,14 +157,4 @@ fn name_or_dash(name: Option<&str>) -> &str
         Some(name) => name,
         None => "-",
     }
-}
-
-/// An address in hex, or a dash where it is empty.
-fn address_text(alloc: Global, address: &[u8]) -> Result<String, AllocError>
-    ensures { IfOk result (λ text. string_bytes text ≡ address_text address.now) }
-{
-    if address.is_empty() {
-        return "-".to_string(alloc);
-    }
-    hex::encode(alloc, address)
 }

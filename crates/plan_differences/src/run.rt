@@ -8,7 +8,7 @@ ghost use Rattle.command_answers.specs.Told.{Concludes};
 ghost use Rattle.plan_differences.specs.Diffs.{Diffs, DiffsSo};
 
 use crate::told::changes_told;
-use command_answers::{Answer, Refused, Status, read_plans, tell};
+use command_answers::{Answer, Status, read_plans, refuse, tell_made};
 use net_json::{Sink, Source};
 use net_plan::Plan;
 use std::alloc::{AllocError, Global};
@@ -35,28 +35,13 @@ pub fn run_diff<P: Source, Q: Source, O: Sink, E: Sink>(
     ensures in_order { let befores = stream P.account before.old before.new in
         IsWithoutPlan befores → after.new ≡ after.old }
 {
-    let answered = answer_diff(alloc, before, after);
-    tell(alloc, answered, output, errors)
-}
-
-fn answer_diff<P: Source, Q: Source>(
-    alloc: Global,
-    before: &mut P,
-    after: &mut Q,
-) -> Result<Answer, Refused>
-    requires before { HasRoom (P.account before.old) }
-    requires after { HasRoom (Q.account after.old) }
-    ensures answers { let befores = stream P.account before.old before.new in
-        let afters = stream Q.account after.old after.new in
-        IfOk result (λ answer. DiffsSo befores afters answer.status (cow_str_bytes answer.text)) }
-    ensures unread { let befores = stream P.account before.old before.new in
-        let afters = stream Q.account after.old after.new in
-        IfErr result (λ why. ArePlansUnread why befores afters) }
-    ensures in_order { let befores = stream P.account before.old before.new in
-        IsWithoutPlan befores → after.new ≡ after.old }
-{
-    let (before, after) = read_plans(alloc, before, after)?;
-    Ok(changes_between(alloc, &before, &after)?)
+    match read_plans(alloc, before, after) {
+        Ok((before, after)) => {
+            let answered = changes_between(alloc, &before, &after);
+            tell_made(alloc, answered, output, errors)
+        }
+        Err(refused) => refuse(alloc, refused, errors),
+    }
 }
 
 /// What the change does, or nothing where the plans are the same.

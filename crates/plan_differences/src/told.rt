@@ -11,7 +11,7 @@ use crate::facts::facts_of;
 use crate::lines::difference_lines;
 use crate::way_lines::{need_line, way_lines};
 use crate::ways::other_ways;
-use net_check::{Checked, check};
+use command_answers::accepted;
 use net_plan::{Certificate, Plan};
 use net_rollout::rollout;
 use net_rules::{CertifyError, certify};
@@ -169,15 +169,4 @@ fn of_certified(
     let ways = way_lines(alloc, before, &other_ways(alloc, &old, &new)?)?;
     let need = need_line(alloc, before, &rollout(alloc, before, after)?)?;
     format!(in alloc; "{ways}{need}")
-}
-
-/// A plan and a certificate that is accepted: so nothing but memory can be wanting.
-fn accepted<'a>(
-    alloc: Global,
-    plan: &'a Plan,
-    certificate: &'a Certificate,
-) -> Result<Checked<'a>, AllocError>
-    ensures { IfOk result (λ checked. checked ≡ (plan.now, certificate.now)) }
-{
-    check(alloc, plan, certificate).map_err(|_| AllocError)
 }

@@ -28,7 +28,7 @@ use Rattle.net_tables.specs.Repositories.{records_of}
 use Rattle.net_tables.specs.Routing.{Holds}
 use Rattle.net_tables.specs.TwoPlans.{Tables, one_plan}
 use Rattle.command_answers.specs.declared.answer.Answer.{Answer}
-use Rattle.play_commands.specs.declared.script.WalkScript.{WalkScript}
+use Rattle.command_questions.specs.declared.walk_script.WalkScript.{WalkScript}
 use Rattle.play_commands.specs.declared.script.making.Made.{Made}
 use Rattle.command_answers.specs.declared.refused.Refused.{Refused}
 use Rattle.command_answers.specs.declared.status.Status.{Status}

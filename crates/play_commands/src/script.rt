@@ -15,15 +15,13 @@ ghost use Rattle.command_answers.specs.Told.{Concludes};
 ghost use Rattle.command_answers.specs.Naming.{IsFirstNamed};
 
 mod course;
-mod flights;
 mod making;
 mod text;
 
 use command_answers::{
-    Answer, PartSize, Refused, Status, fault_answer, first_named, planned_network, read_inputs,
-    tell,
+    Answer, Refused, Status, fault_answer, first_named, planned_network, read_inputs, refuse, tell,
 };
-pub use flights::Flights;
+use command_questions::WalkScript;
 use making::{Made, made_events};
 use mctp_transport::Eid;
 use net_check::{AcceptedNetwork, Checked, check};
@@ -34,20 +32,6 @@ use net_tables::lookup::{holds, records_at};
 use run_texts::outcome_line;
 use std::alloc::Global;
 use text::script_text;
-
-/// A walk whose events are asked for.
-#[derive(Clone, Copy, Debug, PartialEq, Eq)]
-pub struct WalkScript<'a> {
-    /// The name of the node that asks.
-    pub node: &'a str,
-    /// The endpoint ID of the terminus.
-    pub eid: Eid,
-    pub part: PartSize,
-    /// Flights that are lost.
-    pub lost: Flights<'a>,
-    /// Flights that come twice.
-    pub repeated: Flights<'a>,
-}
 
 /// Gives on `output` the events of a walk over the network of a plan, or what comes of the event with which it doesn't go
 /// on; or the fault for which the plan and its certificate are not accepted. Where a file can't be read, or no node has the
@@ -71,28 +55,13 @@ pub fn run_script<P: Source, C: Source, O: Sink, E: Sink>(
         (output.new ≡ output.old) (errors.new ≡ errors.old) }
     ensures in_order { IsWithoutPlan (stream P.account plan.old plan.new) → certificate.new ≡ certificate.old }
 {
-    let answered = answer_script(alloc, script, plan, certificate);
-    tell(alloc, answered, output, errors)
-}
-
-fn answer_script<P: Source, C: Source>(
-    alloc: Global,
-    script: &WalkScript,
-    plan: &mut P,
-    certificate: &mut C,
-) -> Result<Answer, Refused>
-    requires plan { HasRoom (P.account plan.old) }
-    requires certificate { HasRoom (C.account certificate.old) }
-    ensures answers { let plans = stream P.account plan.old plan.new in
-        let certificates = stream C.account certificate.old certificate.new in
-        IfOk result (λ answer. AnswersScriptSo script.now plans certificates answer.status (cow_str_bytes answer.text)) }
-    ensures unanswered { let plans = stream P.account plan.old plan.new in
-        let certificates = stream C.account certificate.old certificate.new in
-        IfErr result (IsUnscriptedFor script.now.node.now plans certificates) }
-    ensures in_order { IsWithoutPlan (stream P.account plan.old plan.new) → certificate.new ≡ certificate.old }
-{
-    let (plan, certificate) = read_inputs(alloc, plan, certificate)?;
-    answer_of_both(alloc, script, &plan, &certificate)
+    match read_inputs(alloc, plan, certificate) {
+        Ok((plan, certificate)) => {
+            let answered = answer_of_both(alloc, script, &plan, &certificate);
+            tell(alloc, answered, output, errors)
+        }
+        Err(refused) => refuse(alloc, refused, errors),
+    }
 }
 
 /// The answer on a plan and a certificate.

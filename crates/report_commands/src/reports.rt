@@ -10,7 +10,9 @@ ghost use Rattle.net_rules.specs.Certificates.{IsExact, NamesObstacle, RulesOutC
 ghost use Rattle.report_commands.specs.Reporting.{Reports, ReportsSo, ReportsWith, ReportsWithSo};
 
 use crate::bodies::{accepted_page, refused_page};
-use command_answers::{Answer, Refused, Status, fault_text, given_plan, read_inputs, tell};
+use command_answers::{
+    Answer, Refused, Status, accepted, fault_text, given_plan, read_inputs, refuse, tell, tell_made,
+};
 use net_check::{CertifyError, CheckError, Checked, certify, check};
 use net_json::{Sink, Source};
 use net_plan::{Certificate, Plan};
@@ -35,19 +37,13 @@ pub fn run_report<P: Source, O: Sink, E: Sink>(
         (stream O.account output.old output.new) (stream E.account errors.old errors.new)
         (output.new ≡ output.old) (errors.new ≡ errors.old) }
 {
-    let answered = answer_report(alloc, name, plan);
-    tell(alloc, answered, output, errors)
-}
-
-fn answer_report<P: Source>(alloc: Global, name: &str, plan: &mut P) -> Result<Answer, Refused>
-    requires { HasRoom (P.account plan.old) }
-    ensures answers { let plans = stream P.account plan.old plan.new in
-        IfOk result (λ answer. ReportsSo name.now plans answer.status (cow_str_bytes answer.text)) }
-    ensures unread { let plans = stream P.account plan.old plan.new in
-        IfErr result (λ why. IsPlanUnread why plans) }
-{
-    let given = given_plan(alloc, plan)?;
-    Ok(report_of(alloc, name, &given)?)
+    match given_plan(alloc, plan) {
+        Ok(given) => {
+            let answered = report_of(alloc, name, &given);
+            tell_made(alloc, answered, output, errors)
+        }
+        Err(refused) => refuse(alloc, refused, errors),
+    }
 }
 
 /// The page of a plan alone.
@@ -72,17 +68,6 @@ fn report_of_fit(
 {
     let checked = accepted(alloc, plan, certificate)?;
     report_of_exact(alloc, name, &checked)
-}
-
-/// A plan and a certificate that is accepted: so nothing but memory can be wanting.
-fn accepted<'a>(
-    alloc: Global,
-    plan: &'a Plan,
-    certificate: &'a Certificate,
-) -> Result<Checked<'a>, AllocError>
-    ensures { IfOk result (λ checked. checked ≡ (plan.now, certificate.now)) }
-{
-    check(alloc, plan, certificate).map_err(|_| AllocError)
 }
 
 /// The page of a checked plan whose certificate was made of it.
@@ -145,28 +130,13 @@ pub fn run_report_certified<P: Source, C: Source, O: Sink, E: Sink>(
         (output.new ≡ output.old) (errors.new ≡ errors.old) }
     ensures in_order { IsWithoutPlan (stream P.account plan.old plan.new) → certificate.new ≡ certificate.old }
 {
-    let answered = answer_report_certified(alloc, name, plan, certificate);
-    tell(alloc, answered, output, errors)
-}
-
-fn answer_report_certified<P: Source, C: Source>(
-    alloc: Global,
-    name: &str,
-    plan: &mut P,
-    certificate: &mut C,
-) -> Result<Answer, Refused>
-    requires plan { HasRoom (P.account plan.old) }
-    requires certificate { HasRoom (C.account certificate.old) }
-    ensures answers { let plans = stream P.account plan.old plan.new in
-        let certificates = stream C.account certificate.old certificate.new in
-        IfOk result (λ answer. ReportsWithSo name.now plans certificates answer.status (cow_str_bytes answer.text)) }
-    ensures unread { let plans = stream P.account plan.old plan.new in
-        let certificates = stream C.account certificate.old certificate.new in
-        IfErr result (λ why. AreUnread why plans certificates) }
-    ensures in_order { IsWithoutPlan (stream P.account plan.old plan.new) → certificate.new ≡ certificate.old }
-{
-    let (given, certificate) = read_inputs(alloc, plan, certificate)?;
-    report_with(alloc, name, &given, &certificate)
+    match read_inputs(alloc, plan, certificate) {
+        Ok((given, certificate)) => {
+            let answered = report_with(alloc, name, &given, &certificate);
+            tell(alloc, answered, output, errors)
+        }
+        Err(refused) => refuse(alloc, refused, errors),
+    }
 }
 
 /// The page of a plan with its certificate.

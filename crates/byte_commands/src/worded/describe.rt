@@ -1,7 +1,7 @@
 //! The command `describe`: every field of a record.
 ghost use Rattle.std.specs.Prelude.{◌≡◌, ◌⊎◌, IfOk, IfErr, map, string_bytes};
 ghost use Rattle.std.specs.Cow.{cow_str_bytes};
-ghost use Rattle.byte_commands.specs.declared.worded.WordQuestion.TheVariants.{Describe};
+ghost use Rattle.command_questions.specs.declared.words.WordQuestion.TheVariants.{Describe};
 ghost use Rattle.command_answers.specs.declared.refused.Refused.TheVariants as refused;
 ghost use Rattle.byte_commands.specs.Show.{IsDecoded, IsNoHex};
 ghost use Rattle.byte_commands.specs.Worded.{AnswersWords, IsUnansweredByWords, IsDescribed};

@@ -7,7 +7,8 @@ ghost use Rattle.pdr_repository.specs.WalkerStates.{state_of};
 ghost use Rattle.plan_commands.specs.Collecting.{Goes, EndsEarlyFor, HasCollected};
 
 use arrayvec::ArrayVec;
-use command_answers::{PartSize, Refused};
+use command_answers::Refused;
+use command_questions::PartSize;
 use pdr_repository::{ListTerminus, MAX_RECORDS, Terminus, WalkFault, WalkProgress, Walker};
 use pldm_message::{InstanceId, InstanceIds};
 use std::alloc::Global;

@@ -3,7 +3,7 @@ ghost use Rattle.std.specs.Prelude.{IfOk};
 ghost use Rattle.net_sim.specs.Outcomes.{event_value};
 ghost use Rattle.play_commands.specs.Scripting.{IsOfWalk};
 
-use crate::script::flights::Flights;
+use command_questions::Flights;
 use mctp_transport::Key;
 use net_plan::Event;
 use net_sim::{Effect, Handed, Outcome};
@@ -15,7 +15,7 @@ use std::collections::VecDeque;
 pub const TAG: u8 = 0;
 
 /// The number of the walker.
-const WALKER: u32 = 1;
+const WALKER: usize = 1;
 
 /// What is under way in a network with one walker.
 #[derive(Drop)]

@@ -5,9 +5,9 @@ ghost use Rattle.net_sim.specs.Outcomes.{handed_value, outcome_value};
 ghost use Rattle.play_commands.specs.Scripting.{IsMade, IsObstacle, FailsBy, IsStuck, IsFinished};
 ghost use Rattle.command_answers.specs.Naming.{IsFirstNamed};
 
-use crate::script::WalkScript;
 use crate::script::course::{Course, TAG};
 use command_answers::planned_network;
+use command_questions::WalkScript;
 use mctp_transport::Tag;
 use net_check::{AcceptedNetwork, Checked};
 use net_plan::Event;

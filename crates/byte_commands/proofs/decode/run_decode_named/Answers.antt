@@ -1,8 +1,18 @@
-use Rattle.command_answers.proofs.Told.{concludes_on_both}
+use Rattle.std.proofs.Common.{refl}
+use Rattle.std.proofs.lemmas.Result.{IfOk-weaker, IfErr-weaker}
+use Rattle.command_answers.proofs.Told.{concludes_on_both, concludes_unread, memory_lacks, on_both}
 use Rattle.byte_commands.proofs.decode.run_decode_named.Goals as goal
 
-pub returns-clause-concludes : goal.returns-clause-concludes
-returns-clause-concludes g c =
-    let answered = c.answer_named-answered in
+pub returns-in-Ok-clause-concludes : goal.returns-in-Ok-clause-concludes
+returns-in-Ok-clause-concludes g c =
+    let read = c.in-Ok in
+    let answered = c.answer_by-answered in
     let told = c.tell.ensures in
-    concludes_on_both _ _ _ _ _ _ _ answered.result answered.ensures.answers answered.ensures.unread told.told told.refuses told.untouched told.silent told.no_memory
+    concludes_on_both _ _ _ _ _ _ _ answered.result (IfOk-weaker answered.result _ _ (λ answer h. (read.plan, read.ensures.given, h)) answered.ensures.answers)
+    (IfErr-weaker answered.result _ _ (memory_lacks _ _ _ _) answered.ensures.refused) told.told told.refuses told.untouched told.silent told.no_memory
+
+pub returns-in-Ok-clause-in_order : goal.returns-in-Ok-clause-in_order
+returns-in-Ok-clause-in_order g c = λ without. absurd (without c.in-Ok.plan c.in-Ok.ensures.given)
+
+pub returns-in-Err-clause-concludes : goal.returns-in-Err-clause-concludes
+returns-in-Err-clause-concludes g c = on_both (concludes_unread _ _ _ _ _ _ _ c.in-Err.refused c.in-Err.ensures.unread c.refuse.ensures.refuses refl)

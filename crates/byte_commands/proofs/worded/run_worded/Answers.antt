@@ -1,6 +1,6 @@
 use Rattle.std.proofs.Common.{List, ℕ, map, string_bytes}
-use Rattle.byte_commands.specs.declared.worded.WordQuestion.{WordQuestion}
-use Rattle.byte_commands.specs.declared.worded.WordQuestion.TheVariants as question
+use Rattle.command_questions.specs.declared.words.WordQuestion.{WordQuestion}
+use Rattle.command_questions.specs.declared.words.WordQuestion.TheVariants as question
 use Rattle.command_answers.specs.declared.status.Status.TheVariants as status
 use Rattle.byte_commands.specs.Worded.{AnswersWords}
 use Rattle.command_answers.proofs.Told.{concludes}

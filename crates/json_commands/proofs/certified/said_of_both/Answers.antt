@@ -2,7 +2,7 @@ use Rattle.std.proofs.Common.{rules, ◌≡◌, List, ℕ, inl, inr, sym, ap, su
 use Rattle.serde_json.specs.View.{view}
 use Rattle.net_plan.specs.declared.certificate.Certificate.{Certificate}
 use Rattle.net_plan.specs.declared.plan.Plan.{Plan}
-use Rattle.json_commands.specs.declared.form.Form.{Form}
+use Rattle.command_questions.specs.declared.form.Form.{Form}
 use Rattle.json_commands.specs.Certified.{AreCheckedSaid, IsNamedIn, command_of}
 use Rattle.json_commands.specs.Unread.{IsUnknownSaid}
 use Rattle.json_commands.proofs.certified.said_of_both.Goals as goal

@@ -1,6 +1,6 @@
 use Rattle.std.proofs.Common.{sym, subst}
 use Rattle.serde_json.specs.View.{view}
-use Rattle.json_commands.specs.declared.certified.CertifiedJson.{CertifiedJson}
+use Rattle.command_questions.specs.declared.certified.CertifiedJson.{CertifiedJson}
 use Rattle.json_commands.specs.Certified.{AreCheckedSaid}
 use Rattle.json_commands.proofs.certified.said_of_checked.Goals as goal
 

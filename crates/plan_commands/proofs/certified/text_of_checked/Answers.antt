@@ -1,5 +1,5 @@
 use Rattle.std.proofs.Common.{string_bytes, sym, subst}
-use Rattle.plan_commands.specs.declared.certified.Question.{Question}
+use Rattle.command_questions.specs.declared.certified.Question.{Question}
 use Rattle.plan_commands.specs.Certified.{IsAnswer}
 use Rattle.plan_commands.proofs.certified.text_of_checked.Goals as goal
 

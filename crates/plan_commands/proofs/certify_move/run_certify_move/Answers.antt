@@ -1,9 +1,15 @@
-use Rattle.command_answers.proofs.Told.{concludes}
+use Rattle.std.proofs.Common.{refl}
+use Rattle.std.proofs.lemmas.Result.{IfOk-weaker}
+use Rattle.command_answers.proofs.Told.{concludes_made, concludes_unread}
 use Rattle.plan_commands.proofs.certify_move.run_certify_move.Goals as goal
 
-pub returns-clause-concludes : goal.returns-clause-concludes
-returns-clause-concludes g c =
-    let answered = c.answer_certify_move-answered in
-    let told = c.tell.ensures in
-    concludes _ _ _ _ _ _ _ answered.result answered.ensures.answers answered.ensures.unread told.told told.refuses told.untouched told.silent told.no_memory
+pub returns-in-Ok-clause-concludes : goal.returns-in-Ok-clause-concludes
+returns-in-Ok-clause-concludes g c =
+    let read = c.in-Ok in
+    let made = c.certificate_of_move-answered in
+    let told = c.tell_made.ensures in
+    concludes_made _ _ _ _ _ _ _ made.result (IfOk-weaker made.result _ _ (λ answer h. (read.before, read.after, read.ensures.given.0, read.ensures.given.1, h)) made.ensures) tt told.told told.refuses told.untouched told.silent told.no_memory
     (λ text h. h.4)
+
+pub returns-in-Err-clause-concludes : goal.returns-in-Err-clause-concludes
+returns-in-Err-clause-concludes g c = concludes_unread _ _ _ _ _ _ _ c.in-Err.refused c.in-Err.ensures.unread c.refuse.ensures.refuses refl

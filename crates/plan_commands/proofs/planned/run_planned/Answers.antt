@@ -1,10 +1,11 @@
-use Rattle.std.proofs.Common.{List, ℕ}
+use Rattle.std.proofs.Common.{List, ℕ, refl}
+use Rattle.std.proofs.lemmas.Result.{IfOk-weaker}
 use Rattle.net_plan.specs.declared.plan.Plan.{Plan}
-use Rattle.plan_commands.specs.declared.planned.PlanQuestion.{PlanQuestion}
-use Rattle.plan_commands.specs.declared.planned.PlanQuestion.TheVariants as question
+use Rattle.command_questions.specs.declared.planned.PlanQuestion.{PlanQuestion}
+use Rattle.command_questions.specs.declared.planned.PlanQuestion.TheVariants as question
 use Rattle.command_answers.specs.declared.status.Status.TheVariants as status
 use Rattle.plan_commands.specs.Planned.{IsSaidOf}
-use Rattle.command_answers.proofs.Told.{concludes}
+use Rattle.command_answers.proofs.Told.{concludes_made, concludes_unread}
 use Rattle.plan_commands.proofs.planned.run_planned.Goals as goal
 
 -- no answer on a plan is that of an input that can't be read
@@ -15,11 +16,15 @@ nothing_said (question.Faults name) text plan lines h = h
 nothing_said question.Lint text plan lines h = h
 nothing_said question.Rows text plan lines h = h
 
-pub returns : goal.returns
-returns g c =
-    let answered = c.answer_planned-answered in
-    let told = c.tell.ensures in
+pub returns-in-Ok : goal.returns-in-Ok
+returns-in-Ok g c =
+    let given = c.in-Ok.given in
+    let made = c.answer_of_plan-answered in
+    let told = c.tell_made.ensures in
     record {
-      concludes = concludes _ _ _ _ _ _ _ answered.result answered.ensures.answers answered.ensures.unread told.told told.refuses told.untouched told.silent told.no_memory
-          (λ lines h. nothing_said c.args.question.now h.0 h.1 lines h.3);
+      concludes = concludes_made _ _ _ _ _ _ _ made.result (IfOk-weaker made.result _ _ (λ answer h. (given.text.items, given.plan, c.in-Ok.ensures.given, h)) made.ensures) tt told.told told.refuses
+          told.untouched told.silent told.no_memory (λ lines h. nothing_said c.args.question.now h.0 h.1 lines h.3);
     }
+
+pub returns-in-Err : goal.returns-in-Err
+returns-in-Err g c = record { concludes = concludes_unread _ _ _ _ _ _ _ c.in-Err.refused c.in-Err.ensures.unread c.refuse.ensures.refuses refl }

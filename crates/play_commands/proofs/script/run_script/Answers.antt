@@ -1,9 +1,16 @@
-use Rattle.command_answers.proofs.Told.{concludes}
+use Rattle.std.proofs.Common.{refl, inl, inr}
+use Rattle.std.proofs.lemmas.Result.{IfOk-weaker, IfErr-weaker}
+use Rattle.command_answers.proofs.Told.{concludes, concludes_unread}
 use Rattle.play_commands.proofs.script.run_script.Goals as goal
 
-pub returns-clause-concludes : goal.returns-clause-concludes
-returns-clause-concludes g c =
-    let answered = c.answer_script-answered in
+pub returns-in-Ok-clause-concludes : goal.returns-in-Ok-clause-concludes
+returns-in-Ok-clause-concludes g c =
+    let read = c.in-Ok in
+    let answered = c.answer_of_both-answered in
     let told = c.tell.ensures in
-    concludes _ _ _ _ _ _ _ answered.result answered.ensures.answers answered.ensures.unanswered told.told told.refuses told.untouched told.silent told.no_memory
+    concludes _ _ _ _ _ _ _ answered.result (IfOk-weaker answered.result _ _ (λ answer h. (read.plan, read.certificate, read.ensures.given, h)) answered.ensures.answers)
+    (IfErr-weaker answered.result _ _ (λ why h. inr (read.plan, read.certificate, read.ensures.given, h)) answered.ensures.unanswered) told.told told.refuses told.untouched told.silent told.no_memory
     (λ text h. h.3)
+
+pub returns-in-Err-clause-concludes : goal.returns-in-Err-clause-concludes
+returns-in-Err-clause-concludes g c = concludes_unread _ _ _ _ _ _ _ c.in-Err.refused (inl c.in-Err.ensures.unread) c.refuse.ensures.refuses refl

@@ -1,11 +1,17 @@
-use Rattle.command_answers.proofs.Told.{concludes}
+use Rattle.std.proofs.Common.{refl}
+use Rattle.std.proofs.lemmas.Result.{IfOk-weaker}
+use Rattle.command_answers.proofs.Told.{concludes_made, concludes_unread}
 use Rattle.report_commands.proofs.reports.run_report.Goals as goal
 
-pub returns : goal.returns
-returns g c =
-    let answered = c.answer_report-answered in
-    let told = c.tell.ensures in
+pub returns-in-Ok : goal.returns-in-Ok
+returns-in-Ok g c =
+    let read = c.in-Ok in
+    let made = c.report_of-answered in
+    let told = c.tell_made.ensures in
     record {
-      concludes = concludes _ _ _ _ _ _ _ answered.result answered.ensures.answers answered.ensures.unread told.told told.refuses told.untouched told.silent told.no_memory
-          (λ page h. absurd h.2);
+      concludes = concludes_made _ _ _ _ _ _ _ made.result (IfOk-weaker made.result _ _ (λ answer h. (read.given, read.ensures.given, h)) made.ensures) tt told.told told.refuses told.untouched
+          told.silent told.no_memory (λ page h. absurd h.2);
     }
+
+pub returns-in-Err : goal.returns-in-Err
+returns-in-Err g c = record { concludes = concludes_unread _ _ _ _ _ _ _ c.in-Err.refused c.in-Err.ensures.unread c.refuse.ensures.refuses refl }

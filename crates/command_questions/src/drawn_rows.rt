@@ -1,0 +1,13 @@
+//! What a drawing shows.
+use mctp_transport::Eid;
+
+/// Which rows a drawing shows.
+#[derive(Clone, Copy, Debug, PartialEq, Eq)]
+pub enum DrawnRows {
+    /// None: it shows buses, ports and owners.
+    Hidden,
+    /// All, those of a node to a next node together.
+    All,
+    /// Those by which packets for an endpoint ID go.
+    For(Eid),
+}

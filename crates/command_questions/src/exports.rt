@@ -1,0 +1,22 @@
+//! What `export` is asked.
+
+/// In which form a node is exported.
+#[derive(Clone, Copy, Debug, PartialEq, Eq)]
+pub enum ExportKind {
+    /// A shell script with the commands for a Linux node.
+    Linux,
+    /// A C99 source of the node's tables.
+    C,
+    /// The responses of Get Routing Table Entries, each in a line in hex.
+    Entries,
+    /// The bytes of the node's records, one record after another.
+    Records,
+}
+
+/// A node and the form in which it is exported.
+#[derive(Clone, Copy, Debug, PartialEq, Eq)]
+pub struct Export<'a> {
+    pub kind: ExportKind,
+    /// The name of the node.
+    pub node: &'a str,
+}

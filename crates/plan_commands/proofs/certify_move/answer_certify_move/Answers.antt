@@ -1,5 +1,0 @@
-use Rattle.plan_commands.proofs.certify_move.answer_certify_move.Goals as goal
-
-pub returns-clause-answers : goal.returns-clause-answers
-returns-clause-answers g c =
-    let read = c.in_ok-before in (read.before, read.after, read.ensures.given.0, read.ensures.given.1, c.in_ok-certificate_of_move.ensures)
