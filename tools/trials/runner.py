@@ -79,7 +79,7 @@ class Trial:
 
 def each(call, items):
     """What a call answers for each item: as many at once as there are processors."""
-    with ThreadPoolExecutor(os.cpu_count()) as pool:
+    with ThreadPoolExecutor(len(os.sched_getaffinity(0))) as pool:
         return [*pool.map(call, items)]
 
 
