@@ -32,6 +32,7 @@ pub fn candidates(
         CertifyError::OwnerLoop(nodes) => {
             for &node in nodes {
                 pools::add_owners(plan, node, &mut edits)?;
+                add(&mut edits, node, Change::Owner(None))?;
             }
         }
         CertifyError::Loop(eid, nodes) => {
@@ -74,16 +75,22 @@ fn add_for_cause(
         }
         Cause::OwnerIsEndpoint { owner } => {
             pools::add_owners(plan, node, edits)?;
+            add(edits, node, Change::Owner(None))?;
             add(edits, owner, Change::Kind(Kind::Bridge))
         }
-        Cause::OwnerSharesNoBus { .. } => pools::add_owners(plan, node, edits),
+        Cause::OwnerSharesNoBus { .. } => {
+            pools::add_owners(plan, node, edits)?;
+            add(edits, node, Change::Owner(None))
+        }
         Cause::OutsideOwnersPool { owner } => {
             eids::add_eids(plan, node, edits)?;
             pools::add_owners(plan, node, edits)?;
+            pools::add_for_owned(plan, owner, edits)?;
             pools::add_larger(plan, owner, fault.eid, edits)?;
-            pools::add_for_owned(plan, owner, edits)
+            add(edits, node, Change::Owner(None))
         }
         Cause::InPeersPool { peer } => {
+            pools::add_lost_owners(plan, node, edits)?;
             pools::add_parts(plan, peer, fault.eid, edits)?;
             eids::add_eids(plan, node, edits)?;
             add(edits, peer, Change::Pool(None))
@@ -95,6 +102,8 @@ fn add_for_cause(
         Cause::PoolOutOfRange => pools::add_clipped(plan, node, edits),
         Cause::PoolBeyondOwners { owner, .. } => pools::add_within(plan, node, owner, edits),
         Cause::PoolsMeet { earlier, .. } => {
+            pools::add_lost_owners(plan, node, edits)?;
+            pools::add_lost_owners(plan, earlier, edits)?;
             pools::add_apart(plan, node, earlier, edits)?;
             pools::add_apart(plan, earlier, node, edits)
         }
@@ -140,9 +149,9 @@ fn add_for_entry(
             add(edits, node, Change::LessRow(at))
         }
         Cause::EndpointForSeveral { .. } => {
+            rows::add_neighbors(plan, node, at, edits)?;
             rows::add_what_next_has(plan, node, at, edits)?;
             rows::add_next_as_bridge(plan, node, at, edits)?;
-            rows::add_neighbors(plan, node, at, edits)?;
             add(edits, node, Change::LessRow(at))
         }
         Cause::NextIsEndpoint { holder } | Cause::NextHasNoRow { holder } => {

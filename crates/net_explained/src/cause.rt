@@ -3,8 +3,8 @@ use crate::rest::Stretch;
 use mctp_transport::Eid;
 use pdr_record::RecordError;
 
-/// Why a plan breaks a rule at an index, and who else is involved. A node is told by its index in the plan's list; a row
-/// or a record by its index in its node's list.
+/// Why a plan breaks a rule at an index, and who else is involved. A node is told by its index in the plan's list; a
+/// row or a record by its index in its node's list.
 #[derive(Clone, Copy, Debug, PartialEq, Eq)]
 pub enum Cause {
     /// C01: an earlier node has the node's name.
@@ -19,8 +19,8 @@ pub enum Cause {
     },
     /// C04: the row covers nothing, or more than can be assigned.
     RowOutOfRange,
-    /// C05: an earlier row of the node covers one of the row's endpoint IDs. Of each of the two the first stretch that no
-    /// other row covers, if there is one.
+    /// C05: an earlier row of the node covers one of the row's endpoint IDs. Of each of the two the first stretch that
+    /// no other row covers, if there is one.
     OverlappedRow {
         earlier: usize,
         eid: Eid,
@@ -42,7 +42,8 @@ pub enum Cause {
         fitting: Option<usize>,
         next: Option<usize>,
     },
-    /// C06: the row covers several endpoint IDs and leads to an endpoint. The first node that would fit, if there is one.
+    /// C06: the row covers several endpoint IDs and leads to an endpoint. The first node that would fit, if there is
+    /// one.
     EndpointForSeveral {
         next: Option<usize>,
     },

@@ -7,8 +7,8 @@ ghost use Rattle.net_explained.specs.Followers.{followers, record_of_handle};
 use net_plan::PlannedRecord;
 use std::alloc::{AllocError, Global};
 
-/// The records round which the next handles lead from a record back to itself, by their indexes in the list: that record,
-/// each that follows, and the first again at the end.
+/// The records round which the next handles lead from a record back to itself, by their indexes in the list: that
+/// record, each that follows, and the first again at the end.
 pub fn circle_from(
     alloc: Global,
     records: &[PlannedRecord],

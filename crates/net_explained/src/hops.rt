@@ -16,8 +16,8 @@ pub struct MostHops {
     pub hops: u8,
 }
 
-/// The two nodes between which the certificate allows most hops; where it allows as many between others too, the first in
-/// the order of the plan, by the node that sends and then by the other. None where it allows no hop between any two.
+/// The two nodes between which the certificate allows most hops; where it allows as many between others too, the first
+/// in the order of the plan, by the node that sends and then by the other. None where it allows no hop between any two.
 pub fn most_hops(plan: &Plan, certificate: &Certificate) -> Option<MostHops>
     ensures { IsMostHops plan.now certificate.now result }
 {

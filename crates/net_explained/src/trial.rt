@@ -24,8 +24,8 @@ pub struct Tried {
     pub left: Option<CertifyError>,
 }
 
-/// At most three edits of the plan of a text that take the obstacle away, each of them tried. Where some leave a plan that
-/// has a certificate, only such are told.
+/// At most three edits of the plan of a text that take the obstacle away, each of them tried. Where some leave a plan
+/// that has a certificate, only such are told.
 pub fn tried_edits(
     alloc: Global,
     text: &[u8],
@@ -53,8 +53,8 @@ pub fn tried_edits(
     Ok(if whole.is_empty() { partial } else { whole })
 }
 
-/// Makes an edit in the plan of a text, and sees what rules certificates out then: nothing, or an obstacle that comes later
-/// than the one before. None of any other edit.
+/// Makes an edit in the plan of a text, and sees what rules certificates out then: nothing, or an obstacle that comes
+/// later than the one before. None of any other edit.
 fn try_edit(
     alloc: Global,
     text: &[u8],

@@ -10,8 +10,8 @@ use std::alloc::AllocError;
 /// How many of one sort are tried.
 const FEW: usize = 6;
 
-/// Adds endpoint IDs that nobody holds: first those that a row of another node already leads to the node, and then others
-/// of its owner's pool.
+/// Adds endpoint IDs that nobody holds: first those that a row of another node already leads to the node, and then
+/// others of its owner's pool.
 pub fn add_eids(plan: &Plan, node: usize, edits: &mut Vec<Edit>) -> Result<(), AllocError> {
     add_free(plan, node, true, edits)?;
     add_free(plan, node, false, edits)

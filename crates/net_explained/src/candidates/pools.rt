@@ -10,7 +10,7 @@ use net_tables::lookup::{
 };
 use std::alloc::AllocError;
 
-/// Adds the bridges on a bus of the node that have its endpoint ID in their pool, and last no owner.
+/// Adds the bridges on a bus of the node that have its endpoint ID in their pool.
 pub fn add_owners(plan: &Plan, node: usize, edits: &mut Vec<Edit>) -> Result<(), AllocError> {
     if let Some(eid) = eid_at(plan, node) {
         for owner in 0..plan.nodes.len() {
@@ -24,7 +24,15 @@ pub fn add_owners(plan: &Plan, node: usize, edits: &mut Vec<Edit>) -> Result<(),
             }
         }
     }
-    add(edits, node, Change::Owner(None))
+    Ok(())
+}
+
+/// Adds owners of a node that has none.
+pub fn add_lost_owners(plan: &Plan, node: usize, edits: &mut Vec<Edit>) -> Result<(), AllocError> {
+    match owner_at(plan, node) {
+        Some(_) => Ok(()),
+        None => add_owners(plan, node, edits),
+    }
 }
 
 /// Adds the pool from the first number to that before the end, unless it is empty or not within 8 to 254.
@@ -59,14 +67,18 @@ pub fn add_larger(
     }
 }
 
-/// Adds the pool that begins with the least endpoint ID that the node owns, as large as its own, and the one that has all of
-/// these.
+/// Adds the pool that begins with the least endpoint ID of the nodes that the node owns and of their pools, as large as
+/// its own, and the one that has all of these.
 pub fn add_for_owned(plan: &Plan, owner: usize, edits: &mut Vec<Edit>) -> Result<(), AllocError> {
     let (mut first, mut end) = (255, 0);
     for node in 0..plan.nodes.len() {
         if let (true, Some(eid)) = (owner_at(plan, node) == Some(owner), eid_at(plan, node)) {
             first = u16::from(eid.value).min(first);
             end = (u16::from(eid.value) + 1).max(end);
+            if let Some(pool) = pool_at(plan, node) {
+                first = u16::from(pool.first.value).min(first);
+                end = pool_end(pool).max(end);
+            }
         }
     }
     if let Some(pool) = pool_at(plan, owner) {

@@ -25,18 +25,36 @@ pub fn add_links(
     let records = records_at(plan, node);
     match fault {
         ChainFault::Missing(at) => add_next(node, records, at, edits),
-        ChainFault::Doubled(at) => {
-            add_next(node, records, at, edits)?;
-            match records.get(at) {
-                Some(record) => add_before(node, records, record.next, edits),
-                None => Ok(()),
+        ChainFault::Doubled(at) => match records.get(at) {
+            Some(record) => {
+                add_following(node, records, record.next, edits)?;
+                add_next(node, records, at, edits)?;
+                add_before(node, records, record.next, edits)
             }
-        }
+            None => Ok(()),
+        },
         ChainFault::Circle(at) => match records.get(at) {
             Some(record) => add_before(node, records, record.handle, edits),
             None => Ok(()),
         },
     }
+}
+
+/// Adds the handle of the record behind as the next one, for each record that has this next handle.
+fn add_following(
+    node: usize,
+    records: &[PlannedRecord],
+    next: u32,
+    edits: &mut Vec<Edit>,
+) -> Result<(), AllocError> {
+    for at in 0..records.len() {
+        if let Some(behind) = records.get(at + 1) {
+            if records[at].next == next && !leads_to(records, behind.handle) {
+                add(edits, node, Change::Next(at, behind.handle))?;
+            }
+        }
+    }
+    Ok(())
 }
 
 /// Adds other next handles of the first record that has this one.
@@ -164,8 +182,8 @@ pub fn add_header_handle(
 
 // ---- locators
 
-/// Adds the bytes of a terminus locator with the endpoint ID of the node that has its terminus ID, and with the terminus ID
-/// of the node that has its endpoint ID.
+/// Adds the bytes of a terminus locator with the endpoint ID of the node that has its terminus ID, and with the
+/// terminus ID of the node that has its endpoint ID.
 pub fn add_locators(
     alloc: Global,
     plan: &Plan,

@@ -11,7 +11,8 @@ use net_tables::lookup::{
 };
 use std::alloc::AllocError;
 
-/// Adds a row that covers from the first number on to that before the end, unless this is nothing or not within 8 to 254.
+/// Adds a row that covers from the first number on to that before the end, unless this is nothing or not within 8 to
+/// 254.
 fn add_row(
     node: usize,
     at: usize,
@@ -100,8 +101,8 @@ pub fn add_clipped(
     add_row(node, at, *row, first, first + 1, edits)
 }
 
-/// Adds the row to its next node by other ports, and to other nodes: those that hold its first endpoint ID, and those that
-/// have a row for it or have it in their pool.
+/// Adds the row to its next node by other ports, and to other nodes: those that hold its first endpoint ID, and those
+/// that have a row for it or have it in their pool.
 pub fn add_neighbors(
     plan: &Plan,
     node: usize,
@@ -214,8 +215,8 @@ fn covers_at(plan: &Plan, node: usize, at: usize, eid: Eid) -> bool {
     }
 }
 
-/// Adds ways on to the holder of an endpoint ID, where the next node of the row has none: the row leads to the holder, or
-/// the next node gets a row, or the row covers it no more.
+/// Adds ways on to the holder of an endpoint ID, where the next node of the row has none: the row leads to the holder,
+/// or the next node gets a row, or the row covers it no more.
 pub fn add_ways_on(
     plan: &Plan,
     node: usize,
@@ -237,8 +238,8 @@ pub fn add_ways_on(
     add_without(plan, node, at, eid, edits)
 }
 
-/// Adds rows of the row's next node for the endpoint ID: those to its holder cover it in place of another one, or there is
-/// one more.
+/// Adds rows of the row's next node for the endpoint ID: those to its holder cover it in place of another one, or there
+/// is one more.
 fn add_rows_for(
     plan: &Plan,
     node: usize,
@@ -256,6 +257,7 @@ fn add_rows_for(
             }
         }
     }
+    add_more_rows(plan, from, eid, own_run(plan, holder, eid), holder, edits)?;
     add_more_rows(plan, from, eid, 1, holder, edits)?;
     for next in 0..plan.nodes.len() {
         if next != node && is_bridge(plan, next) && has_row(plan, next, eid) {
@@ -264,6 +266,17 @@ fn add_rows_for(
         }
     }
     Ok(())
+}
+
+/// How many endpoint IDs, one after another from that of the node on, are its own or of its pool.
+fn own_run(plan: &Plan, node: usize, eid: Eid) -> u8 {
+    let number = u16::from(eid.value);
+    match pool_at(plan, node) {
+        Some(pool) if u16::from(pool.first.value) <= number + 1 && number < pool_end(pool) => {
+            (pool_end(pool) - number).min(247) as u8
+        }
+        _ => 1,
+    }
 }
 
 /// How many endpoint IDs of the row, one after another from this one on, the node has no row for.

@@ -136,8 +136,8 @@ fn fitting_port(plan: &Plan, node: usize, row: &Row) -> Option<usize>
     first_joined(plan, node, row.next)
 }
 
-/// The first node that the row, as one of the node's, could lead to by its port, and that has the row's first endpoint ID
-/// itself or in its pool.
+/// The first node that the row, as one of the node's, could lead to by its port, and that has the row's first endpoint
+/// ID itself or in its pool.
 fn fitting_next(plan: &Plan, node: usize, row: &Row) -> Option<usize>
     ensures { IsFittingNext plan.now node row.now result }
 {
