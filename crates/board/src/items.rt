@@ -69,15 +69,20 @@ fn is_hex_digit(byte: u8) -> bool {
     matches!(byte, b'0'..=b'9' | b'a'..=b'f')
 }
 
-/// A row: `EIDS via NODE port NUMBER`.
+/// A row: `EIDS via NODE port NUMBER`, the number at most 31.
 pub fn read_row(text: &str, nodes: &[&str]) -> Option<BoardRow> {
     let (eids, rest) = text.split_once(" via ")?;
     let (next, port) = rest.split_once(" port ")?;
     let (first, size) = read_eids(eids)?;
+    let next = index_of(nodes, next)?;
+    let port = usize::from(decimal(port)?);
+    if port > 31 {
+        return None;
+    }
     Some(BoardRow {
-        next: index_of(nodes, next)?,
+        next,
         first,
         size,
-        port: usize::from(decimal(port)?),
+        port,
     })
 }

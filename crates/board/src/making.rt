@@ -101,7 +101,8 @@ pub struct Cut {
     pub to: usize,
 }
 
-/// The text of a plan that is made of a board, whose records may name these files, or why none is made. Nothing of the plan is promised here.
+/// The text of a plan that is made of a board, whose records may name these files, or why none is made. Nothing of the
+/// plan is promised here.
 pub fn made_plan(alloc: Global, board: &Board, files: &[RecordFile]) -> Result<Made, NoPlan> {
     let chosen = choose_eids(alloc, board)?;
     let made = make_rows(alloc, board, &chosen)?;
@@ -121,8 +122,8 @@ pub fn given_plan(alloc: Global, board: &Board) -> Result<String, NoPlan> {
     Ok(plan_text(alloc, board, &chosen, &rows, &records)?)
 }
 
-/// Whether the node is a bridge: where the board doesn't say, one that has a pool, owns a node, or has rows and ports on
-/// two buses.
+/// Whether the node is a bridge: where the board doesn't say, one that has a pool, owns a node, or has rows and ports
+/// on two buses.
 pub fn kind_of(board: &Board, index: usize, node: &BoardNode) -> Kind {
     if let Some(kind) = node.kind {
         return kind;

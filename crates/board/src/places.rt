@@ -12,8 +12,8 @@ pub struct Place<'a> {
     pub item: Option<usize>,
 }
 
-/// The line and the column, both from 1, where a value stands, if it stands there as most write it: a line for each key,
-/// below the header of its table. Otherwise of the header, or of the text's beginning.
+/// The line and the column, both from 1, where a value stands, if it stands there as most write it: a line for each
+/// key, below the header of its table. Otherwise of the header, or of the text's beginning.
 pub fn position(text: &str, place: Place) -> (usize, usize) {
     let (start, line) = table_start(text, place);
     let mut number = line;

@@ -17,7 +17,7 @@ const A_NODE: &str = "the name of a node";
 
 const A_PORT: &str = "a bus and an address in lower-case hex, as \"i2c0 1d\",";
 
-const A_ROW: &str = "endpoint IDs, a node and a port, as \"16-31 via switch port 0\",";
+const A_ROW: &str = "endpoint IDs, a node and a port from 0 to 31, as \"16-31 via switch port 0\",";
 
 const NODES: &str = "a list of at most 64 tables, each under [[node]],";
 
@@ -316,7 +316,7 @@ fn read_reaches(given: &Given, names: Names) -> Result<Option<Vec<usize>>, Board
     if given.value("reaches").is_none() {
         return Ok(None);
     }
-    let values = given.list("reaches", MOST, "a list of names")?;
+    let values = given.list("reaches", MOST, "a list of at most 64 names")?;
     let mut nodes = Vec::new(given.alloc);
     for (index, value) in values.iter().enumerate() {
         nodes.push(read_one_node(given, names, index, value)?)?;
@@ -372,7 +372,7 @@ fn near_row(given: &Given, names: Names, text: &str) -> Result<String, AllocErro
     match nearest_of(given.alloc, node, names.nodes)? {
         Some(near) if near != node => {
             format!(in given.alloc;
-                "endpoint IDs, a node and a port, as \"{eids} via {near} port {port}\","
+                "endpoint IDs, a node and a port from 0 to 31, as \"{eids} via {near} port {port}\","
             )
         }
         _ => A_ROW.to_string(given.alloc),

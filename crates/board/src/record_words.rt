@@ -65,7 +65,7 @@ fn read_record_at<'v>(
 }
 
 fn read_record(given: &Given, names: Names) -> Result<BoardRecord, BoardError> {
-    let handle = given.word("handle", "a number from 1 to 4294967295")?;
+    let handle = given.word("handle", "a number from 0 to 4294967295")?;
     let next = given.word("next", "a number from 0 to 4294967295")?;
     Ok(BoardRecord {
         handle,

@@ -20,8 +20,8 @@ pub fn choose_pool(
     Ok(())
 }
 
-/// The first run of so many endpoint IDs of the owner's pool that no other node holds or hands on, and that has all that
-/// are given below the node.
+/// The first run of so many endpoint IDs of the owner's pool that no other node holds or hands on, and that has all
+/// that are given below the node.
 fn free_run(board: &Board, known: &[Known], index: usize, size: u8) -> Result<MadePool, NoPlan> {
     let owner = owner_of(board, index);
     let (first, last) = owned_range(known, index, owner)?;

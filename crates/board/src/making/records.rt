@@ -6,7 +6,8 @@ use crate::board::{
 use record_fields::{MakeError, made_record};
 use std::alloc::{AllocError, Global};
 
-/// The records of each node. Handles that are left out count from 1, and next handles that are left out follow the list.
+/// The records of each node. Handles that are left out count from 1, and next handles that are left out follow the
+/// list.
 pub fn make_records(
     alloc: Global,
     board: &Board,
@@ -60,7 +61,8 @@ fn handle_of(record: &BoardRecord, place: usize) -> u32 {
     }
 }
 
-/// The bytes of a record in hex, or what is wrong where its fields are not those of its type, or its file was not given.
+/// The bytes of a record in hex, or what is wrong where its fields are not those of its type, or its file was not
+/// given.
 fn bytes_of(
     alloc: Global,
     files: &[RecordFile],

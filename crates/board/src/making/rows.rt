@@ -140,8 +140,8 @@ fn ways_to(
     })
 }
 
-/// Adds the rows for a target at each node from which it is to be reached, and along the ways from there. Answers the first
-/// of these nodes from which no way leads to one that holds the endpoint ID.
+/// Adds the rows for a target at each node from which it is to be reached, and along the ways from there. Answers the
+/// first of these nodes from which no way leads to one that holds the endpoint ID.
 fn add_rows(
     alloc: Global,
     board: &Board,

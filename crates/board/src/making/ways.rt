@@ -65,8 +65,8 @@ pub struct Step {
     pub link: Link,
 }
 
-/// For each node, the way to a destination for an endpoint ID, of the fewest hops, ties by the order of the nodes and of
-/// the ports. A row that the board gives there is followed. None where no way leads there.
+/// For each node, the way to a destination for an endpoint ID, of the fewest hops, ties by the order of the nodes and
+/// of the ports. A row that the board gives there is followed. None where no way leads there.
 pub fn steps_to(
     alloc: Global,
     board: &Board,
