@@ -39,9 +39,9 @@ _mctpplan() {
         return
     fi
     case $command in
-        certify | lint | rows) files=1 ;;
-        check | assign | walk | script | reach | matrix | require | trace | draw | faults | report | audit | emulate) files=2 ;;
-        move | sim | explain | capture) files=3 ;;
+        certify | lint | rows | fix) files=1 ;;
+        certifymove | diff | rollout | check | assign | walk | script | reach | matrix | require | trace | draw | faults | report | audit | emulate) files=2 ;;
+        move | sim | export | explain | capture) files=3 ;;
         simmove) files=4 ;;
         expect) files=3 ;;
         code)
@@ -77,6 +77,10 @@ _mctpplan() {
     esac
     if [[ $command == draw && $current == -* ]]; then
         mapfile -t COMPREPLY < <(compgen -W '--rows' -- "$current")
+    elif [[ $command == export && $current == -* ]]; then
+        mapfile -t COMPREPLY < <(compgen -W '--link' -- "$current")
+    elif [[ $command == export && $place -eq 2 ]]; then
+        mapfile -t COMPREPLY < <(compgen -W 'linux c entries records' -- "$current")
     elif [[ $command == script && $current == -* ]]; then
         mapfile -t COMPREPLY < <(compgen -W '--lose --repeat' -- "$current")
     elif [[ $command == script && $place -eq 4 ]]; then
@@ -90,7 +94,7 @@ _mctpplan() {
         mapfile -t COMPREPLY < <(compgen -d -- "$current")
     elif [[ $command == make ]]; then
         compopt -o filenames 2>/dev/null
-        mapfile -t COMPREPLY < <(compgen -d -- "$current"; compgen -f -X '!*.@(toml|json)' -- "$current")
+        mapfile -t COMPREPLY < <(compgen -d -- "$current"; compgen -f -X '!*.toml' -- "$current"; compgen -f -X '!*.json' -- "$current")
     elif [[ $command == expect && $place -eq 5 ]]; then
         compopt -o filenames 2>/dev/null
         mapfile -t COMPREPLY < <(compgen -f -- "$current")
@@ -113,8 +117,10 @@ _mctpplan() {
     elif [[ $command == require && $place -eq 4 ]]; then
         compopt -o filenames 2>/dev/null
         mapfile -t COMPREPLY < <(compgen -f -- "$current")
-    elif [[ $command == walk && $place -eq 4 || $command == script && $place -eq 5 || $command == trace && $place -le 5 || $command == emulate && $place -eq 4 ]]; then
-        plan=$(_mctpplan_unquoted "${COMP_WORDS[2]}")
+    elif [[ $command =~ ^(walk|emulate)$ && $place -eq 4 || $command =~ ^(script|export)$ && $place -eq 5 || $command == trace && $place -le 5 ]]; then
+        plan=${COMP_WORDS[2]}
+        [[ $command == export ]] && plan=${COMP_WORDS[3]}
+        plan=$(_mctpplan_unquoted "$plan")
         [ -f "$plan" ] || return
         # (compgen would run what stands in a name)
         while IFS= read -r name; do

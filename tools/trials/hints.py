@@ -39,7 +39,7 @@ HINTS = [
     (
         ["script", PLAN, CERTIFICATE, "walk", "host", "17", "64", "--lose", "x"],
         "usage",
-        [SCRIPT, "behind --lose and --repeat stand numbers with commas between them", "mctpplan guide script tells more"],
+        [SCRIPT, "behind --lose and --repeat, each once, stand numbers with commas between them", "mctpplan guide script tells more"],
     ),
     (["script", PLAN, CERTIFICATE, "walk", "hsot", "17", "64"], "unreadable node: J06", ["there is no node hsot; the nearest is host"]),
     (
@@ -51,6 +51,17 @@ HINTS = [
         ["draw", PLAN, "--rows", "7"],
         "usage",
         ["mctpplan draw PLAN [CERT] [--rows [EID]]", "EID is a number of 8 to 254, and not 7", "mctpplan guide draw tells more"],
+    ),
+    (["draw", PLAN, "--rows", "7", "--rows", "8"], "usage", ["mctpplan draw PLAN [CERT] [--rows [EID]]", "mctpplan guide draw tells more"]),
+    (["show", "packets", "00"], "usage", ["mctpplan show packet HEX", "packets is neither packet nor record", "mctpplan guide show tells more"]),
+    (
+        ["export", "linux", PLAN, CERTIFICATE, "nic", "--link", "b0=x", "--link", "b1=x"],
+        "usage",
+        [
+            "mctpplan export linux|c|entries|records PLAN CERT NODE [--link BUS=DEV]..",
+            "--link is for linux, as --link b0=mctpi2c0, once for each bus and each device",
+            "mctpplan guide export tells more",
+        ],
     ),
     (
         ["record", "terminus-locator", "handle=x"],

@@ -40,8 +40,8 @@ impl<'a, R: Files + Input> FileAtPath<'a, R> {
         }
     }
 
-    /// Tells the file's path and the system's reason, where it could not be opened or a read failed. Want of memory for that
-    /// line and a sink that fails are passed over.
+    /// Tells the file's path and the system's reason, where it could not be opened or a read failed. Want of memory for
+    /// that line and a sink that fails are passed over.
     pub fn tell_failure<E: Sink>(&self, alloc: Global, errors: &mut E)
         requires { HasRoom (E.account errors.old) }
     {
@@ -117,8 +117,8 @@ impl<'a, R: Files> FileToWrite<'a, R> {
         }
     }
 
-    /// Tells the file's path and the system's reason, where it could not be made or a write failed. Want of memory for that
-    /// line and a sink that fails are passed over.
+    /// Tells the file's path and the system's reason, where it could not be made or a write failed. Want of memory for
+    /// that line and a sink that fails are passed over.
     pub fn tell_failure<E: Sink>(&self, alloc: Global, errors: &mut E)
         requires { HasRoom (E.account errors.old) }
     {

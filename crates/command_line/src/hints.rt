@@ -1,5 +1,5 @@
-//! What a person at a terminal is told beside the line of a refusal. Want of memory for it and a sink that fails are passed
-//! over.
+//! What a person at a terminal is told beside the line of a refusal. Want of memory for it and a sink that fails are
+//! passed over.
 ghost use Rattle.net_json.specs.Stream.{HasRoom};
 
 use crate::subcommand::{command_names, form_of, part_size_of};
@@ -117,7 +117,11 @@ fn wrong_argument(alloc: Global, command: &str, words: &[String]) -> Result<Stri
         ("explain", [_, _, others @ ..]) if has_option(others, "--move") => {
             "the other form is explain OLD --move NEW\n".to_string(alloc)
         }
-        ("draw", [.., option, eid]) if option.as_str() == "--rows" => eid_hint(alloc, eid),
+        ("draw", [.., option, eid]) if option.as_str() == "--rows" && eid_of_word(eid).is_none() =>
+            { eid_hint(alloc, eid) }
+        ("show", [_, _, what, ..]) if what.as_str() != "packet" && what.as_str() != "record" => {
+            format!(in alloc; "{what} is neither packet nor record\n")
+        }
         ("code", [_, _, code]) if text_of(code).is_none() => {
             format!(in alloc; "there is no code {code}\n")
         }
@@ -141,7 +145,9 @@ fn script_hint(alloc: Global, what: &str, eid: &str, count: &str) -> Result<Stri
     if part_size_of(count).is_none() {
         return count_hint(alloc, count);
     }
-    "behind --lose and --repeat stand numbers with commas between them\n".to_string(alloc)
+    "behind --lose and --repeat, each once, stand numbers with commas between them\n".to_string(
+        alloc,
+    )
 }
 
 fn eid_hint(alloc: Global, eid: &str) -> Result<String, AllocError> {
@@ -154,7 +160,9 @@ fn form_hint(alloc: Global, form: &str, others: &[String]) -> Result<String, All
         return format!(in alloc; "{form} is none of linux, c, entries and records\n");
     }
     if has_option(others, "--link") {
-        return "--link is for linux, as --link b0=mctpi2c0, once for each bus\n".to_string(alloc);
+        return "--link is for linux, as --link b0=mctpi2c0, once for each bus and each device\n".to_string(
+            alloc,
+        );
     }
     Ok(String::new(alloc))
 }

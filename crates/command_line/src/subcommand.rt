@@ -187,7 +187,7 @@ fn matches_of<'a>(alloc: Global, list: &'a [String]) -> Result<ArgMatches<'a>, R
         .map_err(refused_for)
 }
 
-/// The links that the words of `export` have, no two of one bus.
+/// The links that the words of `export` have, no two of one bus or of one device.
 pub fn links_of_words<'a>(alloc: Global, list: &'a [String]) -> Result<Vec<Link<'a>>, Refused> {
     let matches = matches_of(alloc, list)?;
     let (_, arguments) = matches.subcommand().ok_or(Refused::Usage)?;
@@ -201,7 +201,7 @@ pub fn links_of_words<'a>(alloc: Global, list: &'a [String]) -> Result<Vec<Link<
 }
 
 fn add_link<'a>(links: &mut Vec<Link<'a>>, link: Link<'a>) -> Result<(), Refused> {
-    if links.iter().any(|other| other.bus == link.bus) {
+    if links.iter().any(|other| other.bus == link.bus || other.device == link.device) {
         return Err(Refused::Usage);
     }
     match links.push(link) {
@@ -335,8 +335,8 @@ fn grammar<'a>(alloc: Global, named: Option<&String>) -> Result<clap::Command<'a
     Ok(grammar)
 }
 
-/// A command with its arguments in this order: first those that are required, then those that may be left out. Options may
-/// stand anywhere.
+/// A command with its arguments in this order: first those that are required, then those that may be left out. Options
+/// may stand anywhere.
 fn with_arguments<'a>(
     alloc: Global,
     name: &'a str,
