@@ -22,9 +22,10 @@ use net_plan::{Certificate, Plan};
 use std::alloc::Global;
 
 /// Says on `output` what the devices of a capture said and which of its packets aren't planned, laid beside a plan, or
-/// tells the fault of the plan and its certificate. The capture was taken on the bus of the name, where one is given; where
-/// the plan has no bus of the name, says so on `output`, and reads no capture. A capture that can't be read to its end is
-/// told as far as it can. Where the plan or the certificate can't be read, says so on `errors`, and reads nothing more.
+/// tells the fault of the plan and its certificate. The capture was taken on the bus of the name, where one is given;
+/// where the plan has no bus of the name, says so on `output`, and reads no capture. A capture that can't be read to
+/// its end is told as far as it can. Where the plan or the certificate can't be read, says so on `errors`, and reads
+/// nothing more.
 pub fn run_audit<P: Source, C: Source, T: Source, O: Sink, E: Sink>(
     alloc: Global,
     bus: Option<&str>,

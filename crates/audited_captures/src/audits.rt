@@ -31,9 +31,9 @@ use net_plan::{Node, Plan};
 use plan_exports::planned_entries;
 use std::alloc::{AllocError, Global};
 
-/// What was captured, laid beside a checked plan: the lines of what each node said, in the plan's order, and behind them
-/// those of the packets that the plan doesn't have on the bus, or on any bus where none is given. The repositories are the
-/// nodes' records by place, as handles and bytes.
+/// What was captured, laid beside a checked plan: the lines of what each node said, in the plan's order, and behind
+/// them those of the packets that the plan doesn't have on the bus, or on any bus where none is given. The repositories
+/// are the nodes' records by place, as handles and bytes.
 pub fn audited_lines(
     alloc: Global,
     checked: &Checked,
@@ -184,8 +184,8 @@ pub fn difference_count(lines: &[Line]) -> usize
     count
 }
 
-/// The text of an audit: its lines, where the capture was not read to its end, and last whether all that was captured is
-/// planned, or how many lines tell a difference. What was read in part is never told as a match.
+/// The text of an audit: its lines, where the capture was not read to its end, and last whether all that was captured
+/// is planned, or how many lines tell a difference. What was read in part is never told as a match.
 pub fn audit_text(alloc: Global, lines: &[Line], end: End) -> Result<String, AllocError>
     ensures { IfOk result (λ text. string_bytes text ≡ audit_text (map line_value lines.now) end) }
 {

@@ -3,8 +3,8 @@ ghost use Rattle.audited_captures.specs.AsPlanned.{MatchesWhereAsPlanned};
 ghost use Rattle.audited_captures.specs.Forwarding.{TablesForward, AuditsForward};
 ghost use Rattle.audited_captures.specs.Matching.{NodesMatchWhereAsPlanned, TrafficMatchesWhereAsPlanned, AuditMatches, MatchesAudit};
 
-/// What was read of a routing table tells no difference exactly where it is what is planned: each planned entry was read,
-/// each that was read is planned, and none was read twice.
+/// What was read of a routing table tells no difference exactly where it is what is planned: each planned entry was
+/// read, each that was read is planned, and none was read twice.
 pub fn matches_where_as_planned()
     ensures { MatchesWhereAsPlanned }
 {}
@@ -21,16 +21,16 @@ pub fn traffic_matches_where_as_planned()
     ensures { TrafficMatchesWhereAsPlanned }
 {}
 
-/// No line of an audit tells a difference exactly where all nodes have said what is planned, and each packet is planned on
-/// the bus.
+/// No line of an audit tells a difference exactly where all nodes have said what is planned, and each packet is planned
+/// on the bus.
 pub fn audits_match_where_as_planned()
     ensures matches { AuditMatches }
     ensures matched { MatchesAudit }
 {}
 
 /// A bridge forwards by the plan's rows, as far as it told its routing table: where the table that was read tells no
-/// difference, an entry is for an endpoint ID exactly where a row of the bridge covers it, and leads on as the row does:
-/// through its port, to the address of its next node. So it is of each table in an audit that matches.
+/// difference, an entry is for an endpoint ID exactly where a row of the bridge covers it, and leads on as the row
+/// does: through its port, to the address of its next node. So it is of each table in an audit that matches.
 pub fn told_tables_forward_as_planned()
     ensures tables { TablesForward }
     ensures audits { AuditsForward }

@@ -24,8 +24,8 @@ use net_questions::WayStep;
 use net_tables::lookup::{bus_at, bus_name, holder, node_name};
 use std::alloc::{AllocError, Global};
 
-/// What is told of the packets of a capture that a checked plan doesn't have on a bus, or on any bus where none is given.
-/// A line tells all packets from an endpoint ID to another, in the order of the first packets.
+/// What is told of the packets of a capture that a checked plan doesn't have on a bus, or on any bus where none is
+/// given. A line tells all packets from an endpoint ID to another, in the order of the first packets.
 pub fn traffic_lines(
     alloc: Global,
     checked: &Checked,

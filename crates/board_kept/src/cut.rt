@@ -16,7 +16,8 @@ use net_tables::lookup::is_bridge;
 use std::alloc::{AllocError, Global};
 use toml::Value;
 
-/// Whether the board asks that a node reaches another, to which no way leads. Where the answer is no, that is not known.
+/// Whether the board asks that a node reaches another, to which no way leads. Where the answer is no, that is not
+/// known.
 pub fn is_cut_off(
     alloc: Global,
     board: &Value,
@@ -41,8 +42,8 @@ fn may_be_cut(board: &Value, plan: &Plan, from: usize, to: usize) -> bool
     is_asked(board, plan, from, to) && are_kinds_as_said(board, plan)
 }
 
-/// Whether no way leads from a node to another that goes where the rows of another plan lead. Where the answer is no, that
-/// is not known.
+/// Whether no way leads from a node to another that goes where the rows of another plan lead. Where the answer is no,
+/// that is not known.
 pub fn is_cut_off_with(
     alloc: Global,
     before: &Plan,

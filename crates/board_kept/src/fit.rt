@@ -14,8 +14,8 @@ use net_check::Checked;
 use std::alloc::{AllocError, Global};
 use toml::Value;
 
-/// That a checked plan has all that a board gives, and that every node reaches those for which the board asks, in as few
-/// hops as the buses, the bridges and the rows that the board gives allow.
+/// That a checked plan has all that a board gives, and that every node reaches those for which the board asks, in as
+/// few hops as the buses, the bridges and the rows that the board gives allow.
 pub fn judge(
     alloc: Global,
     files: &[RecordFile],

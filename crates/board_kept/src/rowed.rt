@@ -15,8 +15,8 @@ use net_plan::{Plan, Row};
 use net_tables::lookup::{covers, eid_at, row_at, rows_at};
 use std::alloc::{AllocError, Global};
 
-/// That a checked plan is another one but for its rows, in which it has those of the other, and that all its nodes reach
-/// each other, in as few hops as the buses, the bridges and the other plan's rows allow.
+/// That a checked plan is another one but for its rows, in which it has those of the other, and that all its nodes
+/// reach each other, in as few hops as the buses, the bridges and the other plan's rows allow.
 pub fn judge_rows(alloc: Global, before: &Plan, checked: &Checked) -> Result<(), Unfit>
     ensures { OnOk result (IsRowedFrom before.now checked.now.0 checked.now.1) }
 {

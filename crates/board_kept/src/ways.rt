@@ -6,8 +6,8 @@ use net_plan::Plan;
 use net_tables::lookup::{is_bridge, is_on_bus, port_at, ports_at};
 use std::alloc::{AllocError, Global};
 
-/// For each node a number of hops, than which no fewer lead there from one node. `near` has which nodes share a bus, and
-/// `turns` where what is given leads from each node; nothing is given at those that it lacks.
+/// For each node a number of hops, than which no fewer lead there from one node. `near` has which nodes share a bus,
+/// and `turns` where what is given leads from each node; nothing is given at those that it lacks.
 pub fn least_hops(
     alloc: Global,
     plan: &Plan,

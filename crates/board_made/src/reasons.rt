@@ -175,7 +175,8 @@ fn named(alloc: Global, name: &str) -> Result<String, AllocError>
     format!(in alloc; "node \"{name}\"")
 }
 
-/// What rules certificates of the made plan out, with the node's line of the board, if there is one, and the explanation.
+/// What rules certificates of the made plan out, with the node's line of the board, if there is one, and the
+/// explanation.
 pub fn obstacle_reason(
     alloc: Global,
     text: Option<&str>,

@@ -12,8 +12,8 @@ use board::{Board, NoPlan};
 use std::alloc::{AllocError, Global};
 use toml::Value;
 
-/// Whether a board lacks what is said to be lacking. `given` is what was read of it. Where the answer is no, that is not
-/// known.
+/// Whether a board lacks what is said to be lacking. `given` is what was read of it. Where the answer is no, that is
+/// not known.
 pub fn lacks(alloc: Global, board: &Value, given: &Board, why: NoPlan) -> Result<bool, AllocError>
     ensures { IfOk result (λ answer. IsTrue answer → Lacks (view board.now) why) }
 {

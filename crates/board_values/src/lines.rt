@@ -8,7 +8,8 @@ use board::{NoPlan, line_of_node, line_of_record};
 use std::alloc::{AllocError, Global};
 use toml::Value;
 
-/// The words that say what is lacking. `text` is that of the board. Want of memory, and a node without a name, have none.
+/// The words that say what is lacking. `text` is that of the board. Want of memory, and a node without a name, have
+/// none.
 pub fn lacking_words(
     alloc: Global,
     board: &Value,

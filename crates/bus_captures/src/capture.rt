@@ -21,7 +21,9 @@ pub enum Time<'a> {
 /// Which way an entry went, as the capturing side saw it.
 #[derive(Clone, Copy, Debug, PartialEq, Eq)]
 pub enum Direction {
+    /// A packet of Linux that is marked as outgoing (4), or a line that says so.
     Sent,
+    /// Any other packet of Linux, also one that went between others, or a line that says so.
     Received,
 }
 
@@ -39,9 +41,13 @@ pub enum Kind {
 /// One thing that was captured.
 #[derive(Debug, Drop)]
 pub struct Entry<'a> {
+    /// When it was captured.
     pub time: Time<'a>,
+    /// Which way it went, where the capture says so.
     pub direction: Option<Direction>,
+    /// What its bytes are.
     pub kind: Kind,
+    /// What was captured of it, behind the header of the link.
     pub bytes: Vec<u8>,
 }
 
@@ -84,14 +90,16 @@ pub enum End {
     Whole,
     /// More follows than `MAX_ENTRIES`, and isn't read.
     Full,
-    /// At a record of a file, or at a line of a text, counted from 1; at 0 stands a file's header. What stands before it
-    /// was read.
+    /// At a record of a file, or at a line of a text, counted from 1; at 0 stands a file's header. What stands before
+    /// it was read.
     Broken { place: u64, fault: CaptureFault },
 }
 
 /// The entries of a capture, in their order, and how reading it ended.
 #[derive(Debug, Drop)]
 pub struct Capture<'a> {
+    /// At most 100,000 (`End::Full`).
     pub entries: Vec<Entry<'a>>,
+    /// How reading it ended.
     pub end: End,
 }

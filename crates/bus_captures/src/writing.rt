@@ -9,8 +9,8 @@ use crate::carried::CarriedPacket;
 use byteorder::{BigEndian, ByteOrder, LittleEndian};
 use std::alloc::{AllocError, Global};
 
-/// The header of a file: its first number (nanoseconds, the lowest byte first), version 2.4, no zone, no accuracy, records
-/// of at most 262,144 bytes, and link type 276.
+/// The header of a file: its first number (nanoseconds, the lowest byte first), version 2.4, no zone, no accuracy,
+/// records of at most 262,144 bytes, and link type 276.
 const FILE_HEADER: [u8; 24] = [
     0x4d, 0x3c, 0xb2, 0xa1, 2, 0, 4, 0, 0, 0, 0, 0, 0, 0, 0, 0, 0, 0, 4, 0, 0x14, 1, 0, 0,
 ];

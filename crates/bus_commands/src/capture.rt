@@ -20,11 +20,12 @@ use play_commands::read_run;
 use std::alloc::{AllocError, Global};
 
 /// Writes on `output` a capture file of the packets that go from a node to the next one while events happen in the
-/// network of a plan, where the certificate fits the plan, or tells the fault there. Where a file can't be read, says so
-/// on `errors`.
+/// network of a plan, where the certificate fits the plan, or tells the fault there. Where a file can't be read, says
+/// so on `errors`.
 ///
-/// The file is one of libpcap's, with Linux' second cooked link type. A packet has the number of its event for a second,
-/// the number of the bus in the plan's list, from 1 on, for an interface, and the address of the port that sent it.
+/// The file is one of libpcap's, with Linux' second cooked link type. A packet has the number of its event for a
+/// second, the number of the bus in the plan's list, from 1 on, for an interface, and the address of the port that sent
+/// it.
 pub fn run_capture<P: Source, C: Source, V: Source, O: Sink, E: Sink>(
     alloc: Global,
     plan: &mut P,

@@ -17,10 +17,10 @@ use std::alloc::Global;
 
 /// Emulates a node of a plan where the certificate fits the plan, or tells the fault there.
 ///
-/// `packets` gives lines: the name of a bus, a blank, and in hex a packet that comes to the node over that bus. What the
-/// node sends is written on `output` as such lines, for each line before the next one is read. On `errors` a line that
-/// begins with `#` says of what nothing comes, and why. Where a file can't be read, or then where the plan has no node of
-/// the name, says so on `errors`, and reads no packets.
+/// `packets` gives lines: the name of a bus, a blank, and in hex a packet that comes to the node over that bus. What
+/// the node sends is written on `output` as such lines, for each line before the next one is read. On `errors` a line
+/// that begins with `#` says of what nothing comes, and why. Where a file can't be read, or then where the plan has no
+/// node of the name, says so on `errors`, and reads no packets.
 pub fn run_emulate<P: Source, C: Source, I: Source, O: Sink, E: Sink>(
     alloc: Global,
     emulation: &Emulation,

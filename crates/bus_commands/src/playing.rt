@@ -35,8 +35,8 @@ impl From<Refused> for Stop {
     }
 }
 
-/// Gives a node of a plan the lines of a source to its end. What is written for a line is written before the next one is
-/// read.
+/// Gives a node of a plan the lines of a source to its end. What is written for a line is written before the next one
+/// is read.
 pub fn play_lines<T: Terminus, I: Source, O: Sink, E: Sink>(
     alloc: Global,
     plan: &Plan,

@@ -57,8 +57,8 @@ fn decoded(alloc: Global, bytes: &[u8]) -> Result<Answer, Refused>
     Ok(answer_at(capture.end, text))
 }
 
-/// Says the same, and behind each packet the names of the nodes that hold its endpoint IDs by a plan, which nobody checks.
-/// Where the plan can't be read, says so on `errors`, and reads no capture.
+/// Says the same, and behind each packet the names of the nodes that hold its endpoint IDs by a plan, which nobody
+/// checks. Where the plan can't be read, says so on `errors`, and reads no capture.
 pub fn run_decode_named<P: Source, C: Source, O: Sink, E: Sink>(
     alloc: Global,
     plan: &mut P,

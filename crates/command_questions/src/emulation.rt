@@ -5,7 +5,7 @@
 pub struct Emulation<'a> {
     /// The name of the node.
     pub node: &'a str,
-    /// Whether its device holds its planned endpoint ID and its pool. Otherwise it is as an assignment finds it: without
-    /// them where another node owns it.
+    /// Whether its device holds its planned endpoint ID and its pool. Otherwise it is as an assignment finds it:
+    /// without them where another node owns it.
     pub is_configured: bool,
 }

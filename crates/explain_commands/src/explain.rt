@@ -25,8 +25,8 @@ use plan_texts::{edit_lines, obstacle_line, obstacle_lines, summary_lines};
 use std::alloc::{AllocError, Global};
 use unread::unread_answer;
 
-/// Says on `output` what `certify` says of a plan, `yes` in place of the certificate, and explains it. Where the plan can't
-/// be read, it says so there too, and where the text's first fault is. The name is that of the plan's file.
+/// Says on `output` what `certify` says of a plan, `yes` in place of the certificate, and explains it. Where the plan
+/// can't be read, it says so there too, and where the text's first fault is. The name is that of the plan's file.
 pub fn run_explain<P: Source, O: Sink, E: Sink>(
     alloc: Global,
     name: &str,
@@ -128,8 +128,8 @@ fn told_there(
     format!(in alloc; "{place}{told}{more}")
 }
 
-/// Says how many more faults a plan has than the one that is told, or a plan and a certificate, and by which words they are
-/// listed.
+/// Says how many more faults a plan has than the one that is told, or a plan and a certificate, and by which words they
+/// are listed.
 pub fn more_faults(
     alloc: Global,
     words: &str,

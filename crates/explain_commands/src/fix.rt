@@ -26,7 +26,8 @@ struct Mended {
 }
 
 /// Prints the text of a plan on `output`, with edits made until a certificate fits it, or the line of what still rules
-/// certificates out where no edit is left. Tells the edits on `errors`. Where the plan can't be read, says so as `explain`.
+/// certificates out where no edit is left. Tells the edits on `errors`. Where the plan can't be read, says so as
+/// `explain`.
 pub fn run_fix<P: Source, O: Sink, E: Sink>(
     alloc: Global,
     plan: &mut P,

@@ -18,8 +18,8 @@ use net_tables::lookup::{is_bridge, terminus_at};
 use plan_exports::Link;
 use std::alloc::Global;
 
-/// Writes what a node of a plan is in a form on `output`, where the certificate fits the plan, or tells the fault there.
-/// Where a file can't be read, or then where the plan has no such node or no bus of a link, says so on `errors`.
+/// Writes what a node of a plan is in a form on `output`, where the certificate fits the plan, or tells the fault
+/// there. Where a file can't be read, or then where the plan has no such node or no bus of a link, says so on `errors`.
 pub fn run_export<P: Source, C: Source, O: Sink, E: Sink>(
     alloc: Global,
     export: &Export,

@@ -13,8 +13,8 @@ use net_tables::lookup::node_name;
 use plan_texts::{number_text, obstacle_words};
 use std::alloc::{AllocError, Global};
 
-/// The faults of the plan in a text, each run in a line of its own, and how many lines these are. The text has a name, which
-/// stands before each place.
+/// The faults of the plan in a text, each run in a line of its own, and how many lines these are. The text has a name,
+/// which stands before each place.
 pub fn fault_lines(
     alloc: Global,
     name: &str,

@@ -23,8 +23,8 @@ pub enum Sight<'e> {
     Other(u16),
 }
 
-/// Says what becomes of an entry under a transmission unit of 64 to 1024 bytes. A packet is given to the assembler of its
-/// destination.
+/// Says what becomes of an entry under a transmission unit of 64 to 1024 bytes. A packet is given to the assembler of
+/// its destination.
 pub fn see<'e>(
     alloc: Global,
     assemblers: &mut Vec<Assembler>,

@@ -29,10 +29,10 @@ use net_json::{Sink, Source};
 use net_plan::{Certificate, Plan};
 use std::alloc::{AllocError, Global};
 
-/// Answers in JSON what is asked of a plan and its certificate, on `output`: one value, in one line. Where a file can't be
-/// read, or then where the plan has nothing that is named, the value tells so. Of two files that can't be read, the plan is
-/// told and the certificate is not read. The names are those of the files. The run ends as that of the command without
-/// JSON.
+/// Answers in JSON what is asked of a plan and its certificate, on `output`: one value, in one line. Where a file can't
+/// be read, or then where the plan has nothing that is named, the value tells so. Of two files that can't be read, the
+/// plan is told and the certificate is not read. The names are those of the files. The run ends as that of the command
+/// without JSON.
 pub fn run_certified_json<P: Source, C: Source, O: Sink, E: Sink>(
     alloc: Global,
     asked: &CertifiedJson,

@@ -45,7 +45,8 @@ impl<'p> Listed for EditWriter<'p> {
     }
 }
 
-/// An edit: the operation, its pointer and its value, what is said of it, and what rules certificates out once it is made.
+/// An edit: the operation, its pointer and its value, what is said of it, and what rules certificates out once it is
+/// made.
 fn edit_value(alloc: Global, plan: &Plan, tried: &Tried) -> Result<Value, AllocError>
     ensures { IfOk result (λ value. view value ≡ edit_data plan.now tried.now) }
 {

@@ -43,7 +43,8 @@ pub fn sound_said(alloc: Global, plan: &Plan, certificate: &Certificate) -> Resu
     Ok(said_of(alloc, Status::Yes, results, &lines, edits, 0, nothing())?)
 }
 
-/// What is told, by its parts. Where the certificate alone is at fault, the last one is what explains the plan; else null.
+/// What is told, by its parts. Where the certificate alone is at fault, the last one is what explains the plan; else
+/// null.
 fn said_of(
     alloc: Global,
     status: Status,

@@ -274,8 +274,8 @@ impl<'a, 't> Listed for HopWriter<'a, 't> {
     }
 }
 
-/// The pointer to the first of a node's rows for an endpoint ID, or to the node where it has none; to its owner where no
-/// endpoint ID is given.
+/// The pointer to the first of a node's rows for an endpoint ID, or to the node where it has none; to its owner where
+/// no endpoint ID is given.
 pub fn hop_pointer(
     alloc: Global,
     plan: &Plan,

@@ -20,8 +20,8 @@ use command_questions::{Form, PlanJson};
 use net_json::{Sink, Source};
 use std::alloc::{AllocError, Global};
 
-/// Answers in JSON what is asked of a plan, on `output`: one value, in one line. Where the plan can't be read, the value
-/// tells so. The name is that of the plan's file. The run ends as that of the command without JSON.
+/// Answers in JSON what is asked of a plan, on `output`: one value, in one line. Where the plan can't be read, the
+/// value tells so. The name is that of the plan's file. The run ends as that of the command without JSON.
 pub fn run_planned_json<P: Source, O: Sink, E: Sink>(
     alloc: Global,
     asked: PlanJson,

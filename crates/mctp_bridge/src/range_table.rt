@@ -54,8 +54,8 @@ impl RangeTable {
         next_in(&self.rows, eid)
     }
 
-    /// The interval from `first` to `last`, both included, in pieces: one for each row that covers some of it, cut to
-    /// it, and one for each gap that no row covers.
+    /// The interval from `first` to `last`, which isn't before it, both included, in pieces: one for each row that
+    /// covers some of it, cut to it, and one for each gap that no row covers.
     pub fn pieces(&self, first: Eid, last: Eid) -> Pieces<'_>
         requires { first.value ≤ last.value }
         ensures { ArePieces self.now first.value last.value result }

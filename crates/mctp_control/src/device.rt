@@ -134,8 +134,8 @@ impl Device {
         self.eid.map_or(Eid::new(0), |held| held.eid)
     }
 
-    /// What answers Allocate Endpoint IDs: whether the pool was taken, and the pool that is held now, of size 0 and from
-    /// EID 0 for none.
+    /// What answers Allocate Endpoint IDs: whether the pool was taken, and the pool that is held now, of size 0 and
+    /// from EID 0 for none.
     fn pool_told(&self, acceptance: Acceptance) -> ControlAnswer
         ensures { content_bytes (answer_value result) ≡ 0 ∷ acceptance_number acceptance
             ∷ present_size (device_value self.now).pool ∷ present_first (device_value self.now).pool ∷ [] }

@@ -38,7 +38,7 @@ impl EidPool {
         self.take_block(1)
     }
 
-    /// Gives out the lowest run of `count` free EIDs, if there is one, and answers the first of them.
+    /// Gives out the lowest run of `count` free EIDs, one at least, if there is one, and answers the first of them.
     pub fn take_block(&mut self, count: u8) -> Option<Eid>
         requires { 0 < count }
         ensures some { IfSome result (λ eid. IsLowestRun (pool_value self.old) count eid.value × GoesOut (pool_value self.old) (pool_value self.new) eid.value count) }

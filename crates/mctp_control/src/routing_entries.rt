@@ -23,7 +23,8 @@ pub struct Neighbor<'a> {
     pub address: &'a [u8],
 }
 
-/// The entries of a table, row after row. A neighbor is given for each row, in the table's order.
+/// The entries of a table, row after row. A neighbor is given for each row, in the table's order. An address has at
+/// most 8 bytes, and a port is below 32.
 ///
 /// A row to an endpoint gives one entry of kind `Endpoint`. A row to a bridge is cut before the bridge's own endpoint
 /// ID, if that lies in it: what comes before gives an entry of kind `Range`, and what begins with it one of kind

@@ -219,8 +219,8 @@ impl Assembler {
         self.numbers[index] = number_in(message);
     }
 
-    /// Writes more bytes of the message that is open in a slot, which goes on as this one. Its key stays, and with it the
-    /// slot's number.
+    /// Writes more bytes of the message that is open in a slot, which goes on as this one. Its key stays, and with it
+    /// the slot's number.
     fn extend(&mut self, index: usize, at: usize, bytes: &[u8], message: OpenMessage)
         requires index { index < assembler_slots self.old }
         requires fits { at + length bytes.now ≤ assembler_limit self.old }

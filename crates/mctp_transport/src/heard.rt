@@ -38,7 +38,8 @@ pub fn idle_assemblers(alloc: Global, count: usize) -> Result<Vec<Assembler>, Al
     Ok(assemblers)
 }
 
-/// Gives a packet to an assembler. A message that comes is copied.
+/// Gives a packet to an assembler. A message that comes is copied. Where there is no memory for the copy, the assembler
+/// has taken the packet all the same, and the message is lost.
 pub fn hear(
     alloc: Global,
     assembler: &mut Assembler,

@@ -44,7 +44,7 @@ pub trait Wire<'a>: Sized + Drop {
     ghost one_value: { (m n : Meaning) → IsLawful m → IsLawful n → spelling m ≡ spelling n → m ≡ n };
 }
 
-/// Writes a value at the front of `out` and reads those bytes again: they spell the same value.
+/// Writes a value at the front of `out`, which has room for it, and reads those bytes again: they spell the same value.
 pub fn round_trip<'a, W: Wire<'a>>(value: &W, out: &'a mut [u8]) -> Result<W, W::Error>
     requires { length (W.spelling (W.meaning value.now)) ≤ length out.old }
     ensures { IsOkAnd result (λ again. W.meaning again ≡ W.meaning value.now) }

@@ -1,4 +1,5 @@
-//! The program `mctpplan`: it checks a planned MCTP network against its certificate, makes certificates, and plays the network.
+//! The program `mctpplan`: it checks a planned MCTP network against its certificate, makes certificates, and plays the
+//! network.
 #![tactic(auto)]
 
 ghost use Rattle.std.specs.Prelude.{◌≡◌};
@@ -238,8 +239,8 @@ fn make<'a>(rt: &'a HostRuntime, board: &'a str, certificate: Option<&'a str>) -
     run_make(rt.alloc(), &mut board, &files, &mut output, &mut errors)
 }
 
-/// Makes a plan of a board, and writes its certificate to a file. Where that fails, standard error tells the path and the
-/// system's reason.
+/// Makes a plan of a board, and writes its certificate to a file. Where that fails, standard error tells the path and
+/// the system's reason.
 fn make_certified<'a>(rt: &'a HostRuntime, board: &'a str, path: &'a str) -> Status {
     let alloc = rt.alloc();
     let files = FilesBeside::new(rt, board);
@@ -453,8 +454,8 @@ fn report<'a>(rt: &'a HostRuntime, name: &'a str, certificate: Option<&'a str>) 
     }
 }
 
-/// Answers a question about a plan in JSON. Where its file can't be opened or read, standard error tells the path and the
-/// system's reason.
+/// Answers a question about a plan in JSON. Where its file can't be opened or read, standard error tells the path and
+/// the system's reason.
 fn planned_in_json<'a>(rt: &'a HostRuntime, asked: PlanJson, name: &'a str) -> Status {
     over_told!(rt, run_planned_json(asked, name), plan = name)
 }
@@ -474,8 +475,8 @@ fn certified_in_json<'a>(
     )
 }
 
-/// Explains a plan, with its certificate where there is one. Where a file can't be opened or read, standard error tells the
-/// path and the system's reason.
+/// Explains a plan, with its certificate where there is one. Where a file can't be opened or read, standard error tells
+/// the path and the system's reason.
 fn explain<'a>(rt: &'a HostRuntime, name: &'a str, certificate: Option<&'a str>) -> Status {
     match certificate {
         None => over_told!(rt, run_explain(name), plan = name),

@@ -9,8 +9,8 @@ use crate::checked_move::CheckedMove;
 use net_plan::{Certificate, Plan};
 use std::marker::Model;
 
-/// A checked plan, or a checked move from one plan to another: the plan that the nodes start on, the plan whose rows they
-/// switch to, if any, and the certificate, of which each rule holds.
+/// A checked plan, or a checked move from one plan to another: the plan that the nodes start on, the plan whose rows
+/// they switch to, if any, and the certificate, of which each rule holds.
 #[derive(Drop)]
 pub struct AcceptedNetwork<'a> {
     plan: &'a Plan,

@@ -54,7 +54,8 @@ impl<'a> Checked<'a> {
 }
 
 /// Whether each rule holds of the plan and the certificate. Otherwise the error is the first fault, or out of memory:
-/// it takes lists with an entry for each node, and sets of the handles and places of one terminus after the other.
+/// it takes lists with an entry for each node and for the records of one terminus after the other, and sets of their
+/// handles and places where these have a fault.
 #[tactic(auto, using(net_rules::proofs::Ends::ends_within_rank, net_runs::proofs::Exact::runs_as_sent))]
 pub fn check<'a>(
     alloc: Global,

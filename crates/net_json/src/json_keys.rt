@@ -9,8 +9,8 @@ ghost use Rattle.net_json.specs.SingleKeys.{single, items_single, members_single
 
 use json::Value;
 
-/// Whether no object of a value has a key twice. It takes quadratic time on an object of many different keys; those that
-/// a reader took have eight at most.
+/// Whether no object of a value has a key twice. It takes quadratic time on an object of many different keys; those
+/// that a reader took have eight at most.
 #[cycle(single)]
 pub fn has_single_keys(value: &Value<'_>) -> bool
     ensures { result ≡ single (value_view value.now) }

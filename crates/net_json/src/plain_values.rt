@@ -154,8 +154,8 @@ pub fn check_rule(rule: Rule, value: &Value<'_>) -> Result<(), ValueFault>
     }
 }
 
-/// The endpoint ID after the last of a range, from 1 to 510, where its numbers are in their bounds; else the first fault
-/// of these numbers.
+/// The endpoint ID after the last of a range, from 1 to 510, where its numbers are in their bounds; else the first
+/// fault of these numbers.
 pub fn range_end(value: &Value<'_>) -> Result<u64, ValueFault>
     ensures { result ≡ range_end (view value.now) }
 {

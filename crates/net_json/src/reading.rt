@@ -55,7 +55,8 @@ pub fn plan_of_text(alloc: Global, text: &[u8]) -> Result<Plan, PlanError>
     plan_of_value(alloc, &value)
 }
 
-/// The certificate that a text stands for, whose entries name nodes of this plan. The text has at most 16,777,216 bytes.
+/// The certificate that a text stands for, whose entries name nodes of this plan. The text has at most 16,777,216
+/// bytes.
 ///
 /// The error is the text's first fault in the order of tests, or `OutOfMemory`.
 pub fn certificate_of_text(
@@ -108,8 +109,8 @@ pub fn read_plan<S: Source>(alloc: Global, source: &mut S) -> Result<Plan, PlanE
     plan_of_text(alloc, text.as_slice())
 }
 
-/// The certificate that the text of a source stands for, whose entries name nodes of this plan. The source is read to its
-/// end.
+/// The certificate that the text of a source stands for, whose entries name nodes of this plan. The source is read to
+/// its end.
 ///
 /// The errors are those of `certificate_of_text`, and `Device` where the source failed.
 pub fn read_certificate<S: Source>(

@@ -327,8 +327,8 @@ fn placed(alloc: Global, nodes: &NameIndex, parts: Vec<CutParts<'_>>) -> Option<
     Some(list)
 }
 
-/// Rows that lead to nodes that this index finds. Rows that follow one another often lead to the same node, which is then
-/// looked up once.
+/// Rows that lead to nodes that this index finds. Rows that follow one another often lead to the same node, which is
+/// then looked up once.
 #[inline(never)]
 fn found_rows(alloc: Global, nodes: &NameIndex, rows: &[NamedRow<'_>]) -> Option<Vec<Row>>
     ensures { IfSome result (λ v. map row_value v.items ≡ map (found_row (find_in nodes.now)) (map named_row rows.now)) }

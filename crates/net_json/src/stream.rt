@@ -165,8 +165,8 @@ const LEAST_ROOM: usize = 4096;
 /// By how much a text grows at most.
 const MOST_ROOM: usize = 65_536;
 
-/// Makes a text longer than what is filled of it, by zeros, but no longer than a byte over the limit, by which it is known
-/// to be too long.
+/// Makes a text longer than what is filled of it, by zeros, but no longer than a byte over the limit, by which it is
+/// known to be too long.
 fn make_room(text: &mut Vec<u8>, filled: usize, limit: usize) -> Result<(), AllocError>
     requires front { filled ≤ vec_len text.old }
     requires within { filled ≤ limit }
@@ -211,7 +211,8 @@ fn pull_at<S: Source>(source: &mut S, text: &mut [u8], at: usize) -> Result<usiz
     source.pull(&mut text[at..])
 }
 
-/// Gives all bytes to a sink. No write is tried again once it has failed; the sink has then taken a beginning of the bytes.
+/// Gives all bytes to a sink. No write is tried again once it has failed; the sink has then taken a beginning of the
+/// bytes.
 pub fn write_whole<S: Sink>(sink: &mut S, bytes: &[u8]) -> Result<(), Failed>
     requires { HasRoom (S.account sink.old) }
     ensures all { OnOk result (Appends (S.account sink.old).bytes (S.account sink.new).bytes bytes.now) }

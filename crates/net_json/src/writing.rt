@@ -50,8 +50,8 @@ fn compact_text(alloc: Global, plan: &Plan, certificate: &Certificate) -> Result
 
 /// Gives the text of a certificate of a plan to a sink.
 ///
-/// The text is made whole first, so that the sink has taken nothing where there is too little memory (`OutOfMemory`). Where
-/// the sink failed (`Device`), it has taken a beginning of the text.
+/// The text is made whole first, so that the sink has taken nothing where there is too little memory (`OutOfMemory`).
+/// Where the sink failed (`Device`), it has taken a beginning of the text.
 #[tactic(auto, using(crate::proofs::ReadsBack::text_stands))]
 pub fn write_certificate<S: Sink>(
     alloc: Global,

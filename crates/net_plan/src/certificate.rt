@@ -64,8 +64,8 @@ pub struct NodePlaces {
     pub places: Vec<RecordPlace>,
 }
 
-/// What is claimed of a plan: how many owners each node has above it, where each record stands along the next handles, and
-/// how many moves each endpoint ID is from each node.
+/// What is claimed of a plan: how many owners each node has above it, where each record stands along the next handles,
+/// and how many moves each endpoint ID is from each node.
 #[derive(Debug, Drop)]
 pub struct Certificate {
     pub levels: Vec<NodeLevel>,

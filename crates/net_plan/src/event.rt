@@ -1,8 +1,8 @@
 //! The events of a run of a network.
 use mctp_transport::{Eid, Key, Tag};
 
-/// What happens in a run of a network. A node is given by its index in the plan's list, a flight or a walker by its number,
-/// from 1 on.
+/// What happens in a run of a network. A node is given by its index in the plan's list, a flight or a walker by its
+/// number, from 1 on.
 #[derive(Debug, Drop)]
 pub enum Event {
     /// A packet is put in at a node. The bytes are the packet's, its MCTP header (DSP0236) among them.

@@ -8,7 +8,8 @@ pub struct PlannedRecord {
     pub handle: u32,
     /// The record handle of the record that follows; 0 where none does.
     pub next: u32,
-    /// The record's bytes: its common header (10 bytes, DSP0248), then its body. `check` asks whether they are well formed.
+    /// The record's bytes: its common header (10 bytes, DSP0248), then its body. `check` asks whether they are well
+    /// formed.
     pub bytes: Vec<u8>,
 }
 

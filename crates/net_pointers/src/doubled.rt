@@ -29,8 +29,8 @@ pub struct DoubledKey {
     pub members: TwoIndices,
 }
 
-/// The first name of a list that stands before it too. Names are found by comparison, since who writes a text could choose
-/// names that collide in a hash.
+/// The first name of a list that stands before it too. Names are found by comparison, since who writes a text could
+/// choose names that collide in a hash.
 pub fn first_doubled(alloc: Global, names: &[&str]) -> Result<Option<TwoIndices>, AllocError>
     ensures { IfOk result (λ found. MatchOption found (names_differ (map (λ name. name.now) names.now) ≡ true) (λ places. IsFirstDoubled (map (λ name. name.now) names.now) places)) }
 {

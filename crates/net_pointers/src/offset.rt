@@ -21,7 +21,8 @@ use json::{Reader, Scratch, Value};
 use net_json::PointerStep;
 use std::alloc::{AllocError, Global};
 
-/// The offset at which the value begins to which a pointer leads in the tree of the text. `None` where it leads nowhere.
+/// The offset at which the value begins to which a pointer leads in the tree of the text. `None` where it leads
+/// nowhere.
 pub fn offset_of_pointer(
     alloc: Global,
     text: &[u8],

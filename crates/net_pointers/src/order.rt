@@ -37,8 +37,8 @@ pub enum TextSort<'p> {
     Events(&'p Plan),
 }
 
-/// What is asked of a value: what may stand where, which lists name nothing twice, whether ranges of ranks ascend apart,
-/// and which names there are.
+/// What is asked of a value: what may stand where, which lists name nothing twice, whether ranges of ranks ascend
+/// apart, and which names there are.
 #[derive(Drop)]
 pub struct Asked<'a> {
     pub shape: &'static Shape,
@@ -107,8 +107,8 @@ pub fn asked_of<'a>(
     }
 }
 
-/// What is wrong with the value of a text, by the first fault in the order of tests. `None` where it is what the text is to
-/// be.
+/// What is wrong with the value of a text, by the first fault in the order of tests. `None` where it is what the text
+/// is to be.
 pub fn trouble_of(
     alloc: Global,
     sort: TextSort<'_>,

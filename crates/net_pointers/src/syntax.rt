@@ -52,8 +52,8 @@ enum Passing {
     Stops(Wanted),
 }
 
-/// Where a text that is no JSON stops being it: up to there it is JSON as far as it goes, and nothing that is wanted there
-/// stands there.
+/// Where a text that is no JSON stops being it: up to there it is JSON as far as it goes, and nothing that is wanted
+/// there stands there.
 pub fn json_fault(alloc: Global, text: &[u8]) -> Result<JsonFault, AllocError>
     ensures { IfOk result (λ fault. IsFaultOfJson text.now fault) }
 {

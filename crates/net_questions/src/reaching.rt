@@ -7,8 +7,8 @@ use crate::pair::Pair;
 use net_check::Checked;
 use std::alloc::{AllocError, Global};
 
-/// Each two different nodes, in plan order, with the number of moves along rows that lead from the one to the endpoint ID of
-/// the other, and back.
+/// Each two different nodes, in plan order, with the number of moves along rows that lead from the one to the endpoint
+/// ID of the other, and back.
 pub fn reach(alloc: Global, checked: &Checked) -> Result<Vec<Pair>, AllocError>
     ensures { IfOk result (λ pairs. ArePairs checked.now.0 checked.now.1 pairs.items) }
 {

@@ -7,8 +7,9 @@ use net_check::Checked;
 use net_tables::lookup::node_name;
 use std::alloc::{AllocError, Global};
 
-/// A table with a row and a column for each node of a checked plan, in its order, by number from 1: how many hops a packet
-/// of the row's node makes to the column's, a dash where it doesn't arrive, and a dot for one node. The name ends a row.
+/// A table with a row and a column for each node of a checked plan, in its order, by number from 1: how many hops a
+/// packet of the row's node makes to the column's, a dash where it doesn't arrive, and a dot for one node. The name
+/// ends a row.
 pub fn matrix_text(alloc: Global, checked: &Checked) -> Result<String, AllocError>
     ensures { IfOk result (λ text. IsMatrix checked.now.0 (string_bytes text)) }
 {

@@ -39,8 +39,8 @@ impl From<AllocError> for WishError {
     }
 }
 
-/// The wishes of a text, a line each: `A B`, `A -> *` and `A -/> B`, with names of nodes. A line that is empty or begins
-/// with `#` wants nothing.
+/// The wishes of a text, a line each: `A B`, `A -> *` and `A -/> B`, with names of nodes. A line that is empty or
+/// begins with `#` wants nothing.
 pub fn wishes_of_text<'t>(
     alloc: Global,
     plan: &Plan,

@@ -16,8 +16,8 @@ struct Way {
     next: usize,
 }
 
-/// The ways of what is for one endpoint ID from each node. No node of a way leads back to itself, whichever of the nodes
-/// that take their new ways in a step have done so.
+/// The ways of what is for one endpoint ID from each node. No node of a way leads back to itself, whichever of the
+/// nodes that take their new ways in a step have done so.
 #[derive(Debug, Drop)]
 pub struct EidWays {
     pub eid: Eid,
@@ -79,8 +79,8 @@ impl EidWays {
         }
     }
 
-    /// Whether a node may take its new way beside those that do already: it leads on, and not back to the node; and where
-    /// it is no way, nobody sends to the node.
+    /// Whether a node may take its new way beside those that do already: it leads on, and not back to the node; and
+    /// where it is no way, nobody sends to the node.
     pub fn may_take(&self, node: usize) -> bool {
         if !self.differs(node) {
             return true;

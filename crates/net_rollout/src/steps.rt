@@ -16,9 +16,9 @@ use std::alloc::{AllocError, Global};
 /// are cut: so no search comes to its end here.
 const MOST_STEPS: usize = 64 * 257;
 
-/// How the nodes get from the rows of one plan to those of another: in any order by one certificate, where there is one.
-/// Otherwise by steps, each of which has a certificate by which it may be carried out in any order, as few as the search
-/// finds.
+/// How the nodes get from the rows of one plan to those of another: in any order by one certificate, where there is
+/// one. Otherwise by steps, each of which has a certificate by which it may be carried out in any order, as few as the
+/// search finds.
 pub fn rollout(alloc: Global, before: &Plan, after: &Plan) -> Result<Rollout, AllocError>
     ensures { IfOk result (IsRollout before.now after.now) }
 {

@@ -70,8 +70,8 @@ fn old_obstacle(error: CertifyError) -> MoveObstacle
     }
 }
 
-/// Sees whether the new plan's rows meet the rules that come before ranks; the others are asked once the ranks are made.
-/// The old plan's certificate meets what is asked before these.
+/// Sees whether the new plan's rows meet the rules that come before ranks; the others are asked once the ranks are
+/// made. The old plan's certificate meets what is asked before these.
 fn meet_new_rows(
     alloc: Global,
     before: &Plan,

@@ -1,5 +1,5 @@
-//! The rules of a plan, of its certificate and of a move between two plans: the search for the first fault, and the one
-//! certificate that a plan can have.
+//! The rules of a plan, of its certificate and of a move between two plans: the search for the first fault, and the
+//! certificate that `certify` makes of a plan.
 #![tactic(auto)]
 
 mod all_faults;

@@ -3,7 +3,8 @@ use crate::refusal::Refusal;
 use mctp_bridge::ForwardFault;
 use mctp_transport::{DropCause, Key};
 
-/// What an event does to the packets of a network, their assemblers and the termini. Nodes are places in the plan's list.
+/// What an event does to the packets of a network, their assemblers and the termini. Nodes are places in the plan's
+/// list.
 #[derive(Debug, Drop)]
 pub enum Effect {
     /// The flight of this number was put in at the node.

@@ -128,10 +128,10 @@ impl Slot {
 }
 
 /// The flights of a network. Each has a number of its own, and number 0 is never given; a flight is found by halving.
-/// One that ends leaves an empty slot. The empty slots are swept out when room is made and they are half of all or more,
-/// so that the memory follows the flights that have not ended, and a sweep passes two slots at most for each empty one.
-/// How many flights there are of each key and destination is counted, so that no search is needed to tell whether there is
-/// one.
+/// One that ends leaves an empty slot. The empty slots are swept out when room is made and they are half of all or
+/// more, so that the memory follows the flights that have not ended, and a sweep passes two slots at most for each
+/// empty one. How many flights there are of each key and destination is counted, so that no search is needed to tell
+/// whether there is one.
 #[derive(Debug, Drop)]
 pub struct Flights {
     /// In the order of their numbers.
@@ -205,8 +205,8 @@ impl Flights {
         }
     }
 
-    /// Whether no packet of the key is on its way to the endpoint ID. Where no node holds it, or the key's source, the slots
-    /// that are kept are searched.
+    /// Whether no packet of the key is on its way to the endpoint ID. Where no node holds it, or the key's source, the
+    /// slots that are kept are searched.
     pub fn none_is_to(&self, key: Key, eid: Eid) -> bool
         ensures { IsTrue result ↔ All (IsNotTo (key_value key) eid.value) (slots_of self.now) }
     {

@@ -28,10 +28,10 @@ pub struct Played {
     pub stopped: bool,
 }
 
-/// The network of a checked plan, or of a checked move, at one moment: the packets on their way, the assembler of each node,
-/// the terminus of each node that has one, with the messages that wait there, which nodes have switched to the rows of the
-/// plan that they move to, and the walkers, in the order in which they began. The termini are of one type, which may be a
-/// box of any terminus.
+/// The network of a checked plan, or of a checked move, at one moment: the packets on their way, the assembler of each
+/// node, the terminus of each node that has one, with the messages that wait there, which nodes have switched to the
+/// rows of the plan that they move to, and the walkers, in the order in which they began. The termini are of one type,
+/// which may be a box of any terminus.
 #[derive(Drop)]
 pub struct Network<'a, T = Box<dyn Terminus>> {
     alloc: Global,
@@ -61,9 +61,9 @@ impl<'a, T: Terminus> Network<'a, T> {
     ghost use Rattle.net_sim.specs.Promised.{IsPromised};
     ghost use Rattle.net_sim.specs.PutInBefore.{PlaysWhatWasPutIn};
 
-    /// The network of a checked plan, in which nothing has happened yet. The termini are dealt to the nodes that have one, in
-    /// the plan's order, one to each, as many as `planned_termini_count` tells; where they are as planned, it stands for the
-    /// state at the start of each run.
+    /// The network of a checked plan, in which nothing has happened yet. The termini are dealt to the nodes that have
+    /// one, in the plan's order, one to each, as many as `planned_termini_count` tells; where they are as planned, it
+    /// stands for the state at the start of each run.
     pub fn new(
         alloc: Global,
         checked: Checked<'a>,
@@ -77,8 +77,8 @@ impl<'a, T: Terminus> Network<'a, T> {
         Network::start(alloc, AcceptedNetwork::of_plan(checked), termini)
     }
 
-    /// The network of a checked move, in which nothing has happened yet: each node goes by its rows in the plan before, until
-    /// it switches. The termini are those of that plan, as `new` takes them.
+    /// The network of a checked move, in which nothing has happened yet: each node goes by its rows in the plan before,
+    /// until it switches. The termini are those of that plan, as `new` takes them.
     pub fn new_move(
         alloc: Global,
         checked: CheckedMove<'a>,
@@ -92,7 +92,8 @@ impl<'a, T: Terminus> Network<'a, T> {
         Network::start(alloc, AcceptedNetwork::of_move(checked), termini)
     }
 
-    /// The network of what was checked, in which nothing has happened yet, over termini that are dealt as `new` deals them.
+    /// The network of what was checked, in which nothing has happened yet, over termini that are dealt as `new` deals
+    /// them.
     pub fn start(
         alloc: Global,
         accepted: AcceptedNetwork<'a>,
@@ -132,17 +133,18 @@ impl<'a, T: Terminus> Network<'a, T> {
         self.play(event)
     }
 
-    /// Plays events one after another, until memory runs out at one; room for the list of outcomes is made first, and where
-    /// that is refused nothing is played.
+    /// Plays events one after another, until memory runs out at one; room for the list of outcomes is made first, and
+    /// where that is refused nothing is played.
     pub fn run(&mut self, events: &[Event]) -> Result<Played, AllocError>
         ensures checked { checked_of self.new ≡ checked_of self.old }
         ensures plays { IfOk result (λ played. OfPlayed PlaysAll T.tid T.records self.old events.now played self.new) }
-        // Where one message at a time is sent under a key to a destination, of five packets at most, what is told of it is
-        // that message.
+        // Where one message at a time is sent under a key to a destination, of five packets at most, what is told of it
+        // is that message.
         ensures exact { IfOk result (λ played. OfPlayed (PlaysAsSent (unit_of (checked_of self.old).0.plan)) T.tid T.records self.old events.now played self.new) }
         // Every run with walkers that the network may stand for keeps the headline, and what is promised of deliveries.
         ensures promises { IsPromised (checked_of self.old).0 (checked_of self.old).1 }
-        // A whole message that is told joins packets that were put in before it, by events that are named by their indices.
+        // A whole message that is told joins packets that were put in before it, by events that are named by their
+        // indices.
         ensures joins { IfOk result (λ played. OfPlayed (λ tables. PlaysWhatWasPutIn tables (checked_of self.old).1) T.tid T.records self.old events.now played self.new) }
         // The exchanges that each walker has taken are a walk over the records of the terminus that it asks.
         ensures walks { IfOk result (λ played. OfPlayed (λ tables. PlaysWalks tables (checked_of self.old).1) T.tid T.records self.old events.now played self.new) }

@@ -132,8 +132,8 @@ impl NetworkWalker {
         }
     }
 
-    /// The bytes of its request: of the outstanding one again, under its instance ID, or of a new one, which is outstanding
-    /// then, under the next ID. None where the walk is over. It takes no memory.
+    /// The bytes of its request: of the outstanding one again, under its instance ID, or of a new one, which is
+    /// outstanding then, under the next ID. None where the walk is over. It takes no memory.
     pub fn next_request(&mut self) -> Option<[u8; GetPdrRequest::LENGTH]>
         ensures { MatchOption result (IsOver (walker_value self.old) × (walker_value self.new ≡ walker_value self.old))
             (λ request. TellsRequest (walker_value self.old) request (walker_value self.new)) }
@@ -158,8 +158,8 @@ impl NetworkWalker {
         self.walker.reserve()
     }
 
-    /// Takes a message that came under the key of its answers, where room was made before. The instance ID of the outstanding
-    /// request is free again where the message is its answer.
+    /// Takes a message that came under the key of its answers, where room was made before. The instance ID of the
+    /// outstanding request is free again where the message is its answer.
     pub fn take(&mut self, message: &[u8]) -> Result<WalkProgress, WalkFault>
         requires { IsReady self.old }
         ensures { HasTakenMessage (walker_value self.old) message.now result (walker_value self.new) }

@@ -1,7 +1,8 @@
 //! Why an event is refused.
 ghost use Rattle.std.specs.Prelude.{◌≡◌};
 
-/// Why an event is refused. Where several causes apply, the first of these is answered; a refused event changes nothing.
+/// Why an event is refused. Where several causes apply, the first of these is answered; a refused event changes
+/// nothing.
 #[derive(Clone, Copy, Debug, PartialEq, Eq)]
 pub enum Refusal {
     /// N01: there is no such node.

@@ -102,8 +102,8 @@ pub fn idle_at<T: Terminus>(queue: &Option<TerminusQueue<T>>) -> Option<Refusal>
     }
 }
 
-/// Takes the oldest message off, where there is one, and asks the terminus. Its answer is written into `out`: the key of the
-/// message is told, and whether there is an answer.
+/// Takes the oldest message off, where there is one, and asks the terminus. Its answer is written into `out`: the key
+/// of the message is told, and whether there is an answer.
 pub fn answer_at<T: Terminus>(
     queue: &mut Option<TerminusQueue<T>>,
     out: &mut ArrayVec<u8, MAX_ANSWER>,

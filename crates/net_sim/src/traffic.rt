@@ -27,9 +27,9 @@ use net_plan::Plan;
 use pdr_repository::Terminus;
 use std::alloc::{AllocError, Global};
 
-/// What a network of a checked plan, or of a checked move, holds beside its walkers: the packets on their way, the assembler
-/// of each node, the terminus of each node that has one, with the messages that wait there, and which nodes have switched
-/// to the rows of the plan that they move to.
+/// What a network of a checked plan, or of a checked move, holds beside its walkers: the packets on their way, the
+/// assembler of each node, the terminus of each node that has one, with the messages that wait there, and which nodes
+/// have switched to the rows of the plan that they move to.
 #[derive(Drop)]
 pub struct Traffic<'a, T> {
     alloc: Global,

@@ -3,8 +3,8 @@ ghost use Rattle.std.specs.Prelude.{◌≡◌};
 
 use crate::refusal::Refusal;
 
-/// Why an event of a walk is refused. Where several causes apply, the one of the least number is answered; a refused event
-/// changes nothing.
+/// Why an event of a walk is refused. Where several causes apply, the one of the least number is answered; a refused
+/// event changes nothing.
 #[derive(Clone, Copy, Debug, PartialEq, Eq)]
 pub enum WalkRefusal {
     /// N01 or N06: there is no such node, or too few flight numbers are left.

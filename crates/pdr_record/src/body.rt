@@ -118,7 +118,7 @@ impl<'a> Body<'a> {
         }
     }
 
-    /// Writes the body's bytes at the front of `out`, and returns how many they are.
+    /// Writes the body's bytes at the front of `out`, which has room for them, and returns how many they are.
     pub fn put(&self, out: &mut [u8]) -> usize
         requires lawful { IsBody (body_value self.now) }
         requires room { length (bytes_of (body_fields (body_value self.now))) ≤ length out.old }

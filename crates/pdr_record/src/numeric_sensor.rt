@@ -38,7 +38,7 @@ pub struct NumericSensor<'a> {
     pub min_readable: &'a [u8],
     /// One byte: how wide each range field is.
     pub range_field_format: RangeFieldFormat,
-    /// One byte: a bit for each range field that holds a value.
+    /// One byte: a bit for each range field but the two of warnings, set where it holds a value.
     pub range_field_support: u8,
     /// Nine range fields, as wide as their format says.
     pub ranges: Ranges<'a>,

@@ -79,10 +79,10 @@ impl<'a> Wire<'a> for Record<'a> {
 
     /// The record that the bytes are, all of them. What it lends are slices of these bytes.
     ///
-    /// Else the first cause is answered, in this order: D01 for fewer than 10 bytes, D02 for a header version other than
-    /// 1, D03 for a data length that is not the number of bytes behind the header; then, by the body's fields in their
-    /// order, D04 where the bytes end before a field does and D06 for a code that is not supported; at last D05 for
-    /// bytes behind the last field.
+    /// Else the first cause is answered, in this order: D01 for fewer than 10 bytes, D02 for a header version other
+    /// than 1, D03 for a data length that is not the number of bytes behind the header; then, by the body's fields in
+    /// their order, D04 where the bytes end before a field does and D06 for a code that is not supported; at last D05
+    /// for bytes behind the last field.
     fn read(bytes: &'a [u8]) -> Result<Self, RecordError>
         ensures ok { IfOk result (λ r. Spells IsRecord record_bytes (record_value r) bytes.now) }
         ensures all { (m : RecordValue) → Spells IsRecord record_bytes m bytes.now → IsOkAnd result (λ r. record_value r ≡ m) }

@@ -13,7 +13,8 @@ pub struct Timing {
     pub supported_thresholds: u8,
     /// One byte: a bit for each event after which thresholds and hysteresis are lost.
     pub threshold_and_hysteresis_volatility: u8,
-    /// Four bytes, the bits of a real32, in seconds: how long a change of state takes to be seen at most.
+    /// Four bytes, the bits of a real32, in seconds: how long the sensor takes at most to change its enabled
+    /// state.
     pub state_transition_interval: u32,
     /// Four bytes, the bits of a real32, in seconds: the time between two readings.
     pub update_interval: u32,

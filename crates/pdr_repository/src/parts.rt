@@ -17,7 +17,8 @@ pub const MAX_PART: u16 = 4079;
 const AROUND_PART: u16 = 17;
 
 /// The most bytes of a record that a request may ask for, so that its answer is sent in at most five packets of this
-/// transmission unit. What stands around them in an answer takes 17 bytes, and no part has more than 4079.
+/// transmission unit, 64 to 1024 bytes. What stands around them in an answer takes 17 bytes, and no part has more than
+/// 4079.
 pub fn five_packets(unit: u16) -> u16
     requires least { 64 ≤ unit }
     requires most { unit ≤ 1024 }

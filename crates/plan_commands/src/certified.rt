@@ -28,8 +28,8 @@ use std::alloc::Global;
 use std::borrow::CowStr;
 
 /// Answers a question on `output`, where the certificate fits the plan, or tells the fault there. Where a file can't be
-/// read, or then where the plan has nothing that the question names, says so on `errors`. Of two files that can't be read,
-/// the plan is told and the certificate is not read.
+/// read, or then where the plan has nothing that the question names, says so on `errors`. Of two files that can't be
+/// read, the plan is told and the certificate is not read.
 pub fn run_certified<P: Source, C: Source, O: Sink, E: Sink>(
     alloc: Global,
     question: &Question,

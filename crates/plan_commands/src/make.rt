@@ -35,8 +35,8 @@ pub fn run_make<B: Source, F: RecordFiles, O: Sink, E: Sink>(
     tell(alloc, answered, output, errors)
 }
 
-/// The same, and writes the certificate of the plan to `certificate`, before the plan is printed. Where that fails, says
-/// so on `errors`, and prints nothing. Where no plan is made, `certificate` is left as it is.
+/// The same, and writes the certificate of the plan to `certificate`, before the plan is printed. Where that fails,
+/// says so on `errors`, and prints nothing. Where no plan is made, `certificate` is left as it is.
 pub fn run_make_certified<B: Source, F: RecordFiles, C: Sink, O: Sink, E: Sink>(
     alloc: Global,
     board: &mut B,

@@ -16,9 +16,9 @@ use net_plan::{Certificate, Plan};
 use net_reached::{BadLine, Wish, WishError, unmet_wishes, wish_lines, wishes_of_text};
 use std::alloc::{AllocError, Global};
 
-/// Says on `output` that a plan's nodes reach whom a text wants them to reach, or gives the lines of the text of which it
-/// isn't so, or tells the fault of the plan and its certificate. Where the text can't be read, it says so there too. Where
-/// the plan or the certificate can't be read, says so on `errors`, and reads nothing more.
+/// Says on `output` that a plan's nodes reach whom a text wants them to reach, or gives the lines of the text of which
+/// it isn't so, or tells the fault of the plan and its certificate. Where the text can't be read, it says so there too.
+/// Where the plan or the certificate can't be read, says so on `errors`, and reads nothing more.
 pub fn run_require<P: Source, C: Source, W: Source, O: Sink, E: Sink>(
     alloc: Global,
     plan: &mut P,

@@ -26,7 +26,8 @@ pub struct CTerminus<'a> {
 /// A record's handle and its bytes.
 type Record = (u32, Vec<u8>);
 
-/// The C99 source of a node whose rows are lawful: its endpoint ID, its pool, its rows, and its terminus, if it has one.
+/// The C99 source of a node whose rows are lawful: its endpoint ID, its pool, its rows, and its terminus, if it has
+/// one.
 pub fn c_source(
     alloc: Global,
     plan: &Plan,
@@ -185,8 +186,8 @@ fn row_line(alloc: Global, plan: &Plan, row: &PlannedRow) -> Result<String, Allo
     row_of_words(alloc, &numbers, &address, node_name(plan, row.next))
 }
 
-/// What stands before an address: a row's first endpoint ID, its size and its port, the next node's endpoint ID, and how
-/// many bytes its address has.
+/// What stands before an address: a row's first endpoint ID, its size and its port, the next node's endpoint ID, and
+/// how many bytes its address has.
 fn numbers_text(
     alloc: Global,
     first: u8,

@@ -7,8 +7,8 @@ ghost use Rattle.net_tables.specs.Names.{bus_name, node_name};
 ghost use Rattle.plan_exports.specs.Devices.{AreDevices, device_at};
 ghost use Rattle.plan_exports.specs.declared.links.Link.{Link};
 
-/// What comes of names into a script or a source are ASCII letters, digits, `-`, `.` and `_` alone: no line ends there, and
-/// no shell and no compiler reads it otherwise than as a word or a part of a comment.
+/// What comes of names into a script or a source are ASCII letters, digits, `-`, `.` and `_` alone: no line ends there,
+/// and no shell and no compiler reads it otherwise than as a word or a part of a comment.
 pub fn words_are_plain()
     ensures nodes { (plan : Plan) (n : ℕ) → IsTrue (list_all is_name_byte (node_name plan n)) }
     ensures buses { (plan : Plan) (bus : ℕ) → IsTrue (list_all is_name_byte (bus_name plan bus)) }

@@ -15,8 +15,8 @@ pub struct Link<'a> {
 }
 
 impl<'a> Link<'a> {
-    /// The link that a word BUS=DEV is. `None` where it has no such form, where BUS is no name that a bus can have, or DEV
-    /// none of a device.
+    /// The link that a word BUS=DEV is. `None` where it has no such form, where BUS is no name that a bus can have, or
+    /// DEV none of a device.
     pub fn of(word: &'a str) -> Option<Link<'a>> {
         let (bus, device) = word.split_once('=')?;
         if !is_name(bus) || !is_device(device) {

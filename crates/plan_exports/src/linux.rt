@@ -240,8 +240,8 @@ fn neighbor_lines(
     address_lines(alloc, device, &address, name, row.first, row.size)
 }
 
-/// The bytes of an address on a bus of a binding as Linux has them: over SMBus and I2C without the bit below the seven of
-/// the address.
+/// The bytes of an address on a bus of a binding as Linux has them: over SMBus and I2C without the bit below the seven
+/// of the address.
 fn link_address(alloc: Global, binding: u8, address: &[u8]) -> Result<Vec<u8>, AllocError>
     ensures { IfOk result (λ bytes. bytes.items ≡ link_address binding address.now) }
 {

@@ -28,8 +28,8 @@ pub struct Fixed {
     pub left: Option<CertifyError>,
 }
 
-/// Makes the first edit that was tried of what comes first of what rules certificates of a plan out, and goes on with what
-/// that leaves, until a certificate fits the plan, or no edit is left, or a thousand are made.
+/// Makes the first edit that was tried of what comes first of what rules certificates of a plan out, and goes on with
+/// what that leaves, until a certificate fits the plan, or no edit is left, or a thousand are made.
 pub fn fix(alloc: Global, text: Vec<u8>, plan: Plan) -> Result<Fixed, AllocError>
     requires { IsTextOf text.items plan }
     ensures { IfOk result (IsFixed text.items plan) }

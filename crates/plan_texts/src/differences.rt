@@ -6,8 +6,8 @@ ghost use Rattle.plan_texts.specs.DifferenceLines.{DifferFirstAt, IsDifferenceTe
 
 use std::alloc::{AllocError, Global};
 
-/// What is told of the first line in which a text that came differs from the one that was wanted, with what stands there in
-/// both; none where all lines are the same. A line ends at a line feed; the last one may lack it.
+/// What is told of the first line in which a text that came differs from the one that was wanted, with what stands
+/// there in both; none where all lines are the same. A line ends at a line feed; the last one may lack it.
 pub fn first_difference(
     alloc: Global,
     wanted: &str,

@@ -20,9 +20,9 @@ const FIRST_LINE: &str =
 /// The last line of a drawing.
 const LAST_LINE: &str = "}\n";
 
-/// The drawing of a plan: a line for each bus, each node, each port and each node that has an owner. Nodes among `red` are
-/// red, and the arrows to nodes among `red_owned`. Where packets for an endpoint ID go `round` the nodes among `red`, the
-/// arrows of their way are there too. Where there is a certificate, its levels and ranks are tooltips.
+/// The drawing of a plan: a line for each bus, each node, each port and each node that has an owner. Nodes among `red`
+/// are red, and the arrows to nodes among `red_owned`. Where packets for an endpoint ID go `round` the nodes among
+/// `red`, the arrows of their way are there too. Where there is a certificate, its levels and ranks are tooltips.
 pub fn drawing(
     alloc: Global,
     plan: &Plan,

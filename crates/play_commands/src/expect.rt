@@ -21,8 +21,8 @@ use plan_texts::first_difference;
 use run_texts::outcome_line;
 use std::alloc::{AllocError, Global};
 
-/// Answers on `output` whether `sim` prints the lines of a file of a plan, its certificate and events, or tells the first
-/// line that differs. Of files that can't be read the first is told on `errors`, and those after it are not read.
+/// Answers on `output` whether `sim` prints the lines of a file of a plan, its certificate and events, or tells the
+/// first line that differs. Of files that can't be read the first is told on `errors`, and those after it are not read.
 pub fn run_expect<P: Source, C: Source, V: Source, L: Source, O: Sink, E: Sink>(
     alloc: Global,
     plan: &mut P,

@@ -33,9 +33,9 @@ use run_texts::outcome_line;
 use std::alloc::Global;
 use text::script_text;
 
-/// Gives on `output` the events of a walk over the network of a plan, or what comes of the event with which it doesn't go
-/// on; or the fault for which the plan and its certificate are not accepted. Where a file can't be read, or no node has the
-/// name, says so on `errors`.
+/// Gives on `output` the events of a walk over the network of a plan, or what comes of the event with which it doesn't
+/// go on; or the fault for which the plan and its certificate are not accepted. Where a file can't be read, or no node
+/// has the name, says so on `errors`.
 pub fn run_script<P: Source, C: Source, O: Sink, E: Sink>(
     alloc: Global,
     script: &WalkScript,
@@ -214,8 +214,8 @@ fn is_finished(outcome: &Outcome) -> bool
     )
 }
 
-/// Whether it comes of an event that the first walker is done, with as many records as a node has that holds the endpoint
-/// ID.
+/// Whether it comes of an event that the first walker is done, with as many records as a node has that holds the
+/// endpoint ID.
 fn is_done(plan: &Plan, eid: Eid, last: &Option<Outcome>) -> bool
     ensures { MatchBool result (IsDone plan.now eid.value (option_map outcome_value last.now)) (¬ IsDone plan.now eid.value (option_map outcome_value last.now)) }
 {

@@ -81,7 +81,7 @@ impl RequestHead {
         Ok((head, &message[HEADER_LENGTH..]))
     }
 
-    /// Writes the header of a request with this command at the front of `out`.
+    /// Writes the header of a request with this command at the front of `out`, which has at least 4 bytes.
     pub fn put(self, command: Command, out: &mut [u8])
         requires { 4 ≤ length out.old }
         ensures { out.new ≡ header_bytes (request_header command (request_head self)) ++ drop 4 out.old }
@@ -158,6 +158,7 @@ impl ResponseHead {
     }
 
     /// Writes the header of an answer to a request with this command at the front of `out`, and a completion code.
+    /// `out` has at least 5 bytes.
     pub fn put(self, command: Command, code: u8, out: &mut [u8])
         requires { 5 ≤ length out.old }
         ensures { out.new ≡ header_bytes (answer_header command (answer_head self)) ++ code ∷ [] ++ drop 5 out.old }

@@ -80,8 +80,8 @@ pub fn unread_line(alloc: Global, role: &str, cause: PlanError) -> Result<String
     format!(in alloc; "unreadable {role}: {code}\n")
 }
 
-/// The plan that a text stands for. The error tells the text's first fault in the order of tests: where that stands, and
-/// what may stand there.
+/// The plan that a text stands for. The error tells the text's first fault in the order of tests: where that stands,
+/// and what may stand there.
 pub fn plan_or_fault(alloc: Global, text: &[u8]) -> Result<Plan, TextError>
     ensures ok { IfOk result (λ plan. IsJsonTextOf IsPlanOf text.now (plan_value plan)) }
     ensures refused { IfErr result (IsToldAs plan_text plan IsPlanOf text.now) }

@@ -75,7 +75,8 @@ fn key_noun(key: &'static str) -> &'static str
     }
 }
 
-/// What else may stand in a plan where a pointer leads: its other format, and of the endpoint IDs those that a node has.
+/// What else may stand in a plan where a pointer leads: its other format, and of the endpoint IDs those that a node
+/// has.
 pub fn also_words(pointer: &[PointerStep]) -> &'static str
     ensures { result.now ≡ also_words (map step_value pointer.now) }
 {

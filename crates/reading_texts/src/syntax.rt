@@ -8,8 +8,8 @@ use crate::syntax_causes::{cause_line, encoding_line};
 use net_pointers::{JsonFault, Wanted};
 use std::alloc::{AllocError, Global};
 
-/// The line that tells where a text stops being JSON, and what may stand there; and a line that tells why, where the bytes
-/// there do.
+/// The line that tells where a text stops being JSON, and what may stand there; and a line that tells why, where the
+/// bytes there do.
 pub fn json_line(alloc: Global, text: &[u8], fault: JsonFault) -> Result<String, AllocError>
     requires { IsFaultOfJson text.now fault }
     ensures { IfOk result (λ line. string_bytes line ≡ json_line text.now fault) }

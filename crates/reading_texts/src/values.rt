@@ -26,8 +26,8 @@ const LACKS_A_KEY: &str = "lacks a key that belongs there";
 
 const UNKNOWN_KEY: &str = "has a key that doesn't belong there";
 
-/// The line of a value that has a fault in itself: where it stands, what is wrong with it, and what may stand there, with
-/// these words at the end.
+/// The line of a value that has a fault in itself: where it stands, what is wrong with it, and what may stand there,
+/// with these words at the end.
 pub fn value_line(
     alloc: Global,
     text: &[u8],

@@ -14,8 +14,8 @@ use mctp_transport::Wire;
 use pdr_record::Record;
 use std::alloc::{AllocError, Global};
 
-/// Whether the bytes are a record of the type that the first word names, and each other word says what one of its fields
-/// holds.
+/// Whether the bytes are a record of the type that the first word names, and each other word says what one of its
+/// fields holds.
 pub fn is_record_of(
     alloc: Global,
     kind: &str,

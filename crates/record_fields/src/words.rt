@@ -52,8 +52,8 @@ pub fn bytes_in(alloc: Global, text: &str) -> Result<Vec<u8>, MakeError> {
     Ok(hex::decode(alloc, text)?)
 }
 
-/// The number that a text gives, in so many bytes: in decimal digits, which may follow a minus, or in hexadecimal digits
-/// behind 0x. A negative number is two's complement.
+/// The number that a text gives, in so many bytes: in decimal digits, which may follow a minus, or in hexadecimal
+/// digits behind 0x. A negative number is two's complement.
 pub fn number_in(text: &str, width: u32) -> Option<u64> {
     if let Some(digits) = text.strip_prefix("0x") {
         return u64::from_str_radix(digits, 16).ok();
@@ -64,8 +64,8 @@ pub fn number_in(text: &str, width: u32) -> Option<u64> {
     }
 }
 
-/// The bits of the real number of 32 bits that a text gives: in decimal digits, or the bits in hexadecimal digits behind
-/// 0x.
+/// The bits of the real number of 32 bits that a text gives: in decimal digits, or the bits in hexadecimal digits
+/// behind 0x.
 pub fn real_in(text: &str) -> Option<u64> {
     match text.strip_prefix("0x") {
         Some(digits) => u64::from_str_radix(digits, 16).ok(),

@@ -46,8 +46,8 @@ fn page_with_reached(
     page_of(alloc, name, "yes", verdict, &body)
 }
 
-/// The page of a plan that is not accepted, with the levels and places of the certificate that it was judged with, if it
-/// was judged with one. The nodes that are marked stand out in the picture.
+/// The page of a plan that is not accepted, with the levels and places of the certificate that it was judged with, if
+/// it was judged with one. The nodes that are marked stand out in the picture.
 pub fn refused_page(
     alloc: Global,
     name: &str,

@@ -20,8 +20,8 @@ use plan_texts::obstacle_line;
 use std::alloc::{AllocError, Global};
 
 /// Writes the page of a plan on `output`: HTML with the title `name`. It begins with the verdict of `certify`, that a
-/// certificate fits or why none does, and the run ends as that of `certify` does. Where the plan can't be read, says so on
-/// `errors`.
+/// certificate fits or why none does, and the run ends as that of `certify` does. Where the plan can't be read, says so
+/// on `errors`.
 pub fn run_report<P: Source, O: Sink, E: Sink>(
     alloc: Global,
     name: &str,
@@ -108,9 +108,9 @@ fn nodes_of(alloc: Global, obstacle: &CertifyError) -> Result<Vec<usize>, AllocE
     }
 }
 
-/// Writes the page of a plan with its certificate on `output`: HTML with the title `name`. It begins with the verdict of
-/// `check`, that the certificate fits or the first fault, and the run ends as that of `check` does. Where a file can't be
-/// read, says so on `errors`. Of two that can't be read, the plan is told and the certificate is not read.
+/// Writes the page of a plan with its certificate on `output`: HTML with the title `name`. It begins with the verdict
+/// of `check`, that the certificate fits or the first fault, and the run ends as that of `check` does. Where a file
+/// can't be read, says so on `errors`. Of two that can't be read, the plan is told and the certificate is not read.
 pub fn run_report_certified<P: Source, C: Source, O: Sink, E: Sink>(
     alloc: Global,
     name: &str,

@@ -1,4 +1,5 @@
-//! The command `rollout`: how nodes get from the rows of one plan to those of another, told or with the files of its steps.
+//! The command `rollout`: how nodes get from the rows of one plan to those of another, told or with the files of its
+//! steps.
 #![tactic(auto)]
 
 mod rollout;

@@ -21,9 +21,9 @@ use std::alloc::{AllocError, Global};
 use step_files::{TextFile, TextFiles, Unmade, step_files, write_files};
 
 /// Writes the files of the steps from the rows of one plan to those of another, and then tells the steps on `output`.
-/// Where there are none to the new plan, tells what stands in the way, and writes no file. Where a plan can't be read or
-/// a file can't be written, says so on `errors`, and tells nothing else; of two plans the first is told, and then the
-/// other is not read.
+/// Where there are none to the new plan, tells what stands in the way, and writes no file. Where a plan can't be read
+/// or a file can't be written, says so on `errors`, and tells nothing else; of two plans the first is told, and then
+/// the other is not read.
 pub fn run_rollout_written<P: Source, Q: Source, F: TextFiles, O: Sink, E: Sink>(
     alloc: Global,
     folder: &str,

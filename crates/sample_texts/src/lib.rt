@@ -1,4 +1,5 @@
-//! Texts of networks that the crates of tests share, changes of texts, and marks around calls whose growths are refused.
+//! Texts of networks that the crates of tests share, changes of texts, and marks around calls whose growths are
+//! refused.
 #![tactic(auto)]
 
 pub mod certificates;

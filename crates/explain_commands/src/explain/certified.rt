@@ -24,8 +24,9 @@ use net_plan::Certificate;
 use plan_texts::{NO_CERTIFICATE, REMEDY, cause_lines, certificate_fault_lines, fault_line};
 use std::alloc::{AllocError, Global};
 
-/// Says on `output` what `check` says of a plan and its certificate, and explains it. Where a file can't be read, it says
-/// so there too; of two such files, the plan is told and the certificate is not read. The names are those of the files.
+/// Says on `output` what `check` says of a plan and its certificate, and explains it. Where a file can't be read, it
+/// says so there too; of two such files, the plan is told and the certificate is not read. The names are those of the
+/// files.
 pub fn run_explain_certified<P: Source, C: Source, O: Sink, E: Sink>(
     alloc: Global,
     name: &str,

@@ -30,9 +30,9 @@ use reading_texts::{TextError, events_or_fault};
 use std::alloc::Global;
 
 /// Says on `output` what `check` says of a plan and its certificate, and explains it. Where they are accepted and the
-/// events can't be read, it says that there, and where their text has its first fault. Of the files that can't be read the
-/// first is told, and the others are not read; the events are not read either where the plan is not accepted. The names
-/// are those of the plan's file and the certificate's.
+/// events can't be read, it says that there, and where their text has its first fault. Of the files that can't be read
+/// the first is told, and the others are not read; the events are not read either where the plan is not accepted. The
+/// names are those of the plan's file and the certificate's.
 pub fn run_explain_events<P: Source, C: Source, V: Source, O: Sink, E: Sink>(
     alloc: Global,
     name: &str,

@@ -34,8 +34,8 @@ use rows::{loop_text, way_on_text};
 use std::alloc::{AllocError, Global};
 
 /// Says on `output` what `certifymove` says of a move from one plan to another, `yes` in place of the certificate, and
-/// explains it. Where a plan can't be read, it says so there too; of two such plans the old one is told and the new one is
-/// not read. The names are those of the files, first that of the old plan.
+/// explains it. Where a plan can't be read, it says so there too; of two such plans the old one is told and the new one
+/// is not read. The names are those of the files, first that of the old plan.
 pub fn run_explain_move<P: Source, Q: Source, O: Sink, E: Sink>(
     alloc: Global,
     name: &str,

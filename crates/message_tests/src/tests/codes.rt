@@ -53,7 +53,8 @@ impl fmt::Display for Refusal {
     }
 }
 
-/// Each refusal, and what is printed of it: its code, a colon and the sentence; where it has no code, the sentence alone.
+/// Each refusal, and what is printed of it: its code, a colon and the sentence; where it has no code, the sentence
+/// alone.
 const ROWS: [(Refusal, &str); 46] = [
     (
         Refusal::Packet(PacketError::Short),

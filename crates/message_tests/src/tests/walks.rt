@@ -184,7 +184,8 @@ const EMPTY: [u8; 16] = [
     0x01, 0x00, 0x02, 0x51, 0x00, 0, 0, 0, 0, 0, 0, 0, 0, 0x05, 0, 0,
 ];
 
-/// The most records, answers that come each after a request, and what the walker says of the last. It refuses none before.
+/// The most records, answers that come each after a request, and what the walker says of the last. It refuses none
+/// before.
 type Told = (
     usize,
     &'static [&'static [u8]],

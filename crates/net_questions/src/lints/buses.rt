@@ -152,7 +152,8 @@ fn is_reserved_on_i2c(bits: u8) -> bool
     bits < 8 || bits >= 120
 }
 
-/// Whether seven bits are restricted on I3C: the broadcast address is 126, and what differs from it in one bit is kept free.
+/// Whether seven bits are restricted on I3C: the broadcast address is 126, and what differs from it in one bit is kept
+/// free.
 fn is_reserved_on_i3c(bits: u8) -> bool
     ensures { IsTrue result ↔ IsReservedOnI3c bits }
 {

@@ -74,8 +74,8 @@ fn known_at(known: &[Option<usize>], index: usize) -> Option<usize>
     *known.get(index)?
 }
 
-/// The number of moves from an index to its end: up to an index whose number is known, if it comes to one. None where the
-/// moves are more than the places, so that they go round a circle.
+/// The number of moves from an index to its end: up to an index whose number is known, if it comes to one. None where
+/// the moves are more than the places, so that they go round a circle.
 fn moves_to_end(table: &[Option<usize>], known: &[Option<usize>], start: usize) -> Option<usize>
     requires { AreKnown (MovesBy table.now) known.now }
     ensures { MatchOption result (HasCircle (MovesBy table.now)) (EndsAfter (MovesBy table.now) start) }

@@ -48,8 +48,8 @@ pub(crate) fn has_records(plan: &Plan, node: usize) -> bool
     }
 }
 
-/// The first record whose handle is 0 or an earlier record's. Most lists have none, which is found without sorting where
-/// the handles are small.
+/// The first record whose handle is 0 or an earlier record's. Most lists have none, which is found without sorting
+/// where the handles are small.
 fn first_without_new_handle(
     alloc: Global,
     records: &[PlannedRecord],

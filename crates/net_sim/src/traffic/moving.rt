@@ -86,8 +86,8 @@ impl<'a, T: Terminus> Traffic<'a, T> {
         }
     }
 
-    /// Room for what the move can lead to at its node: a message that is told, and one that waits. None is made where the
-    /// packet isn't taken in.
+    /// Room for what the move can lead to at its node: a message that is told, and one that waits. None is made where
+    /// the packet isn't taken in.
     fn room_for(&mut self, decided: &DecidedMove) -> Result<Room, AllocError>
         requires { decided.now.node < length self.old.router.tables.plan.nodes.items }
         ensures flights { slots_of self.new.flights ≡ slots_of self.old.flights }

@@ -37,8 +37,8 @@ impl<'a, T: Terminus> Traffic<'a, T> {
         self.eid_at(node) == eid && self.queues[node].is_some()
     }
 
-    /// Whether no packet of the key is on its way to the endpoint ID, and none of its messages is open or waits at the nodes
-    /// that hold that.
+    /// Whether no packet of the key is on its way to the endpoint ID, and none of its messages is open or waits at the
+    /// nodes that hold that.
     pub fn is_settled(&self, key: Key, eid: Eid) -> bool
         ensures { (w : NetworkState) → HasNetworkState (traffic_value T.tid T.records self.now) w
             → IsTrue result ↔ IsSettled self.now.router.tables.plan w (key_value key) eid.value }

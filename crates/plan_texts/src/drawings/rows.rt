@@ -164,8 +164,8 @@ fn lead_text(alloc: Global, lead: Lead, eid: Eid) -> Result<String, AllocError>
 
 // ---- the rows of all endpoint IDs
 
-/// The drawing of all rows: a line for each node, an arrow from each to each node that rows of it name, and the arrows of
-/// what goes round.
+/// The drawing of all rows: a line for each node, an arrow from each to each node that rows of it name, and the arrows
+/// of what goes round.
 pub fn bundle_drawing(
     alloc: Global,
     plan: &Plan,

@@ -48,9 +48,9 @@ impl<'a> Course<'a> {
         }
     }
 
-    /// The next event, once this has come of the last one. A flight moves on, or is lost; or else a request is answered, an
-    /// open message is given up, or the walker asks, the next request or the last one again. Once it has all records, it is
-    /// asked what it has collected.
+    /// The next event, once this has come of the last one. A flight moves on, or is lost; or else a request is
+    /// answered, an open message is given up, or the walker asks, the next request or the last one again. Once it has
+    /// all records, it is asked what it has collected.
     pub fn next(&mut self, last: &Outcome) -> Result<Event, AllocError>
         ensures { IfOk result (λ event. IsOfWalk (event_value event)) }
     {

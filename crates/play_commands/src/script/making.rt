@@ -25,8 +25,8 @@ pub struct Made {
     pub last: Outcome,
 }
 
-/// The events of a walk for which a node asks, played in the network of a checked plan until it is told that the walk is
-/// done, or the walk doesn't go on, or a list has no more events.
+/// The events of a walk for which a node asks, played in the network of a checked plan until it is told that the walk
+/// is done, or the walk doesn't go on, or a list has no more events.
 pub fn made_events(
     alloc: Global,
     script: &WalkScript,

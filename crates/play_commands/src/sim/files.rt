@@ -94,7 +94,8 @@ pub fn read_run<P: Source, C: Source, V: Source>(
     Ok((plan, certificate, events))
 }
 
-/// Gives what comes of events in the network of a plan with its certificate, or the fault for which they are not accepted.
+/// Gives what comes of events in the network of a plan with its certificate, or the fault for which they are not
+/// accepted.
 fn play<O: Sink>(
     alloc: Global,
     plan: &Plan,

@@ -34,7 +34,8 @@ fn run_planned(
     network.run(events)
 }
 
-/// The same where the plan has one terminus, of this terminus ID and these records. The terminus is made and boxed here.
+/// The same where the plan has one terminus, of this terminus ID and these records. The terminus is made and boxed
+/// here.
 fn run_alone(
     alloc: Global,
     checked: Checked,

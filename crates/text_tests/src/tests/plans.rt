@@ -55,7 +55,8 @@ fn is_the_nic(node: &Node) -> bool {
     node.kind == Kind::Endpoint && node.pool.is_none() && has_one_record(node, 1, 1, 0, &bytes)
 }
 
-/// Whether a plan has two buses, of which the second is the riser's lower one, and four nodes, of which the first has no owner.
+/// Whether a plan has two buses, of which the second is the riser's lower one, and four nodes, of which the first has
+/// no owner.
 pub(super) fn is_the_riser_network(plan: &Plan) -> bool {
     plan.buses.len() == 2
         && plan.buses[1].name.text.as_str() == "b1"

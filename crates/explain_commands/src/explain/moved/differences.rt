@@ -43,8 +43,8 @@ pub enum Unlike {
     Part(usize, NodePart),
 }
 
-/// Tells something in which the plans of a move differ beside rows, at a node where one is given, and where it stands in
-/// the text of each.
+/// Tells something in which the plans of a move differ beside rows, at a node where one is given, and where it stands
+/// in the text of each.
 pub fn difference_text(
     alloc: Global,
     name: &str,

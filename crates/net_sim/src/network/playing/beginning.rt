@@ -21,7 +21,8 @@ impl<'a, T: Terminus> Network<'a, T> {
     ghost use Rattle.net_sim.specs.WalkedStanding.{StandsForWalked};
     ghost use Rattle.net_sim.specs.Networks.{network_value, checked_of, EndsInOutcome};
 
-    /// Begins a walk at a node, which asks the terminus at the endpoint ID under the tag for parts of at most `count` bytes.
+    /// Begins a walk at a node, which asks the terminus at the endpoint ID under the tag for parts of at most `count`
+    /// bytes.
     pub(super) fn begin(
         &mut self,
         node: usize,

@@ -25,8 +25,8 @@ impl<'a, T: Terminus> Network<'a, T> {
     ghost use Rattle.net_sim.specs.Networks.{checked_of, EndsInOutcome};
     ghost use Rattle.net_sim.specs.LackingRooms.{NetworkLacksRoom};
 
-    /// Moves a flight, or a copy of it. A message that comes with it is handed to the walker that it is for, whose room is
-    /// made before.
+    /// Moves a flight, or a copy of it. A message that comes with it is handed to the walker that it is for, whose room
+    /// is made before.
     pub(super) fn move_flight(&mut self, number: u32, keep: bool) -> Result<Outcome, AllocError>
         ensures checked { checked_of self.new ≡ checked_of self.old }
         ensures plays { EndsInOutcome T.tid T.records self.old (Happening (Move number keep)) result self.new }
