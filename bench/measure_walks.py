@@ -1,7 +1,7 @@
 #!/usr/bin/env python3
 """Times walks over the records of both kinds of terminus, and prints a table.
 
-The merge gate refuses sources outside a crate, so walks/main.rattle is made a crate in a temporary folder, beside
+`rt ci` refuses sources outside a crate, so walks/main.rattle is made a crate in a temporary folder, beside
 copies of its libraries. `rt run` proves it there and builds it as it builds mctpplan.
 """
 

@@ -1,6 +1,6 @@
 """The rows in tests/: plans, certificates and events, and what the program prints for them.
 
-One more row for each code runs `code`, which is to print what docs/REFUSALS.md says of it: codes.rows.
+More rows run `code`, `guide`, `schema` and `version`, which are to print what docs/ say: known.rows.
 
 tests/README.md says how rows are written. All that is printed is compared, on standard output and on standard error,
 and the status.

@@ -377,7 +377,7 @@ fn of_n(code: &str) -> Option<&'static str> {
             "N05 (answer): no message waits there.\nHint: move a request to the node first.\n",
         ),
         "N06" => Some(
-            "N06 (put, move with keep, answer, ask): fewer flight numbers are left than the event can need: 64\nfor an answer, else 1.\nHint: begin another run.\n",
+            "N06 (put, move with keep, answer, ask): fewer flight numbers are left than the event can need: 64\nfor an answer, else 1.\nHint: a text has too few events for it; in events made in code begin another run.\n",
         ),
         "N07" => Some(
             "N07 (switch): the network has one plan, or the node has switched before.\nHint: play a move by simmove; a node switches once.\n",

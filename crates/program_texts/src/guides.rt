@@ -31,7 +31,7 @@ draw PLAN [CERT] [--rows [EID]]
 explain PLAN [CERT [EVENTS]] [--json]
                              what certify says of the plan, or check of both, and why
 explain OLD --move NEW       what certifymove says of the move, and why
-faults PLAN [CERT] [--json] [--sarif]
+faults PLAN [CERT] [--json|--sarif]
                              every fault of the plan, or of both, and how many they are
 fix PLAN                     the plan with edits made, until it has a certificate
 lint PLAN [--json]           what is lawful in the plan and still looks wrong, or clean
@@ -197,7 +197,8 @@ not, or has otherwise, is a line that begins with removed or changed, in the old
 each that only the new one has is a line with added, in its order. Things are the transmission unit,
 buses, nodes with their kind, endpoint ID and owner, pools, ports by their indices, rows by their
 first endpoint IDs, termini with their terminus IDs, and records by their handles. Where only the
-order of lists differs, the one line is changed order of lists.
+order of lists differs, or how often the same thing stands in one, the one line is changed order of
+lists.
 
 Where both plans have a certificate, a line follows for each way between two nodes of both plans
 that is removed, added or changed, with the hops of a packet, and then a line with what rollout
@@ -227,12 +228,10 @@ as before; by - stands where no new row is for them. A step of parts has a line 
 step ends in the new plan. That the steps are the fewest is not promised.
 
 With --write three files of each step K are written into the folder DIR, before the steps are
-printed; any order is one step:
-
-With ten steps or more K has leading zeros. DIR has to be there. Files of these names are replaced,
-and others are left as they are. Where no steps lead to the new plan, nothing is written. Where a
-file can't be written, standard error tells its path, no steps are printed, and the files before it
-stay.
+printed; any order is one step. With ten steps or more K has leading zeros. DIR has to be there.
+Files of these names are replaced, and others are left as they are. Where no steps lead to the new
+plan, nothing is written. Where a file can't be written, standard error tells its path, no steps are
+printed, and the files before it stay. The files are these:
 
 - step-K.json: the plan after the step; that of the last step is the new plan.
 - step-K.cert.json: the certificate of that plan, as certify makes it. check takes the two.
@@ -308,10 +307,11 @@ Status 1: the first line that differs.
 const OF_SCRIPT: &str = r#"mctpplan script PLAN CERT walk NODE EID COUNT [--lose N,N] [--repeat N,N]
 
 Prints events, as sim plays them, of a walk in which NODE reads the records of the terminus with
-endpoint ID EID, by requests of COUNT bytes each, 8 to 4079. They are made as the network plays
-them, request by request: packets move hop by hop, and where a packet is lost, the request is put in
-again. The packets with the numbers behind --lose are lost, and those behind --repeat come twice.
-Packets are numbered from 1, in the order in which they are put in, copies too.
+endpoint ID EID, by requests of COUNT bytes each: 8 to 4079, and no more than five packets carry,
+303 at the unit of 64. They are made as the network plays them, request by request: packets move hop
+by hop, and where a packet is lost, the request is put in again. The packets with the numbers behind
+--lose are lost, and those behind --repeat come twice. Packets are numbered from 1, in the order in
+which they are put in, copies too.
 
 Before the events are printed they are read from their text and played once more: the last one,
 collected, tells that the walk is done, with all records. Where the walk doesn't go on, the line of
@@ -356,22 +356,23 @@ Status 1: a fault of the plan or the certificate.
 
 const OF_EXPORT: &str = r#"mctpplan export linux|c|entries|records PLAN CERT NODE [--link BUS=DEV]..
 
-Prints what the first node of the name NODE has by the plan, in one of four forms:
-
-Rows stand in the order of their endpoint IDs, and records in the order of the certificate's places.
+Prints what the first node of the name NODE has by the plan. Rows stand in the order of their
+endpoint IDs, and records in the order of the certificate's places. There are four forms:
 
 - linux: a shell script with the commands of the tool mctp that give a Linux node its state: each
   device is set up, with the plan's transmission unit and four bytes of header as MTU; the node has
   its endpoint ID there; each row is a route, and each of its endpoint IDs a neighbour with the next
-  node's address. A device has the name of its bus, or what --link says, once for each bus. Over
-  SMBus and I2C Linux has the 7 bits of an address alone, so the plan's address 20 is 0x10 there.
+  node's address. A device has the name of its bus, or what --link says, once for each bus and each
+  device: 1 to 15 letters, digits, -, . and _. Over SMBus and I2C Linux has the 7 bits of an address
+  alone, so the plan's address 20 is 0x10 there. Over I3C Linux names a neighbour by its 48-bit PID,
+  which a plan doesn't have, so these lines are to be changed by hand.
 - c: a C99 source with the node's endpoint ID, its pool, its rows and, for a terminus, the records
   in one array of bytes, with an index of handles, offsets and lengths. Each name begins with that
-  of the node.
+  of the node, with _ for what is no letter or digit, and with node_ before one that begins with no
+  letter.
 - entries: the answers of a bridge to Get Routing Table Entries, from the first entry to the last,
   each in a line in hex, with instance ID 0.
-- records: the bytes of the records of a terminus, one record after another, in the order of their
-  next handles.
+- records: the bytes of the records of a terminus, one record after another.
 
 Status 0: the node in this form.
 Status 1: a fault of the plan or the certificate.
@@ -467,10 +468,10 @@ of a loop that rules certificates out are red, and so are the arrows along it, w
 for which packets go round. With a certificate that fits the plan, levels and ranks are tooltips;
 where it does not fit, the first fault is printed.
 
-With --rows at the end arrows stand in place of buses and ports: from each node to each next node,
-with what the rows between them cover. With an endpoint ID behind it, 8 to 254, there is an arrow
-from each node that sends packets for it on, with how many hops they still make; or stops, or goes
-round. The arrows of a loop are red.
+With --rows, at the end where no endpoint ID stands behind it, arrows stand in place of buses and
+ports: from each node to each next node, with what the rows between them cover. With an endpoint ID
+behind it, 8 to 254, there is an arrow from each node that sends packets for it on, with how many
+hops they still make; or stops, or goes round. The arrows of a loop are red.
 
 Status 0: the drawing, also of a plan with faults.
 Status 1: a fault of the plan or the certificate, where there is a certificate.
@@ -498,8 +499,9 @@ stand there; of a name that nothing has the nearest name, and of what stands twi
 EVENTS it does the same of a list of events that can't be read, where the certificate fits the plan.
 Of a file that can't be opened it tells the path and the system's reason on standard error.
 
-With --json all of this is one JSON value: the line, the places, the sentences, and the edits with
-what certify then prints. schema answer prints the JSON schema of such values.
+With --json, which doesn't go with EVENTS, all of this is one JSON value: the line, the places, the
+sentences, and the edits with what certify then prints. schema answer prints the JSON schema of such
+values.
 
 Status 0: nothing is wrong.
 Status 1: what is wrong, and why.
@@ -549,7 +551,7 @@ Status 2: here also why a text can't be read.
   Hint: look for several moves that lead there: mctpplan rollout examples/move/to-left.json examples/move/to-right.json
 "#;
 
-const OF_FAULTS: &str = r#"mctpplan faults PLAN [CERT] [--json] [--sarif]
+const OF_FAULTS: &str = r#"mctpplan faults PLAN [CERT] [--json|--sarif]
 
 Prints every fault of the plan, with CERT of the plan and the certificate, a line each, and how many
 lines there are, or yes. Each line ends with the file, the line and the column of the value at fault
@@ -662,7 +664,8 @@ Status 0: audit match.
 Status 1: audit differs and how many lines tell a difference; or the first fault of the plan and its
 certificate.
 Status 2: also where the plan has no bus of the name, or where the capture can't be read to its end.
-What stands before is told, and last audit incomplete and how many lines of it tell a difference.
+Where a part of it could be read, that is told, and last audit incomplete and how many lines of it
+tell a difference.
 
   $ mctpplan audit examples/riser/plan.json examples/riser/certificate.json examples/captures/lost-row.txt
   host not captured
@@ -681,11 +684,12 @@ the node sends for it, in lines of the same form, before it reads the next one. 
 control messages with its planned routing table and requests for records with its planned records,
 and a bridge sends on what is for others by its rows. With --configured it has its endpoint ID and
 its pool from the start; otherwise they are given to it, as assign does. On standard error a line
-that begins with # says of what nothing comes, and why.
+that begins with # says of a line that is passed over, or of a packet that is dropped, why.
 
 Status 0: standard input has ended.
 Status 1: a fault of the plan or the certificate.
-Status 2: also where the plan has no node of the name.
+Status 2: also where the plan has no node of the name, or where a line has more than 65,535 bytes;
+the lines before it are answered.
 
   $ echo "b1 011110c8008002" | \
         mctpplan emulate examples/riser/plan.json examples/riser/certificate.json nic --configured
@@ -744,11 +748,12 @@ const OF_RECORD: &str = r#"mctpplan record KIND FIELD=VALUE..
 
 Prints the hex of a Platform Descriptor Record. KIND is terminus-locator, numeric-sensor, state-
 sensor, entity-association or other, and each FIELD a name that describe prints of such a record. Of
-other the fields are type and bytes. A number is written in decimal digits, or in hexadecimal digits
-behind 0x; bytes in hex; a state set as its number and its possible states, 33:06; an entity as its
-type, its instance number and its container, 68/1/0. A state set or a contained entity may come
-several times. What no word names is 0 or empty, but for a valid locator, the locator type of an
-eid, and a resolution of 1.
+other the fields are type and bytes. A number is written in decimal digits without leading zeros.
+One that isn't signed, and whose size doesn't hang on another field, may have hexadecimal digits
+behind 0x. Bytes are written in hex; a state set as its number and its possible states, 33:06; an
+entity as its type, its instance number and its container, 68/1/0. A state set or a contained entity
+may come several times. What no word names is 0 or empty, but for a valid locator, the locator type
+of an eid, and a resolution of 1.
 
 Status 0: the hex.
 

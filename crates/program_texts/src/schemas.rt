@@ -874,7 +874,7 @@ const BOARD: &str = r##"{
           "description": "Rows of your own, as 16-31 via switch port 0.",
           "type": "array",
           "maxItems": 256,
-          "items": { "type": "string", "pattern": "^[0-9]{1,3}(-[0-9]{1,3})? via [A-Za-z0-9._-]{1,32} port [0-9]{1,3}$" }
+          "items": { "type": "string", "pattern": "^[0-9]{1,3}(-[0-9]{1,3})? via [A-Za-z0-9._-]{1,32} port ([0-9]|[12][0-9]|3[01])$" }
         },
         "tid": { "description": "The terminus ID.", "type": "integer", "minimum": 0, "maximum": 254 },
         "record": { "type": "array", "maxItems": 4096, "items": { "$ref": "#/$defs/record" } }
