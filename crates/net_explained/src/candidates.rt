@@ -11,6 +11,7 @@ use crate::edit::{Change, Edit};
 use crate::finding::find_cause;
 use net_plan::{Kind, Plan};
 use net_rules::{CertifyError, Fault};
+use net_tables::lookup::pool_at;
 use std::alloc::{AllocError, Global};
 
 /// How many edits are tried at most.
@@ -85,8 +86,11 @@ fn add_for_cause(
         Cause::OutsideOwnersPool { owner } => {
             eids::add_eids(plan, node, edits)?;
             pools::add_owners(plan, node, edits)?;
-            pools::add_for_owned(plan, owner, edits)?;
+            if pool_at(plan, owner).is_none() {
+                pools::add_for_owned(plan, owner, edits)?;
+            }
             pools::add_larger(plan, owner, fault.eid, edits)?;
+            pools::add_for_owned(plan, owner, edits)?;
             add(edits, node, Change::Owner(None))
         }
         Cause::InPeersPool { peer } => {
