@@ -11,7 +11,7 @@ use program_texts::{GUIDE, VERSION, guide_to, schema_of, text_of};
 use std::alloc::{AllocError, Global};
 
 /// A command with its arguments. Files stand by their paths.
-#[derive(Clone, Copy, Debug, PartialEq, Eq)]
+#[derive(Clone, Copy)]
 pub enum Subcommand<'a> {
     /// A question about the plan in one file, certified by another.
     Certified {
@@ -238,7 +238,7 @@ fn worded(list: &[String]) -> Option<Subcommand<'_>> {
 }
 
 /// The name of each command, the names of its arguments, and those of the arguments that may be left out.
-const COMMANDS: [(&str, &[&str], &[&str]); 34] = [
+static COMMANDS: [(&str, &[&str], &[&str]); 34] = [
     ("make", &["board"], &[]),
     ("rows", &["plan"], &[]),
     ("check", &["plan", "certificate"], &[]),
@@ -291,7 +291,7 @@ const JSON: &str = "json";
 const SARIF: &str = "sarif";
 
 /// The options that never have a value.
-const FLAGS: [(&str, &str); 7] = [
+static FLAGS: [(&str, &str); 7] = [
     ("emulate", "configured"),
     ("explain", JSON),
     ("faults", JSON),
@@ -302,7 +302,7 @@ const FLAGS: [(&str, &str); 7] = [
 ];
 
 /// The options of commands, and what each means where no value follows it, if it may stand alone.
-const OPTIONS: [(&str, &str, Option<&str>); 8] = [
+static OPTIONS: [(&str, &str, Option<&str>); 8] = [
     ("audit", "bus", None),
     ("draw", "rows", Some(ALL)),
     ("explain", "move", None),
@@ -316,7 +316,7 @@ const OPTIONS: [(&str, &str, Option<&str>); 8] = [
 /// The names of all commands.
 pub fn command_names(alloc: Global) -> Result<Vec<&'static str>, AllocError> {
     let mut names = Vec::new(alloc);
-    for (name, _, _) in COMMANDS {
+    for &(name, _, _) in &COMMANDS {
         names.push(name)?;
     }
     names.extend_from_slice(&WORDED)?;
@@ -327,7 +327,7 @@ pub fn command_names(alloc: Global) -> Result<Vec<&'static str>, AllocError> {
 /// would cost more than checking a small plan.
 fn grammar<'a>(alloc: Global, named: Option<&String>) -> Result<clap::Command<'a>, AllocError> {
     let mut grammar = clap::Command::new(alloc, "mctpplan").subcommand_required(true);
-    for (name, required, optional) in COMMANDS {
+    for &(name, required, optional) in &COMMANDS {
         if named.is_some_and(|word| word.as_str() == name) {
             grammar = grammar.subcommand(with_arguments(alloc, name, required, optional)?)?;
         }
@@ -339,9 +339,9 @@ fn grammar<'a>(alloc: Global, named: Option<&String>) -> Result<clap::Command<'a
 /// may stand anywhere.
 fn with_arguments<'a>(
     alloc: Global,
-    name: &'a str,
-    required: &[&'a str],
-    optional: &[&'a str],
+    name: &'static str,
+    required: &'static [&'static str],
+    optional: &'static [&'static str],
 ) -> Result<clap::Command<'a>, AllocError> {
     let mut command = clap::Command::new(alloc, name);
     for id in required {
@@ -350,12 +350,12 @@ fn with_arguments<'a>(
     for id in optional {
         command = command.arg(Arg::new(alloc, *id).action(ArgAction::Set))?;
     }
-    for (of, id, alone) in OPTIONS {
+    for &(of, id, alone) in &OPTIONS {
         if of == name {
             command = command.arg(option(alloc, id, alone))?;
         }
     }
-    for (of, id) in FLAGS {
+    for &(of, id) in &FLAGS {
         if of == name {
             command = command.arg(Arg::new(alloc, id).long(id).action(ArgAction::SetTrue))?;
         }
@@ -391,10 +391,10 @@ fn chosen<'a>(matches: &ArgMatches<'a>, list: &'a [String]) -> Option<Subcommand
     let (name, arguments) = matches.subcommand()?;
     match name {
         "make" => making(arguments),
-        "rows" => asked!(arguments, Planned(plan), question: PlanQuestion::Rows),
-        "check" => asked!(arguments, Certified(plan, certificate), question: Question::Check),
-        "certify" => asked!(arguments, Planned(plan), question: PlanQuestion::Certify),
-        "assign" => asked!(arguments, Certified(plan, certificate), question: Question::Assign),
+        "rows" => planned(arguments, PlanQuestion::Rows),
+        "check" => certified(arguments, Question::Check),
+        "certify" => planned(arguments, PlanQuestion::Certify),
+        "assign" => certified(arguments, Question::Assign),
         "sim" => asked!(arguments, Sim(plan, certificate, events)),
         "expect" => asked!(arguments, Expect(plan, certificate, events, lines)),
         "move" => asked!(arguments, Move(old, new, certificate)),
@@ -402,22 +402,20 @@ fn chosen<'a>(matches: &ArgMatches<'a>, list: &'a [String]) -> Option<Subcommand
         "diff" => asked!(arguments, Diff(old, new)),
         "rollout" => rolling_out(arguments),
         "simmove" => asked!(arguments, SimMove(old, new, certificate, events)),
-        "walk" => asked!(arguments, Certified(plan, certificate), question: walked(arguments)?),
+        "walk" => certified(arguments, walked(arguments)?),
         "script" => scripting(arguments),
         "export" => exporting(arguments, list),
-        "reach" if arguments.get_flag(JSON) =>
-            asked!(arguments, CertifiedJson(plan, certificate), asked: CertifiedJson::Reach),
-        "reach" => asked!(arguments, Certified(plan, certificate), question: Question::Reach),
-        "matrix" => asked!(arguments, Certified(plan, certificate), question: Question::Matrix),
+        "reach" if arguments.get_flag(JSON) => certified_json(arguments, CertifiedJson::Reach),
+        "reach" => certified(arguments, Question::Reach),
+        "matrix" => certified(arguments, Question::Matrix),
         "require" => asked!(arguments, Require(plan, certificate, wanted)),
         "trace" => tracing(arguments),
         "draw" => drawing(arguments),
         "explain" => explaining(arguments),
         "faults" => listing(arguments),
         "fix" => asked!(arguments, Fix(plan)),
-        "lint" if arguments.get_flag(JSON) =>
-            asked!(arguments, PlannedJson(plan), asked: PlanJson::Lint),
-        "lint" => asked!(arguments, Planned(plan), question: PlanQuestion::Lint),
+        "lint" if arguments.get_flag(JSON) => planned_json(arguments, PlanJson::Lint),
+        "lint" => planned(arguments, PlanQuestion::Lint),
         "show" => showing(arguments),
         "decode" => asked!(arguments, Decode(capture), plan: arguments.get_str("plan")),
         "audit" =>
@@ -431,6 +429,25 @@ fn chosen<'a>(matches: &ArgMatches<'a>, list: &'a [String]) -> Option<Subcommand
         "version" => known(Some(VERSION)),
         _ => None,
     }
+}
+
+fn certified<'a>(arguments: &ArgMatches<'a>, question: Question<'a>) -> Option<Subcommand<'a>> {
+    asked!(arguments, Certified(plan, certificate), question: question)
+}
+
+fn planned<'a>(arguments: &ArgMatches<'a>, question: PlanQuestion<'a>) -> Option<Subcommand<'a>> {
+    asked!(arguments, Planned(plan), question: question)
+}
+
+fn certified_json<'a>(
+    arguments: &ArgMatches<'a>,
+    asked: CertifiedJson<'a>,
+) -> Option<Subcommand<'a>> {
+    asked!(arguments, CertifiedJson(plan, certificate), asked: asked)
+}
+
+fn planned_json<'a>(arguments: &ArgMatches<'a>, asked: PlanJson) -> Option<Subcommand<'a>> {
+    asked!(arguments, PlannedJson(plan), asked: asked)
 }
 
 fn making<'a>(arguments: &ArgMatches<'a>) -> Option<Subcommand<'a>> {
@@ -502,9 +519,9 @@ fn tracing<'a>(arguments: &ArgMatches<'a>) -> Option<Subcommand<'a>> {
     let from = arguments.get_str("from")?;
     let to = arguments.get_str("to")?;
     if arguments.get_flag(JSON) {
-        return asked!(arguments, CertifiedJson(plan, certificate), asked: CertifiedJson::Trace { from, to });
+        return certified_json(arguments, CertifiedJson::Trace { from, to });
     }
-    asked!(arguments, Certified(plan, certificate), question: Question::Trace { from, to })
+    certified(arguments, Question::Trace { from, to })
 }
 
 /// A question in JSON about a plan with its certificate, or one about the plan alone where that is all.
@@ -514,8 +531,8 @@ fn json_with_or_without<'a>(
     alone: PlanJson,
 ) -> Option<Subcommand<'a>> {
     match arguments.get_str("certificate") {
-        Some(_) => asked!(arguments, CertifiedJson(plan, certificate), asked: asked),
-        None => asked!(arguments, PlannedJson(plan), asked: alone),
+        Some(_) => certified_json(arguments, asked),
+        None => planned_json(arguments, alone),
     }
 }
 
@@ -526,8 +543,8 @@ fn with_or_without<'a>(
     alone: PlanQuestion<'a>,
 ) -> Option<Subcommand<'a>> {
     match arguments.get_str("certificate") {
-        Some(_) => asked!(arguments, Certified(plan, certificate), question: question),
-        None => asked!(arguments, Planned(plan), question: alone),
+        Some(_) => certified(arguments, question),
+        None => planned(arguments, alone),
     }
 }
 

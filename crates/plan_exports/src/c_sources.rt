@@ -285,10 +285,10 @@ fn bytes_lines(alloc: Global, records: &[Record]) -> Result<String, AllocError>
     Ok(text)
 }
 
-fn bytes_line(alloc: Global, record: &Record) -> Result<String, AllocError>
-    ensures { IfOk result (λ text. string_bytes text ≡ bytes_line (entry_of record.now)) }
+fn bytes_line(alloc: Global, entry: &Record) -> Result<String, AllocError>
+    ensures { IfOk result (λ text. string_bytes text ≡ bytes_line (entry_of entry.now)) }
 {
-    let bytes = hex_list(alloc, ", 0x", &record.1)?;
+    let bytes = hex_list(alloc, ", 0x", &entry.1)?;
     format!(in alloc; "    0x{bytes},\n")
 }
 
