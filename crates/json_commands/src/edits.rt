@@ -1,9 +1,11 @@
 //! Edits that were tried, as operations of a JSON patch (RFC 6902).
 ghost use Rattle.std.specs.Prelude.{◌≡◌, IfOk, map, string_bytes, ⊤};
 ghost use Rattle.net_json.specs.Finding.{step_value};
+ghost use Rattle.plan_texts.specs.EditLines.{edit_text};
 ghost use Rattle.serde_json.specs.View.{view};
 ghost use Rattle.json_commands.specs.Edits.{changed_data, edit_data, edit_pointer, left_data, op_of, owner_data, part_of_record, pool_data, row_data};
 ghost use Rattle.json_commands.specs.Lists.{IsListTold};
+ghost use Rattle.json_commands.specs.Notes.{lines_data};
 ghost use Rattle.json_commands.specs.Places.{json_pointer};
 
 use crate::lists::{Listed, list_of};
@@ -50,13 +52,11 @@ impl<'p> Listed for EditWriter<'p> {
 fn edit_value(alloc: Global, plan: &Plan, tried: &Tried) -> Result<Value, AllocError>
     ensures { IfOk result (λ value. view value ≡ edit_data plan.now tried.now) }
 {
-    let left = left_value(alloc, plan, &tried.left)?;
-    let path = edit_path(alloc, plan, &tried.edit)?;
-    let words = edit_line(alloc, plan, &tried.edit)?;
-    let sentences = lines_value(alloc, &words)?;
-    let set = changed_value(alloc, plan, &tried.edit.change)?;
-    let op = op_of(&tried.edit.change);
-    json!(in alloc; {"left": left, "op": op, "path": path, "sentences": sentences, "value": set})
+    json!(in alloc; {
+        "left": left_value(alloc, plan, &tried.left)?, "op": op_of(&tried.edit.change),
+        "path": edit_path(alloc, plan, &tried.edit)?, "sentences": edit_sentences(alloc, plan, &tried.edit)?,
+        "value": changed_value(alloc, plan, &tried.edit.change)?
+    })
 }
 
 /// What rules certificates out, or null.
@@ -67,6 +67,13 @@ fn left_value(alloc: Global, plan: &Plan, left: &Option<CertifyError>) -> Result
         None => Ok(Value::Null),
         Some(next) => Ok(Value::String(obstacle_words(alloc, plan, next)?)),
     }
+}
+
+/// The lines of an edit.
+fn edit_sentences(alloc: Global, plan: &Plan, edit: &Edit) -> Result<Value, AllocError>
+    ensures { IfOk result (λ value. view value ≡ lines_data (edit_text plan.now edit.now)) }
+{
+    lines_value(alloc, &edit_line(alloc, plan, edit)?)
 }
 
 /// What is done to a value.

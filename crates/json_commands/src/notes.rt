@@ -50,12 +50,10 @@ fn json_note(
 ) -> Result<Value, AllocError>
     ensures { IfOk result (λ value. view value ≡ note_data (subject_value subject.now) (view nodes) (view place) (view related) words.now) }
 {
-    let eids = eids_value(alloc, subject.eids)?;
-    let entry = number_or_null(subject.entry);
-    let sentences = lines_value(alloc, words)?;
     json!(in alloc; {
-        "code": subject.code, "eids": eids, "entry": entry, "kind": subject.kind, "nodes": nodes, "place": place,
-        "related": related, "sentences": sentences
+        "code": subject.code, "eids": eids_value(alloc, subject.eids)?, "entry": number_or_null(subject.entry),
+        "kind": subject.kind, "nodes": nodes, "place": place, "related": related,
+        "sentences": lines_value(alloc, words)?
     })
 }
 

@@ -48,8 +48,7 @@ const SCHEMA: &str = "https://json.schemastore.org/sarif-2.1.0.json";
 fn log_value(alloc: Global, results: Value, tool: Value) -> Result<Value, AllocError>
     ensures { IfOk result (λ value. view value ≡ log_data (view results) (view tool)) }
 {
-    let run = run_value(alloc, results, tool)?;
-    let runs = list_of_one(alloc, run)?;
+    let runs = list_of_one(alloc, run_value(alloc, results, tool)?)?;
     json!(in alloc; {"$schema": SCHEMA, "runs": runs, "version": "2.1.0"})
 }
 
@@ -62,9 +61,7 @@ fn run_value(alloc: Global, results: Value, tool: Value) -> Result<Value, AllocE
 
 /// The tool: this program, with the rules that its results name.
 fn tool_value(alloc: Global) -> Result<Value, AllocError> {
-    let rules = rules_value(alloc)?;
-    let driver = json!(in alloc; {"name": "mctpplan", "rules": rules, "version": version()})?;
-    json!(in alloc; {"driver": driver})
+    json!(in alloc; {"driver": {"name": "mctpplan", "rules": rules_value(alloc)?, "version": version()}})
 }
 
 /// The version of this program.

@@ -46,10 +46,10 @@ fn place_value(
 ) -> Result<Value, AllocError>
     ensures { IfOk result (λ value. view value ≡ place_data name.now position (option_map (λ p. p.now) pointer.entry)) }
 {
-    let column = number_or_null(position.map(|position| position.column));
-    let line = number_or_null(position.map(|position| position.line));
-    let pointer = string_or_null(alloc, pointer)?;
-    json!(in alloc; {"column": column, "file": name, "line": line, "pointer": pointer})
+    json!(in alloc; {
+        "column": number_or_null(position.map(|position| position.column)), "file": name,
+        "line": number_or_null(position.map(|position| position.line)), "pointer": string_or_null(alloc, pointer)?
+    })
 }
 
 /// A number, or null.
@@ -83,9 +83,9 @@ fn location_value(
 ) -> Result<Value, AllocError>
     ensures { IfOk result (λ value. view value ≡ location_data name.now position (option_map (λ p. p.now) pointer.entry)) }
 {
-    let logical = logical_value(alloc, pointer)?;
-    let physical = physical_value(alloc, name, position)?;
-    json!(in alloc; {"logicalLocations": logical, "physicalLocation": physical})
+    json!(in alloc; {
+        "logicalLocations": logical_value(alloc, pointer)?, "physicalLocation": physical_value(alloc, name, position)?
+    })
 }
 
 /// The logical locations: the one whose name is the pointer.
@@ -109,13 +109,13 @@ fn physical_value(
 ) -> Result<Value, AllocError>
     ensures { IfOk result (λ value. view value ≡ physical_data name.now position) }
 {
-    let artifact = artifact_value(alloc, name)?;
     match position {
         Some(position) => {
-            let region = region_value(alloc, position)?;
-            json!(in alloc; {"artifactLocation": artifact, "region": region})
+            json!(in alloc; {
+                "artifactLocation": artifact_value(alloc, name)?, "region": region_value(alloc, position)?
+            })
         }
-        None => json!(in alloc; {"artifactLocation": artifact}),
+        None => json!(in alloc; {"artifactLocation": artifact_value(alloc, name)?}),
     }
 }
 

@@ -29,9 +29,9 @@ pub fn way_value(
 ) -> Result<Value, AllocError>
     ensures { IfOk result (λ value. view value ≡ way_data plan.now eid.value (view steps) last end) }
 {
-    let last = node_value(alloc, plan, last)?;
-    let stops = stop_value(alloc, end)?;
-    json!(in alloc; {"eid": eid.value, "last": last, "steps": steps, "stops": stops})
+    json!(in alloc; {
+        "eid": eid.value, "last": node_value(alloc, plan, last)?, "steps": steps, "stops": stop_value(alloc, end)?
+    })
 }
 
 fn stop_value(alloc: Global, end: End) -> Result<Value, AllocError>
@@ -52,7 +52,8 @@ pub fn step_of(
 ) -> Result<Value, AllocError>
     ensures { IfOk result (λ value. view value ≡ step_data plan.now step.now (view place)) }
 {
-    let node = node_value(alloc, plan, step.node)?;
-    let next = node_value(alloc, plan, step.hop.next)?;
-    json!(in alloc; {"next": next, "node": node, "place": place, "port": step.hop.port})
+    json!(in alloc; {
+        "next": node_value(alloc, plan, step.hop.next)?, "node": node_value(alloc, plan, step.node)?, "place": place,
+        "port": step.hop.port
+    })
 }
