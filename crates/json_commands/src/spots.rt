@@ -109,13 +109,13 @@ fn physical_value(
 ) -> Result<Value, AllocError>
     ensures { IfOk result (λ value. view value ≡ physical_data name.now position) }
 {
+    let artifact = artifact_value(alloc, name)?;
     match position {
         Some(position) => {
-            json!(in alloc; {
-                "artifactLocation": artifact_value(alloc, name)?, "region": region_value(alloc, position)?
-            })
+            let region = region_value(alloc, position)?;
+            json!(in alloc; {"artifactLocation": artifact, "region": region})
         }
-        None => json!(in alloc; {"artifactLocation": artifact_value(alloc, name)?}),
+        None => json!(in alloc; {"artifactLocation": artifact}),
     }
 }
 
