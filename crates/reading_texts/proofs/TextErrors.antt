@@ -1,5 +1,5 @@
 -- Why a text doesn't read, by what is told of it.
-use Rattle.std.proofs.Common.{◌≡◌, ◌≢◌, ℕ, List, Some, None, Result, Ok, Err, refl, sym, ap, ◌∙◌, inl, inr, []}
+use Rattle.std.proofs.Common.{◌≡◌, ◌≢◌, ◌≤◌, ℕ, List, length, Some, None, Result, Ok, Err, string_bytes, refl, sym, ap, ◌∙◌, subst, inl, inr, []}
 use Rattle.std.proofs.lemmas.Option.{none-some, same_Some}
 use Rattle.json.specs.Json.{Json}
 use Rattle.json.specs.Strict.{HasUniqueKeys}
@@ -34,9 +34,18 @@ use Rattle.net_pointers.specs.declared.order.Trouble.TheVariants.{Value, Unknown
 use Rattle.net_pointers.specs.declared.texts.TextTrouble.{TextTrouble}
 use Rattle.net_pointers.specs.declared.texts.TextTrouble.TheVariants.{TooLong, NotJson, Wrong}
 use Rattle.net_pointers.proofs.ValueFaults.{IsOfValue, first_of_value}
-use Rattle.reading_texts.specs.TextErrors.{IsToldAs, IsToldOf}
+use Rattle.reading_texts.specs.TextErrors.{IsFaultOfText, IsFaultOfValue, IsToldAs, IsToldOf}
+use Rattle.reading_texts.specs.TroubleLines.{AreTroubleLines}
+use Rattle.reading_texts.specs.declared.text_error.TextFault.{TextFault}
 use Rattle.reading_texts.specs.declared.text_error.TextError.{TextError}
 use Rattle.reading_texts.specs.declared.text_error.TextError.TheVariants.{Faulty, OutOfMemory}
+
+-- ---- the fault of the value is that of its text
+
+pub fault_told : (s : Sort) (text : List ℕ) (j : Json) (f : TextFault) → length text ≤ 16777216 → IsTree text j → IsJson text (data_of j) → IsFaultOfValue s text j f
+    → IsFaultOfText s text f
+fault_told s text j f within tree json (trouble, is, told, lines) =
+    subst (λ (u : TextTrouble). IsToldOfText s text u × AreTroubleLines s text u (string_bytes f.lines)) (sym is) ((within, (j, tree, json, told)), (j, tree, json, lines))
 
 -- ---- the fault is never want of memory
 

@@ -1,5 +1,5 @@
 -- Why a text stops being JSON, where the bytes there tell it.
-use Rattle.std.specs.Prelude.{◌+◌, ◌==◌, ◌&&◌, ◌||◌, nat_lt, nat_le, ℕ, Bool, false, cond}
+use Rattle.std.specs.Prelude.{◌+◌, ◌==◌, ◌&&◌, ◌||◌, nat_lt, nat_le, not, ℕ, Bool, true, false, cond}
 use Rattle.std.specs.Prelude.{List, [], ◌∷◌, length, take, drop, get_or, codes, if◌then◌else◌}
 use Rattle.std.specs.Prelude.{Option, Some, None}
 use Rattle.std.specs.Option.{option_or}
@@ -28,6 +28,19 @@ abbrev pub has_control : List ℕ → Bool
 has_control [] = false
 has_control (b ∷ bs) = cond (ends_plain b) (nat_lt b 32) (has_control bs)
 
+-- a quote that no backslash before it escapes
+abbrev pub closes : Bool → ℕ → Bool
+closes escaped b = not escaped && b == 34
+
+-- a backslash that escapes what follows
+abbrev pub escapes : Bool → ℕ → Bool
+escapes escaped b = not escaped && b == 92
+
+-- a quote that closes stands in bytes within a text in quotes; whether a backslash escapes the first of them
+abbrev pub is_closed : List ℕ → Bool → Bool
+is_closed [] escaped = false
+is_closed (b ∷ bs) escaped = cond (closes escaped b) true (is_closed bs (escapes escaped b))
+
 -- of a text that ends there: whether it has anything else than white space
 abbrev pub end_line : Option ℕ → List ℕ
 end_line (Some b) = codes "The text ends too early.\n"
@@ -42,13 +55,14 @@ abbrev pub byte_line : List ℕ → ℕ → ℕ → Option ℕ → List ℕ
 byte_line rest b next last =
     if b == 0 then codes "A null character stands there, as in UTF-16.\n"
     else (if b == 48 && (next == 120 || next == 88) then codes "JSON has no hexadecimal numbers.\n"
-    else (if b == 48 && is_digit next then codes "A number doesn't begin with 0.\n"
+    else (if b == 48 && is_digit next then codes "A number has no leading zeros.\n"
     else (if b == 47 || b == 35 then codes "JSON has no comments.\n"
     else (if b == 39 then codes "A text stands in double quotes.\n"
     else (if (b == 93 || b == 125) && is_byte 44 last then codes "A comma stands only between two items.\n"
     else (if b == 34 && has_control rest
     then codes "A control character in a text is written with a backslash, as \\t.\n"
-    else []))))))
+    else (if b == 34 && not (is_closed rest false) then codes "The text ends within quotes.\n"
+    else [])))))))
 
 -- the line of the cause at an offset, where there is one
 abbrev pub cause_line : List ℕ → ℕ → List ℕ
@@ -58,7 +72,12 @@ cause_line text offset =
     else byte_line (drop (offset + 1) text) (get_or text offset 0) (get_or text (offset + 1) 0)
     (last_filled (take offset text)))
 
+-- two bytes that are the byte order mark of UTF-16, in either order
+abbrev pub are_marks : ℕ → ℕ → Bool
+are_marks first second = (first == 254 && second == 255) || (first == 255 && second == 254)
+
 -- the line of a text that is no UTF-8 from an offset on: whether it begins as UTF-16 does
 abbrev pub encoding_line : List ℕ → ℕ → List ℕ
 encoding_line text offset =
-    if offset == 0 && (get_or text 0 0 == 254 || get_or text 0 0 == 255) then codes "The text is UTF-16.\n" else []
+    if offset == 0 && are_marks (get_or text 0 0) (get_or text 1 0) then codes "The text begins as UTF-16 does.\n"
+    else []

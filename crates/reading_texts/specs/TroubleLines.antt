@@ -1,12 +1,13 @@
 -- The lines that tell what is wrong with a text, and where.
-use Rattle.std.specs.Prelude.{◌≡◌, ◌+◌, ◌-◌, ℕ, zero, suc, not, codes, is_some, get_or, true}
+use Rattle.std.specs.Prelude.{◌≡◌, ◌+◌, ◌-◌, ℕ, zero, suc, not, codes, is_some, get_or, nat_le, Bool, true, false}
 use Rattle.std.specs.Prelude.{if◌then◌else◌}
 use Rattle.std.specs.Prelude.{List, [], ◌∷◌, ◌++◌, length, drop}
 use Rattle.std.specs.Prelude.{Option, Some, None, MatchOption, option_and_then}
 use Rattle.std.specs.Fmt.{decimal}
-use Rattle.std.specs.List.{find, slice_get}
+use Rattle.std.specs.Char.{is_ascii_digit}
+use Rattle.std.specs.List.{find, list_all, slice_get}
 use Rattle.std.specs.Str.{bytes_eq}
-use Rattle.json.specs.Json.{Json, object, Members, no_members, member}
+use Rattle.json.specs.Json.{Json, number, object, Members, no_members, member}
 use Rattle.json.specs.Find as written
 use Rattle.json.specs.Strict.{keys}
 use Rattle.serde_json.specs.Data.{Data}
@@ -144,11 +145,25 @@ value_line text offset l also words =
     joined (position_text text (Some offset) ++ (pointer_text l.pointer ++ (codes " " ++ words)))
     (shape_words (number_noun l.pointer) l.grammar ++ also)
 
+-- a number that is written with more than digits: with a sign, a fraction or an exponent
+abbrev pub is_unlike_digits : Json → Bool
+is_unlike_digits (number text) = not (list_all is_ascii_digit text)
+is_unlike_digits _ = false
+
+-- how a number is written, where one may stand
+abbrev pub writing_of : Grammar → List ℕ
+writing_of (plain (word.Number least most)) = codes ", in digits alone"
+writing_of _ = []
+
+-- the same of a number that is written otherwise
+abbrev pub writing_words : Grammar → Json → List ℕ
+writing_words g j = if is_unlike_digits j then writing_of g else []
+
 -- the line of a value, with what is wrong with it
 abbrev pub IsLineOf : List ℕ → Located → List ℕ → Json → ℕ → List ℕ → Type 0
 IsLineOf text l also j offset line =
     (words : List ℕ) × IsWrongTold (fields_of l.grammar) l.fault j (drop offset text) words
-    × (line ≡ value_line text offset l also words)
+    × (line ≡ value_line text offset l (also ++ writing_words l.grammar j) words)
 
 -- The line tells of a value of the tree that has a fault: where it is, what is wrong with it, and what may stand there,
 -- these words at the end. The offset is that to which the pointer leads.
@@ -315,10 +330,17 @@ abbrev pub range_words : Option Data → List ℕ
 range_words (Some d) = decimal (first_in d) ++ (codes "-" ++ decimal (end_in d - 1))
 range_words None = codes "-"
 
--- which endpoint IDs two ranges have
+-- the second range ends before the first one begins
+abbrev pub ends_before : Option Data → Option Data → Bool
+ends_before (Some before) (Some after) = nat_le (end_in after) (first_in before)
+ends_before _ _ = false
+
+-- which endpoint IDs two ranges have, and whether they have some in common or stand in the wrong order
 abbrev pub overlap_line : Option Data → Option Data → List ℕ
 overlap_line before after =
-    codes "Ranges " ++ (range_words before ++ (codes " and " ++ (range_words after ++ codes " overlap.\n")))
+    if ends_before before after
+    then codes "Range " ++ (range_words after ++ (codes " belongs before " ++ (range_words before ++ codes ".\n")))
+    else codes "Ranges " ++ (range_words before ++ (codes " and " ++ (range_words after ++ codes " overlap.\n")))
 
 -- the same of two ranges of the certificate, one behind the other
 abbrev pub overlap_of : Data → Overlap → List ℕ

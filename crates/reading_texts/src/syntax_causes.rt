@@ -1,6 +1,6 @@
 //! Why a text stops being JSON, where the bytes there tell it.
-ghost use Rattle.std.specs.Prelude.{◌≡◌, ◌≤◌, ◌<◌, length, get_or};
-ghost use Rattle.reading_texts.specs.SyntaxCauses.{byte_line, cause_line, encoding_line, end_line, ends_plain, has_control, is_byte, is_digit, is_mark, last_filled};
+ghost use Rattle.std.specs.Prelude.{◌≡◌, ◌≤◌, ◌<◌, false, length, get_or};
+ghost use Rattle.reading_texts.specs.SyntaxCauses.{byte_line, cause_line, are_marks, closes, encoding_line, end_line, ends_plain, escapes, has_control, is_byte, is_closed, is_digit, is_mark, last_filled};
 
 use net_pointers::is_blank;
 
@@ -28,12 +28,18 @@ pub fn cause_line(text: &[u8], offset: usize) -> &'static str
 pub fn encoding_line(text: &[u8], offset: usize) -> &'static str
     ensures { result.now ≡ encoding_line text.now offset }
 {
-    let first = byte_at(text, 0);
-    if offset == 0 && (first == 0xfe || first == 0xff) {
-        "The text is UTF-16.\n"
+    if offset == 0 && are_marks(byte_at(text, 0), byte_at(text, 1)) {
+        "The text begins as UTF-16 does.\n"
     } else {
         ""
     }
+}
+
+/// Whether two bytes are the byte order mark of UTF-16, in either order.
+fn are_marks(first: u8, second: u8) -> bool
+    ensures { result ≡ are_marks first second }
+{
+    matches!((first, second), (0xfe, 0xff) | (0xff, 0xfe))
 }
 
 /// The line of a text that ends there: whether it has anything else than white space.
@@ -55,7 +61,7 @@ fn byte_line(rest: &[u8], byte: u8, next: u8, last: Option<u8>) -> &'static str
     } else if byte == b'0' && (next == b'x' || next == b'X') {
         "JSON has no hexadecimal numbers.\n"
     } else if byte == b'0' && is_digit(next) {
-        "A number doesn't begin with 0.\n"
+        "A number has no leading zeros.\n"
     } else if byte == b'/' || byte == b'#' {
         "JSON has no comments.\n"
     } else if byte == b'\'' {
@@ -64,6 +70,8 @@ fn byte_line(rest: &[u8], byte: u8, next: u8, last: Option<u8>) -> &'static str
         "A comma stands only between two items.\n"
     } else if byte == b'"' && has_control(rest) {
         "A control character in a text is written with a backslash, as \\t.\n"
+    } else if byte == b'"' && !is_closed(rest) {
+        "The text ends within quotes.\n"
     } else {
         ""
     }
@@ -112,6 +120,34 @@ fn has_control(bytes: &[u8]) -> bool
         }
     }
     false
+}
+
+/// Whether a quote that no backslash escapes stands in bytes within a text in quotes.
+fn is_closed(bytes: &[u8]) -> bool
+    ensures { result ≡ is_closed bytes.now false }
+{
+    let mut escaped = false;
+    for byte in bytes {
+        if closes(escaped, *byte) {
+            return true;
+        }
+        escaped = escapes(escaped, *byte);
+    }
+    false
+}
+
+/// Whether a byte is a quote that no backslash before it escapes.
+fn closes(escaped: bool, byte: u8) -> bool
+    ensures { result ≡ closes escaped byte }
+{
+    !escaped && byte == b'"'
+}
+
+/// Whether a byte is a backslash that escapes what follows.
+fn escapes(escaped: bool, byte: u8) -> bool
+    ensures { result ≡ escapes escaped byte }
+{
+    !escaped && byte == b'\\'
 }
 
 fn ends_plain(byte: u8) -> bool

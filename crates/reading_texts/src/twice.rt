@@ -8,7 +8,7 @@ ghost use Rattle.net_pointers.specs.Ascending.{DoOverlap};
 ghost use Rattle.net_pointers.specs.Asks.{list_key, name_key};
 ghost use Rattle.net_pointers.specs.Doubles.{HasDoubledKey, part_at};
 ghost use Rattle.net_pointers.specs.Offsets.{IsTextOf, LeadsToKey};
-ghost use Rattle.reading_texts.specs.TroubleLines.{two_lines, entry_pointer, IsDoubledNameTold, name_line, again_line, IsDoubledKeyTold, key_at, part_step, path_text, object_text, keys_in, key_line, key_again_line, AreRangesTold, IsOverlapTold, overlap_line, overlap_of, range_pointer, range_line, range_words, next_range_line, why_once};
+ghost use Rattle.reading_texts.specs.TroubleLines.{two_lines, entry_pointer, IsDoubledNameTold, name_line, again_line, IsDoubledKeyTold, key_at, part_step, path_text, object_text, keys_in, key_line, key_again_line, AreRangesTold, IsOverlapTold, ends_before, overlap_line, overlap_of, range_pointer, range_line, range_words, next_range_line, why_once};
 
 use crate::positions::{pointer_text, position_text};
 use crate::values::{offset_there, text_of, value_at};
@@ -293,7 +293,7 @@ fn overlap_of(alloc: Global, value: &Value<'_>, overlap: Overlap) -> Result<Stri
     overlap_line(alloc, value_at(value, &one), value_at(value, &other))
 }
 
-/// Which endpoint IDs two ranges have.
+/// Which endpoint IDs two ranges have, and whether they have some in common or stand in the wrong order.
 fn overlap_line(
     alloc: Global,
     before: Option<&Value<'_>>,
@@ -301,9 +301,23 @@ fn overlap_line(
 ) -> Result<String, AllocError>
     ensures { IfOk result (λ line. string_bytes line ≡ overlap_line (option_map (λ v. view v.now) before.entry) (option_map (λ v. view v.now) after.entry)) }
 {
+    let stands_behind = ends_before(before, after);
     let before = range_words(alloc, before)?;
     let after = range_words(alloc, after)?;
+    if stands_behind {
+        return format!(in alloc; "Range {after} belongs before {before}.\n");
+    }
     format!(in alloc; "Ranges {before} and {after} overlap.\n")
+}
+
+/// Whether the second range ends before the first one begins.
+fn ends_before(before: Option<&Value<'_>>, after: Option<&Value<'_>>) -> bool
+    ensures { result ≡ ends_before (option_map (λ v. view v.now) before.entry) (option_map (λ v. view v.now) after.entry) }
+{
+    match (before, after) {
+        (Some(before), Some(after)) => end_of_range(after) <= first_in_range(before),
+        _ => false,
+    }
 }
 
 /// The first endpoint ID of a range and its last one.

@@ -1,4 +1,6 @@
 //! A value that is wrong in itself: where it stands, what is wrong with it, and what may stand there.
+ghost use Rattle.std.specs.Char.{is_ascii_digit};
+ghost use Rattle.std.specs.List.{list_all};
 ghost use Rattle.std.specs.Prelude.{◌≡◌, ◌≤◌, length, map, true, is_some, IfOk, option_map, drop, string_bytes, IsUtf8};
 ghost use Rattle.serde_json.specs.Find.{at, get_item};
 ghost use Rattle.net_json.specs.Finding.{located, step_value};
@@ -10,14 +12,14 @@ ghost use Rattle.json.specs.Value.{value_view, members_view, items_view as tree_
 ghost use Rattle.net_json.specs.Trees.{view, items_view};
 ghost use Rattle.net_pointers.specs.Offsets.{IsTextOf, LeadsTo};
 ghost use Rattle.net_pointers.specs.Pointers.{value_at, value_after};
-ghost use Rattle.reading_texts.specs.TroubleLines.{IsStandingTold, first_unknown, unknown_key_words, tree_at, tree_after, IsLengthTold, IsWrongTold, IsLineOf, IsValueTold, lacked_key, lack_words, unknown_words, value_line};
+ghost use Rattle.reading_texts.specs.TroubleLines.{IsStandingTold, first_unknown, unknown_key_words, tree_at, tree_after, IsLengthTold, IsWrongTold, IsLineOf, IsValueTold, is_unlike_digits, lacked_key, lack_words, unknown_words, value_line, writing_of, writing_words};
 
 use crate::joined::joined;
 use crate::positions::{pointer_text, position_text};
 use crate::shapes::{number_noun, shape_words};
 use crate::shown::{rest_at, shown_key, shown_text};
 use json::Value;
-use net_json::{Field, Found, PointerStep, ValueFault, at, fields_of, is_key_of};
+use net_json::{Field, Found, PointerStep, Shape, ValueFault, Word, at, fields_of, is_key_of};
 use net_pointers::offset_of_pointer;
 use std::alloc::{AllocError, Global};
 
@@ -76,7 +78,9 @@ fn line_of(
     ensures { IfOk result (λ line. IsLineOf text.now (located found.now) also.now (value_view stands.now) offset (string_bytes line)) }
 {
     let words = wrong_words(alloc, found, stands, rest_at(text, offset))?;
-    value_text(alloc, text, found, also, offset, &words)
+    let writing = writing_words(found.shape, stands);
+    let also = format!(in alloc; "{also}{writing}")?;
+    value_text(alloc, text, found, &also, offset, &words)
 }
 
 fn value_text(
@@ -97,6 +101,43 @@ fn value_text(
     let mut shape = shape_words(alloc, noun, found.shape)?;
     shape.push_str(also)?;
     joined(alloc, &stands, &shape)
+}
+
+/// How a number is written, of one that is written otherwise.
+fn writing_words(shape: &Shape, stands: &Value<'_>) -> &'static str
+    ensures { result.now ≡ writing_words (grammar shape.now) (value_view stands.now) }
+{
+    if is_unlike_digits(stands) {
+        writing_of(shape)
+    } else {
+        ""
+    }
+}
+
+/// Whether a value is a number that is written with more than digits: with a sign, a fraction or an exponent.
+fn is_unlike_digits(stands: &Value<'_>) -> bool
+    ensures { result ≡ is_unlike_digits (value_view stands.now) }
+{
+    match stands {
+        Value::Number(text) => !has_only_digits(text.as_bytes()),
+        _ => false,
+    }
+}
+
+fn has_only_digits(bytes: &[u8]) -> bool
+    ensures { result ≡ list_all is_ascii_digit bytes.now }
+{
+    bytes.iter().all(|byte| byte.is_ascii_digit())
+}
+
+/// How a number is written, where one may stand.
+fn writing_of(shape: &Shape) -> &'static str
+    ensures { result.now ≡ writing_of (grammar shape.now) }
+{
+    match shape {
+        Shape::Plain(Word::Number { least: _, most: _ }) => ", in digits alone",
+        _ => "",
+    }
 }
 
 /// What is wrong with a value: the key that it lacks or that doesn't belong there, its length, or what stands there.
