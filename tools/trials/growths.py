@@ -22,7 +22,7 @@ import threading
 
 from runner import TOP, Failed, commands, each
 
-CRATES = ("message_tests", "text_tests", "rule_tests", "run_tests")
+CRATES = ("message_tests", "network_tests")
 # What a program takes memory by, besides the two that are refused.
 OTHER_WAYS = {"calloc", "reallocarray", "aligned_alloc", "posix_memalign", "memalign", "valloc", "mmap", "sbrk", "brk"}
 NO_MEMORY = (3, b"no memory\n")

@@ -6,7 +6,7 @@ use net_plan::Plan;
 use net_tables::lookup::bus_named;
 
 /// A name that no bus of a plan has.
-#[derive(Clone, Copy, Debug)]
+#[derive(Clone, Copy)]
 pub struct UnknownBus;
 
 /// The index of the first bus of the name, where one is given.

@@ -4,7 +4,7 @@ use Rattle.toml.specs.Data.{Data}
 use Rattle.net_plan.specs.declared.plan.Plan.{Plan}
 use Rattle.net_rules.specs.declared.certify_error.CertifyError.{CertifyError}
 use Rattle.net_rules.specs.Certificates.{NamesObstacle, HasNoCertificate}
-use Rattle.plan_texts.specs.Explanations.{IsObstacleTold}
+use Rattle.explanation_texts.specs.Explanations.{IsObstacleTold}
 use Rattle.plan_texts.specs.Lines.{obstacle_text}
 use Rattle.board.specs.declared.board.RecordFile.{RecordFile}
 use Rattle.board.specs.declared.making.NoPlan.{NoPlan}

@@ -12,7 +12,7 @@ use std::alloc::{AllocError, Global};
 use toml::Value;
 
 /// What is answered of a board.
-#[derive(Debug, Drop)]
+#[derive(Drop)]
 pub enum BoardAnswer {
     /// A plan, judged.
     Made(MadePlan),
@@ -23,7 +23,7 @@ pub enum BoardAnswer {
 }
 
 /// The text of a plan that was made, and that of its certificate.
-#[derive(Debug, Drop)]
+#[derive(Drop)]
 pub struct MadePlan {
     pub plan: String,
     pub certificate: String,

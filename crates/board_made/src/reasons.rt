@@ -8,9 +8,10 @@ ghost use Rattle.board_made.specs.Reasons.{reason_line, way_words, name_words, I
 use board::{Board, NoPlan, RecordFile};
 use board_kept::{Unfit, node_name};
 use board_values::{lacking_words, lacks, node_text as told_node};
+use explanation_texts::obstacle_lines;
 use net_check::CertifyError;
 use net_plan::Plan;
-use plan_texts::{obstacle_line, obstacle_lines};
+use plan_texts::obstacle_line;
 use std::alloc::{AllocError, Global};
 use toml::Value;
 

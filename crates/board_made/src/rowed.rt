@@ -17,7 +17,7 @@ use net_plan::{Certificate, Plan};
 use std::alloc::{AllocError, Global};
 
 /// What is answered of a plan that is to have rows.
-#[derive(Debug, Drop)]
+#[derive(Drop)]
 pub enum RowsAnswer {
     /// The text of the plan with rows, judged.
     Made(String),

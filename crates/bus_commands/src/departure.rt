@@ -4,7 +4,7 @@ ghost use Rattle.std.specs.Prelude.{◌≤◌, length};
 use mctp_transport::Eid;
 
 /// A packet that an event is to move, and the node where it is.
-#[derive(Debug, Drop)]
+#[derive(Drop)]
 pub struct Departure {
     pub node: usize,
     pub destination: Eid,

@@ -9,7 +9,7 @@ use net_tables::lookup::is_on_bus;
 use std::alloc::{AllocError, Global};
 
 /// What a line says.
-#[derive(Debug, Drop)]
+#[derive(Drop)]
 pub enum Said {
     /// Nothing but a comment.
     Nothing,

@@ -12,7 +12,7 @@ use std::alloc::Global;
 pub const LONGEST_LINE: usize = 65_536;
 
 /// A line, without its end.
-#[derive(Debug, Drop)]
+#[derive(Drop)]
 pub struct GivenLine {
     pub text: Vec<u8>,
     /// Whether the bytes ended here. Otherwise the line's end was taken too.

@@ -16,7 +16,7 @@ use pdr_repository::Terminus;
 use std::alloc::Global;
 
 /// Why no more lines are taken.
-#[derive(Clone, Copy, Debug, PartialEq, Eq)]
+#[derive(Clone, Copy, PartialEq, Eq)]
 pub enum Stop {
     /// This is to be said on standard error.
     Refused(Refused),

@@ -15,7 +15,7 @@ use pdr_repository::Terminus;
 use std::alloc::{AllocError, Global};
 
 /// What is written for a line: the lines that the node sends, and a note of what it dropped. Each may be empty.
-#[derive(Debug, Drop)]
+#[derive(Drop)]
 pub struct Turn {
     pub answer: String,
     pub note: Vec<u8>,

@@ -7,6 +7,7 @@ mod Names
 mod Moved
 mod Ends
 pub mod UnreadInputs
+pub mod UnreadTexts
 pub mod GivenTexts
 pub mod FirstFaults
 mod GivenEvents

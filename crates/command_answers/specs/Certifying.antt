@@ -1,5 +1,5 @@
 -- What `certify` prints of a plan.
-use Rattle.std.specs.Prelude.{◌≡◌, ◌≤◌, ℕ, List, length, Some}
+use Rattle.std.specs.Prelude.{◌≡◌, ◌≤◌, ◌-◌, ℕ, List, length, Some}
 use Rattle.net_plan.specs.declared.plan.Plan.{Plan}
 use Rattle.net_plan.specs.declared.certificate.Certificate.{Certificate}
 use Rattle.net_json.specs.CertificateJson.{certificate_text}
@@ -9,6 +9,7 @@ use Rattle.net_plan.specs.PlanValues.{node_names, plan_value}
 use Rattle.net_json.specs.Texts.{IsJsonTextOf}
 use Rattle.net_plan.specs.WellFormed.{IsWellFormed}
 use Rattle.net_rules.specs.declared.certify_error.CertifyError.{CertifyError}
+use Rattle.net_rules.specs.declared.certify_error.CertifyError.TheVariants as error
 use Rattle.net_rules.specs.Certificates.{IsExact, NamesObstacle, HasNoCertificate}
 use Rattle.net_rules.specs.Rules.{Accepts}
 use Rattle.command_answers.specs.declared.status.Status.{Status}
@@ -40,3 +41,8 @@ Certifies plan status.Yes text = (certificate : Certificate) × IsCertifiedBy pl
 Certifies plan status.Fault text = (obstacle : CertifyError) × IsRuledOutBy plan obstacle text
 Certifies plan status.Unreadable text = ⊥
 Certifies plan status.NoMemory text = ⊥
+
+-- how many of so many lines of faults are there beside what is told, which is one of them where it is a fault
+abbrev pub others_of : CertifyError → ℕ → ℕ
+others_of (error.Fault fault) count = count - 1
+others_of _ count = count

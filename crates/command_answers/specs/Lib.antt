@@ -8,3 +8,4 @@ pub mod Inputs
 pub mod Moves
 pub mod Naming
 pub mod UnreadInputs
+pub mod UnreadTexts

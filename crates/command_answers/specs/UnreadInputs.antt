@@ -1,8 +1,10 @@
--- What is known of a source that gave no plan, or no certificate.
+-- What is known of a source that gave no plan, no certificate or no events.
 use Rattle.std.specs.Prelude.{◌≡◌, ℕ, List, ⊤, Result}
 use Rattle.serde_json.specs.Data.{Data}
 use Rattle.net_json.specs.CertificateReading.{certificate}
 use Rattle.net_json.specs.CertificateText.{IsCertificateOf}
+use Rattle.net_json.specs.EventReading.{events}
+use Rattle.net_json.specs.EventText.{AreEventsOf}
 use Rattle.net_json.specs.declared.error.ValueFault.{ValueFault}
 use Rattle.net_plan.specs.declared.plan.Plan.{Plan}
 use Rattle.net_json.specs.declared.stream.TextFault.{TextFault}
@@ -14,7 +16,7 @@ use Rattle.net_json.specs.Stream.{TakesMoreThan}
 use Rattle.net_json.specs.Texts.{Gave, IsJsonTextOf}
 use Rattle.command_answers.specs.declared.inputs.Unread.{Unread}
 use Rattle.command_answers.specs.declared.inputs.Unread.TheVariants.{NoMemory, Failed, TooLong, Text}
-use Rattle.net_pointers.specs.Asks.{Sort, plan_text, certificate_text}
+use Rattle.net_pointers.specs.Asks.{Sort, plan_text, certificate_text, events_text}
 use Rattle.reading_texts.specs.TextErrors.{IsToldAs}
 use Rattle.reading_texts.specs.declared.text_error.TextError.TheVariants.{Faulty}
 use Rattle.command_answers.specs.Answers.{Stream, Fails}
@@ -59,3 +61,13 @@ IsNoCertificateIn p bytes unread = let nodes = node_names (plan_value p).nodes i
 abbrev pub IsNoCertificateBy : Plan → Stream → Unread → Type 0
 IsNoCertificateBy p certificates unread = let nodes = node_names (plan_value p).nodes in
     IsUnreadBy (certificate_text nodes) (certificate nodes) (IsCertificateOf (plan_value p)) certificates unread
+
+-- why bytes are no events at the plan's nodes
+abbrev pub AreNoEventsIn : Plan → List ℕ → Unread → Type 0
+AreNoEventsIn p bytes unread = let nodes = node_names (plan_value p).nodes in
+    IsUnreadAs (events_text nodes) (events nodes) (AreEventsOf (plan_value p)) bytes unread
+
+-- why a source gave no events
+abbrev pub AreNoEventsBy : Plan → Stream → Unread → Type 0
+AreNoEventsBy p happenings unread = let nodes = node_names (plan_value p).nodes in
+    IsUnreadBy (events_text nodes) (events nodes) (AreEventsOf (plan_value p)) happenings unread

@@ -1,10 +1,10 @@
-//! The command `certify`: the certificate of a plan, or why there is none.
+//! The command `certify`: the certificate of a plan, or why there is none, and how many faults are there beside.
 ghost use Rattle.std.specs.Prelude.{◌≡◌, IfOk};
 ghost use Rattle.std.specs.Cow.{cow_str_bytes};
-ghost use Rattle.command_answers.specs.Certifying.{Certifies};
+ghost use Rattle.command_answers.specs.Certifying.{Certifies, others_of};
 
 use crate::answer::Answer;
-use net_check::{Checked, certify, check};
+use net_check::{CertifyError, Checked, certify, check};
 use net_json::text_of_certificate;
 use net_plan::{Certificate, Plan};
 use plan_texts::obstacle_line;
@@ -29,4 +29,17 @@ pub fn accepted<'a>(
     ensures { IfOk result (λ checked. checked ≡ (plan.now, certificate.now)) }
 {
     check(alloc, plan, certificate).map_err(|_| AllocError)
+}
+
+/// How many of so many lines of faults are there beside what is told.
+pub fn others_of(obstacle: &CertifyError, count: usize) -> usize
+    ensures { result ≡ others_of obstacle.now count }
+{
+    match obstacle {
+        CertifyError::Fault(_) => count.saturating_sub(1),
+        CertifyError::OwnerLoop(_)
+        | CertifyError::Loop(_, _)
+        | CertifyError::BadChain(_, _)
+        | CertifyError::OutOfMemory => count,
+    }
 }

@@ -14,7 +14,7 @@ use std::alloc::Global;
 const ENOUGH: usize = 8192;
 
 /// Whole lines that wait to be written.
-#[derive(Debug, Drop)]
+#[derive(Drop)]
 pub struct Gathered {
     lines: String,
 }

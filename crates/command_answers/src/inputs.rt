@@ -48,7 +48,7 @@ pub enum Unread {
 }
 
 /// A plan, and the text that it was read from.
-#[derive(Debug, Drop)]
+#[derive(Drop)]
 pub struct PlanText {
     pub text: Vec<u8>,
     pub plan: Plan,

@@ -14,10 +14,11 @@ mod refused;
 mod repositories;
 mod status;
 mod termini;
+mod unread_texts;
 
 pub use answer::{Answer, YES, give, print, refuse, tell, tell_made};
 pub use bytes_answer::{BytesAnswer, tell_bytes};
-pub use certify::{accepted, certificate_of_plan};
+pub use certify::{accepted, certificate_of_plan, others_of};
 pub use faults::{fault_answer, fault_text, move_fault_answer};
 pub use gathered::Gathered;
 pub use inputs::{
@@ -32,3 +33,4 @@ pub use refused::{Input, Refused};
 pub use repositories::records_by_place;
 pub use status::Status;
 pub use termini::{planned_network, planned_terminus};
+pub use unread_texts::{unread_answer, unread_text};

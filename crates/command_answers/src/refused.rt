@@ -11,7 +11,7 @@ use std::borrow::CowStr;
 use std::io;
 
 /// A file that the program reads.
-#[derive(Clone, Copy, Debug, PartialEq, Eq)]
+#[derive(Clone, Copy, PartialEq, Eq)]
 pub enum Input {
     Plan,
     Certificate,
@@ -20,7 +20,7 @@ pub enum Input {
 }
 
 /// Why the program gives no answer on standard output.
-#[derive(Clone, Copy, Debug, PartialEq, Eq)]
+#[derive(Clone, Copy, PartialEq, Eq)]
 pub enum Refused {
     /// The words fit no command.
     Usage,

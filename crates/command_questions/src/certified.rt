@@ -4,7 +4,7 @@ use crate::form::Form;
 use crate::part_size::PartSize;
 
 /// A question about a plan with its certificate: the command of the name asks it.
-#[derive(Clone, Copy, Debug, PartialEq, Eq)]
+#[derive(Clone, Copy)]
 pub enum Question<'a> {
     /// Does the certificate fit the plan?
     Check,
@@ -25,7 +25,7 @@ pub enum Question<'a> {
 }
 
 /// What is asked of a plan with its certificate, where the answer is to be JSON: the command of the name asks it.
-#[derive(Clone, Copy, Debug, PartialEq, Eq)]
+#[derive(Clone, Copy)]
 pub enum CertifiedJson<'a> {
     /// What does `check` answer, and why?
     Explain,

@@ -2,7 +2,7 @@
 use mctp_transport::Eid;
 
 /// Which rows a drawing shows.
-#[derive(Clone, Copy, Debug, PartialEq, Eq)]
+#[derive(Clone, Copy)]
 pub enum DrawnRows {
     /// None: it shows buses, ports and owners.
     Hidden,

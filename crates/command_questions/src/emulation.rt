@@ -1,7 +1,7 @@
 //! What `emulate` is asked.
 
 /// A node that is emulated, and whether its device was configured.
-#[derive(Clone, Copy, Debug, PartialEq, Eq)]
+#[derive(Clone, Copy)]
 pub struct Emulation<'a> {
     /// The name of the node.
     pub node: &'a str,

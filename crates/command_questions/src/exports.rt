@@ -1,7 +1,7 @@
 //! What `export` is asked.
 
 /// In which form a node is exported.
-#[derive(Clone, Copy, Debug, PartialEq, Eq)]
+#[derive(Clone, Copy)]
 pub enum ExportKind {
     /// A shell script with the commands for a Linux node.
     Linux,
@@ -14,7 +14,7 @@ pub enum ExportKind {
 }
 
 /// A node and the form in which it is exported.
-#[derive(Clone, Copy, Debug, PartialEq, Eq)]
+#[derive(Clone, Copy)]
 pub struct Export<'a> {
     pub kind: ExportKind,
     /// The name of the node.

@@ -1,7 +1,7 @@
 //! Numbers of flights, as the words of a command give them.
 
 /// Numbers of flights: digits with commas between the numbers.
-#[derive(Clone, Copy, Debug, PartialEq, Eq)]
+#[derive(Clone, Copy)]
 pub struct Flights<'a> {
     /// Nothing where there are none.
     list: Option<&'a str>,

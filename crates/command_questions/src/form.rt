@@ -1,7 +1,7 @@
 //! The forms in which faults are told.
 
 /// The form in which faults are told.
-#[derive(Clone, Copy, Debug, PartialEq, Eq)]
+#[derive(Clone, Copy)]
 pub enum Form {
     /// The JSON value that the commands share.
     Json,

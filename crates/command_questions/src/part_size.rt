@@ -2,7 +2,7 @@
 ghost use Rattle.std.specs.Prelude.{◌≡◌, ◌↔◌, ◌≤◌, IsSome, IfSome};
 
 /// How many bytes of a record one GetPDR request asks for (DSP0248): 8 to 4079.
-#[derive(Clone, Copy, Debug, PartialEq, Eq)]
+#[derive(Clone, Copy)]
 pub struct PartSize {
     pub bytes: u16,
     pub ghost least: { 8 ≤ bytes },

@@ -3,7 +3,7 @@ use crate::drawn_rows::DrawnRows;
 use crate::form::Form;
 
 /// A question about a plan: the command of the name asks it.
-#[derive(Clone, Copy, Debug, PartialEq, Eq)]
+#[derive(Clone, Copy)]
 pub enum PlanQuestion<'a> {
     /// What is its certificate, or why has it none?
     Certify,
@@ -19,7 +19,7 @@ pub enum PlanQuestion<'a> {
 }
 
 /// What is asked of a plan alone, where the answer is to be JSON: the command of the name asks it.
-#[derive(Clone, Copy, Debug, PartialEq, Eq)]
+#[derive(Clone, Copy)]
 pub enum PlanJson {
     /// What does `certify` answer, and why?
     Explain,

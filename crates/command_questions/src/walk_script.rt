@@ -4,7 +4,7 @@ use crate::part_size::PartSize;
 use mctp_transport::Eid;
 
 /// A walk whose events are asked for.
-#[derive(Clone, Copy, Debug, PartialEq, Eq)]
+#[derive(Clone, Copy)]
 pub struct WalkScript<'a> {
     /// The name of the node that asks.
     pub node: &'a str,

@@ -1,7 +1,7 @@
 //! What is asked of words alone.
 
 /// A question that words answer: the command of the name asks it.
-#[derive(Clone, Copy, Debug, PartialEq, Eq)]
+#[derive(Clone, Copy)]
 pub enum WordQuestion {
     /// What does each field of the record hold, whose bytes the words are in hex?
     Describe,
@@ -10,7 +10,7 @@ pub enum WordQuestion {
 }
 
 /// What bytes are shown as.
-#[derive(Clone, Copy, Debug, PartialEq, Eq)]
+#[derive(Clone, Copy)]
 pub enum ShownKind {
     Packet,
     Record,

@@ -13,7 +13,7 @@ use net_plan::{Node, Plan};
 use std::alloc::{AllocError, Global};
 
 /// Who holds which endpoint ID by a plan, in words.
-#[derive(Debug, Drop)]
+#[derive(Drop)]
 pub struct Names<'p> {
     pub plan: &'p Plan,
     /// For each endpoint ID that may be a source.

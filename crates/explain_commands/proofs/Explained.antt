@@ -20,7 +20,7 @@ use Rattle.command_answers.specs.Answers.{Stream, GavePlanText, GaveCertificate}
 use Rattle.explain_commands.specs.Explaining.{IsExplained, ExplainsSo, IsExplainedThere, IsObstacleText, IsToldWithEdits, AreMoreTold, IsFaultTold, both_words, IsBothExplained, IsExplainedWith, ExplainsWithSo, IsFaultExplained, IsRemedyTold, remedy_text}
 use Rattle.command_answers.specs.UnreadInputs.{IsNoPlanBy, IsNoCertificateBy}
 use Rattle.command_answers.specs.declared.refused.Input.TheVariants as input
-use Rattle.explain_commands.proofs.UnreadTexts.{IsUnreadAnswer, plan_told, certificate_told}
+use Rattle.command_answers.proofs.UnreadTexts.{IsUnreadAnswer, plan_told, certificate_told}
 use Rattle.command_answers.specs.Certifying.{IsRuledOutBy}
 use Rattle.plan_texts.specs.Lines.{fault_text}
 use Rattle.fault_texts.specs.Places.{IsPlaceTold, obstacle_pointer}

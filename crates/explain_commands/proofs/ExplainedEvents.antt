@@ -11,11 +11,11 @@ use Rattle.command_answers.specs.declared.refused.Refused.{Refused}
 use Rattle.command_answers.specs.declared.status.Status.{Status}
 use Rattle.command_answers.specs.declared.status.Status.TheVariants as status
 use Rattle.command_answers.specs.Answers.{Stream, GavePlanText, GaveCertificate}
-use Rattle.command_answers.specs.UnreadInputs.{IsNoPlanBy, IsNoCertificateBy}
+use Rattle.command_answers.specs.UnreadInputs.{IsNoPlanBy, IsNoCertificateBy, AreNoEventsBy}
 use Rattle.explain_commands.specs.Explaining.{IsFaultExplained}
-use Rattle.explain_commands.specs.ExplainingEvents.{AreNoEventsBy, AreEventsExplained, AreAllExplained, IsExplainedWithEvents, ExplainsAllSo}
+use Rattle.explain_commands.specs.ExplainingEvents.{AreEventsExplained, AreAllExplained, IsExplainedWithEvents, ExplainsAllSo}
 use Rattle.command_answers.specs.declared.refused.Input.TheVariants as input
-use Rattle.explain_commands.proofs.UnreadTexts.{IsUnreadAnswer, plan_told, certificate_told, events_told}
+use Rattle.command_answers.proofs.UnreadTexts.{IsUnreadAnswer, plan_told, certificate_told, events_told}
 
 -- the answer where no events were given
 pub no_events : (plan : Plan) (cert : Certificate) (happenings : Stream) (u : Unread) (result : Result Answer Refused) → Accepts plan cert → AreNoEventsBy plan happenings u

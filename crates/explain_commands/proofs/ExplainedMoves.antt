@@ -16,12 +16,12 @@ use Rattle.command_answers.specs.declared.status.Status.TheVariants as status
 use Rattle.command_answers.specs.Answers.{Stream, GavePlanText}
 use Rattle.command_answers.specs.UnreadInputs.{IsNoPlanBy}
 use Rattle.fault_texts.specs.RuledOutMoves.{IsMoveRuledOutBy}
-use Rattle.plan_texts.specs.Explanations.{told_subjects}
+use Rattle.explanation_texts.specs.Explanations.{told_subjects}
 use Rattle.explain_commands.specs.Explaining.{AreEditsTold, IsCauseTold, IsToldWithEdits}
 use Rattle.explain_commands.specs.ExplainingMoves.{ExplainsMoveSo, IsMoveExplained, IsMoveExplainedWith, IsMoveObstacleText, IsMoveTold}
 use Rattle.explain_commands.specs.MoveRows.{PlanFile}
 use Rattle.command_answers.specs.declared.refused.Input.TheVariants as input
-use Rattle.explain_commands.proofs.UnreadTexts.{IsUnreadAnswer, plan_told}
+use Rattle.command_answers.proofs.UnreadTexts.{IsUnreadAnswer, plan_told}
 
 -- ---- a run
 

@@ -1,4 +1,3 @@
-pub mod UnreadTexts
 mod Explained
 mod ExplainedEvents
 mod Mended

@@ -6,7 +6,7 @@ use Rattle.command_answers.specs.declared.status.Status.{Status}
 use Rattle.command_answers.specs.declared.status.Status.TheVariants as status
 use Rattle.command_answers.specs.Answers.{Stream}
 use Rattle.explain_commands.specs.Fixing.{AreBothTold, EndsFixed, EndsIn, FixesSo, IsMended}
-use Rattle.explain_commands.specs.UnreadTexts.{IsUnreadText}
+use Rattle.command_answers.specs.UnreadTexts.{IsUnreadText}
 use Rattle.plan_fixes.specs.Fixes.{AreFixes, IsDraftOf, IsTextOf}
 use Rattle.plan_fixes.specs.declared.fixing.Draft.{Draft}
 

@@ -1,5 +1,5 @@
 -- What `explain` prints, and what the end of it says.
-use Rattle.std.specs.Prelude.{◌≡◌, ◌≤◌, ◌⊎◌, ◌-◌, ℕ, List, ◌++◌, codes, length, Option, Some, None}
+use Rattle.std.specs.Prelude.{◌≡◌, ◌≤◌, ◌⊎◌, ℕ, List, ◌++◌, codes, length, Option, Some, None}
 use Rattle.std.specs.List.{All}
 use Rattle.net_rules.specs.Certificates.{IsExact}
 use Rattle.net_rules.specs.FaultLists.{AreFaults}
@@ -21,17 +21,17 @@ use Rattle.net_plan.specs.PlanValues.{plan_value}
 use Rattle.command_answers.specs.declared.status.Status.{Status}
 use Rattle.command_answers.specs.declared.status.Status.TheVariants as status
 use Rattle.command_answers.specs.Answers.{Stream, GavePlanText, GaveCertificate}
-use Rattle.command_answers.specs.Certifying.{IsRuledOutBy}
+use Rattle.command_answers.specs.Certifying.{IsRuledOutBy, others_of}
 use Rattle.plan_texts.specs.Lines.{fault_text}
 use Rattle.command_answers.specs.Statuses.{yes_line}
-use Rattle.explain_commands.specs.UnreadTexts.{IsUnreadText, IsUnreadCertificateText}
-use Rattle.plan_texts.specs.CertificateSubjects.{certificate_subjects}
-use Rattle.plan_texts.specs.EditLines.{edits_text}
-use Rattle.plan_texts.specs.Explanations.{told_subjects, IsObstacleTold}
+use Rattle.command_answers.specs.UnreadTexts.{IsUnreadText, IsUnreadCertificateText}
+use Rattle.explanation_texts.specs.CertificateSubjects.{certificate_subjects}
+use Rattle.explanation_texts.specs.EditLines.{edits_text}
+use Rattle.explanation_texts.specs.Explanations.{told_subjects, IsObstacleTold}
 use Rattle.fault_texts.specs.FaultListLines.{more_text}
-use Rattle.plan_texts.specs.Pieces.{Tells}
+use Rattle.explanation_texts.specs.Pieces.{Tells}
 use Rattle.fault_texts.specs.Places.{IsPlaceTold, obstacle_pointer}
-use Rattle.plan_texts.specs.SummaryLines.{summary_text}
+use Rattle.explanation_texts.specs.SummaryLines.{summary_text}
 
 -- the certificate is at fault, and not the plan
 abbrev pub remedy_text : List ℕ
@@ -54,11 +54,6 @@ AreEditsTold plan obstacle lines = (edits : List Tried) × All (IsTried (plan_va
 abbrev pub IsToldWithEdits : Plan → CertifyError → List ℕ → Type 0
 IsToldWithEdits plan obstacle text = (lines : List ℕ) × (edits : List ℕ)
     × IsObstacleTold plan obstacle lines × AreEditsTold plan obstacle edits × (text ≡ lines ++ edits)
-
--- how many of so many lines of faults are there beside what is told, which is one of them where it is a fault
-abbrev pub others_of : CertifyError → ℕ → ℕ
-others_of (error.Fault fault) count = count - 1
-others_of _ count = count
 
 -- the line tells how many more faults the plan has, or it and the certificate, and by which words they are listed
 abbrev pub AreMoreTold : Plan → Option Certificate → CertifyError → List ℕ → List ℕ → Type 0

@@ -1,31 +1,15 @@
 -- What `explain` prints of a plan, its certificate and events.
 use Rattle.std.specs.Prelude.{◌≡◌, ◌⊎◌, ℕ, List}
-use Rattle.net_json.specs.EventReading.{events}
-use Rattle.net_json.specs.EventText.{AreEventsOf}
 use Rattle.net_plan.specs.declared.certificate.Certificate.{Certificate}
 use Rattle.net_plan.specs.declared.event.Event.{Event}
 use Rattle.net_plan.specs.declared.plan.Plan.{Plan}
-use Rattle.net_plan.specs.PlanValues.{plan_value, node_names}
-use Rattle.net_pointers.specs.Asks.{events_text}
 use Rattle.net_rules.specs.Rules.{Accepts}
-use Rattle.command_answers.specs.declared.inputs.Unread.{Unread}
 use Rattle.command_answers.specs.declared.status.Status.{Status}
 use Rattle.command_answers.specs.declared.status.Status.TheVariants as status
 use Rattle.command_answers.specs.Answers.{Stream, GavePlanText, GaveCertificate}
 use Rattle.command_answers.specs.Inputs.{GaveEvents}
-use Rattle.command_answers.specs.UnreadInputs.{IsUnreadAs, IsUnreadBy}
 use Rattle.explain_commands.specs.Explaining.{IsFaultExplained, IsYesExplained}
-use Rattle.explain_commands.specs.UnreadTexts.{IsUnreadText, IsUnreadCertificateText, IsUnreadEventsText}
-
--- why bytes are no events at the plan's nodes
-abbrev pub AreNoEventsIn : Plan → List ℕ → Unread → Type 0
-AreNoEventsIn p bytes unread = let nodes = node_names (plan_value p).nodes in
-    IsUnreadAs (events_text nodes) (events nodes) (AreEventsOf (plan_value p)) bytes unread
-
--- why a source gave no events
-abbrev pub AreNoEventsBy : Plan → Stream → Unread → Type 0
-AreNoEventsBy p happenings unread = let nodes = node_names (plan_value p).nodes in
-    IsUnreadBy (events_text nodes) (events nodes) (AreEventsOf (plan_value p)) happenings unread
+use Rattle.command_answers.specs.UnreadTexts.{IsUnreadText, IsUnreadCertificateText, IsUnreadEventsText}
 
 -- The plan and the certificate meet every rule, and a run that says so of the source of events ends so: yes, and what
 -- sums the plan up, where it gave events; or why it gave none.

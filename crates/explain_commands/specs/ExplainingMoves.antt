@@ -22,7 +22,7 @@ use Rattle.fault_texts.specs.RuledOutMoves.{IsMoveRuledOutBy}
 use Rattle.explain_commands.specs.Explaining.{IsExplainedThere, IsSummedUp}
 use Rattle.explain_commands.specs.MoveDifferences.{IsDifferenceTold}
 use Rattle.explain_commands.specs.MoveRows.{PlanFile, IsMixedLoopTold, IsWayOnTold}
-use Rattle.explain_commands.specs.UnreadTexts.{IsUnreadText}
+use Rattle.command_answers.specs.UnreadTexts.{IsUnreadText}
 
 -- ---- what rules certificates out
 

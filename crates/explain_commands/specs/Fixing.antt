@@ -12,7 +12,7 @@ use Rattle.command_answers.specs.declared.status.Status.TheVariants as status
 use Rattle.command_answers.specs.Answers.{Stream, Fails, BreaksOff, GavePlanText, IsReported}
 use Rattle.command_answers.specs.Certifying.{IsRuledOutBy}
 use Rattle.command_answers.specs.UnreadInputs.{IsTextOf}
-use Rattle.explain_commands.specs.UnreadTexts.{IsUnreadText}
+use Rattle.command_answers.specs.UnreadTexts.{IsUnreadText}
 use Rattle.plan_fixes.specs.Fixes.{AreFixes}
 
 -- The text is that of a plan to which a certificate fits. The lines tell the edits that lead there.

@@ -1,4 +1,3 @@
-pub mod UnreadTexts
 pub mod Explaining
 pub mod ExplainingEvents
 pub mod Fixing

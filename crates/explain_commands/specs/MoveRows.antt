@@ -13,10 +13,10 @@ use Rattle.net_rules.specs.declared.move_fault.MoveFault.{MoveFault}
 use Rattle.net_rules.specs.Certificates.{HasNoCertificate}
 use Rattle.net_rules.specs.Rules.{Accepts}
 use Rattle.command_answers.specs.declared.inputs.PlanText.{PlanText}
-use Rattle.plan_texts.specs.Explanations.{row_for}
+use Rattle.explanation_texts.specs.Explanations.{row_for}
 use Rattle.net_tables.specs.Names.{node_name}
 use Rattle.plan_texts.specs.Lines.{number_or_dash}
-use Rattle.plan_texts.specs.Pieces.{row_of}
+use Rattle.explanation_texts.specs.Pieces.{row_of}
 use Rattle.fault_texts.specs.Places.{IsPlaceTold, part_pointer, way_pointer}
 
 -- A plan that was read: the name of its file, its text, and the plan.

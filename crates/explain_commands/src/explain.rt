@@ -6,24 +6,25 @@ ghost use Rattle.net_json.specs.Stream.{HasRoom};
 ghost use Rattle.command_answers.specs.declared.status.Status.TheVariants.{NoMemory};
 ghost use Rattle.command_answers.specs.declared.refused.Refused.TheVariants as refused;
 ghost use Rattle.command_answers.specs.Answers.{stream};
-ghost use Rattle.explain_commands.specs.Explaining.{AreEditsTold, AreMoreTold, IsExplainedThere, IsObstacleText, IsToldWithEdits, IsSummedUp, IsExplained, ExplainsSo, others_of};
+ghost use Rattle.explain_commands.specs.Explaining.{AreEditsTold, AreMoreTold, IsExplainedThere, IsObstacleText, IsToldWithEdits, IsSummedUp, IsExplained, ExplainsSo};
 ghost use Rattle.command_answers.specs.Told.{ConcludesOnOutput};
 ghost use Rattle.command_answers.specs.UnreadInputs.{IsTextOf};
 
 pub mod certified;
 pub mod events;
 pub mod moved;
-pub mod unread;
 
-use command_answers::{Answer, Input, PlanText, Refused, Status, YES, plan_or_text, tell};
+use command_answers::{
+    Answer, Input, PlanText, Refused, Status, YES, others_of, plan_or_text, tell, unread_answer,
+};
+use explanation_texts::{edit_lines, obstacle_lines, summary_lines};
 use fault_texts::{more_line, obstacle_place};
 use net_check::{CertifyError, certify, faults};
 use net_explained::{most_hops, tried_edits};
 use net_json::{Sink, Source};
 use net_plan::{Certificate, Plan};
-use plan_texts::{edit_lines, obstacle_line, obstacle_lines, summary_lines};
+use plan_texts::obstacle_line;
 use std::alloc::{AllocError, Global};
-use unread::unread_answer;
 
 /// Says on `output` what `certify` says of a plan, `yes` in place of the certificate, and explains it. Where the plan
 /// can't be read, it says so there too, and where the text's first fault is. The name is that of the plan's file.
@@ -141,19 +142,6 @@ pub fn more_faults(
 {
     let runs = faults(alloc, plan, certificate)?;
     more_line(alloc, words, others_of(obstacle, runs.len()))
-}
-
-/// How many of so many lines of faults are there beside what is told.
-pub fn others_of(obstacle: &CertifyError, count: usize) -> usize
-    ensures { result ≡ others_of obstacle.now count }
-{
-    match obstacle {
-        CertifyError::Fault(_) => count.saturating_sub(1),
-        CertifyError::OwnerLoop(_)
-        | CertifyError::Loop(_, _)
-        | CertifyError::BadChain(_, _)
-        | CertifyError::OutOfMemory => count,
-    }
 }
 
 /// Explains what rules certificates of a plan out, and proposes edits.

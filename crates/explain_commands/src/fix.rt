@@ -9,8 +9,9 @@ ghost use Rattle.explain_commands.specs.Fixing.{AreBothTold, AreLinesTold, EndsF
 ghost use Rattle.plan_fixes.specs.Fixes.{IsLeftOf};
 ghost use Rattle.command_answers.specs.UnreadInputs.{IsTextOf};
 
-use crate::explain::unread::unread_answer;
-use command_answers::{Answer, Input, PlanText, Refused, Status, plan_or_text, refuse, tell};
+use command_answers::{
+    Answer, Input, PlanText, Refused, Status, plan_or_text, refuse, tell, unread_answer,
+};
 use net_json::{Sink, Source, write_whole};
 use net_plan::Plan;
 use net_rules::CertifyError;
@@ -47,7 +48,7 @@ pub fn run_fix<P: Source, O: Sink, E: Sink>(
     }
 }
 
-#[tactic(auto, using(crate::proofs::UnreadTexts::plan_told))]
+#[tactic(auto, using(command_answers::proofs::UnreadTexts::plan_told))]
 fn answer_fix<P: Source>(alloc: Global, plan: &mut P) -> Result<Mended, Refused>
     requires { HasRoom (P.account plan.old) }
     ensures answers { let plans = stream P.account plan.old plan.new in

@@ -7,6 +7,5 @@ mod fix;
 pub use explain::certified::run_explain_certified;
 pub use explain::events::run_explain_events;
 pub use explain::moved::run_explain_move;
-pub use explain::unread::unread_text;
-pub use explain::{others_of, run_explain};
+pub use explain::run_explain;
 pub use fix::run_fix;

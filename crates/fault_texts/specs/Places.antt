@@ -14,7 +14,7 @@ use Rattle.net_rules.specs.declared.certify_error.CertifyError.TheVariants as er
 use Rattle.net_rules.specs.declared.rule.Rule.{Rule}
 use Rattle.net_rules.specs.declared.rule.Rule.TheVariants.{C01, C02, C03, C04, C05, C06, C07, C08}
 use Rattle.net_rules.specs.declared.rule.Rule.TheVariants.{C09, C10, C11, C12, C13, C14, C15, C16}
-use Rattle.plan_texts.specs.Explanations.{row_for}
+use Rattle.explanation_texts.specs.Explanations.{row_for}
 use Rattle.reading_texts.specs.ReadingLines.{pointer_text}
 use Rattle.reading_texts.specs.TroubleLines.{IsOffsetOf}
 

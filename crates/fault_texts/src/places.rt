@@ -7,12 +7,12 @@ ghost use Rattle.net_pointers.specs.Offsets.{IsTextOf};
 ghost use Rattle.fault_texts.specs.Places.{IsAtTold, IsPlaceTold, at_text, entry_pointer, first_of, node_pointer, obstacle_pointer, own_pointer, part_pointer, place_line, place_text, record_pointer, row_pointer, site_pointer, way_pointer};
 ghost use Rattle.reading_texts.specs.TroubleLines.{IsOffsetOf};
 
+use explanation_texts::index_for;
 use json::{Scratch, Value};
 use net_json::{PointerStep, json_of};
 use net_plan::Plan;
 use net_pointers::{offset_of_pointer, position_of};
 use net_rules::{CertifyError, Rule};
-use plan_texts::index_for;
 use reading_texts::pointer_text;
 use std::alloc::{AllocError, Global};
 

@@ -6,7 +6,7 @@ use Rattle.command_answers.specs.declared.inputs.Unread.{Unread}
 use Rattle.command_answers.specs.declared.refused.Input.TheVariants as input
 use Rattle.command_answers.specs.Answers.{Stream}
 use Rattle.command_answers.specs.UnreadInputs.{IsNoPlanBy, IsNoCertificateBy}
-use Rattle.explain_commands.proofs.UnreadTexts.{plan_told, certificate_told}
+use Rattle.command_answers.proofs.UnreadTexts.{plan_told, certificate_told}
 use Rattle.command_questions.specs.declared.form.Form.{Form}
 use Rattle.json_commands.specs.Unread.{IsInputUnreadSaid, IsPlanUnreadSaid, IsCertificateUnreadSaid}
 

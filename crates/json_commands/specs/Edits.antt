@@ -14,7 +14,7 @@ use Rattle.net_rules.specs.declared.certify_error.CertifyError.{CertifyError}
 use Rattle.net_tables.specs.Routing.{rows_of}
 use Rattle.fault_texts.specs.Places.{part_pointer, record_pointer, row_pointer}
 use Rattle.net_tables.specs.Names.{kind_word, node_name}
-use Rattle.plan_texts.specs.EditLines.{edit_text}
+use Rattle.explanation_texts.specs.EditLines.{edit_text}
 use Rattle.plan_texts.specs.Lines.{obstacle_words}
 use Rattle.json_commands.specs.Notes.{lines_data}
 use Rattle.json_commands.specs.Places.{json_pointer, number_data}

@@ -22,11 +22,11 @@ use Rattle.net_rules.specs.Rules.{Accepts}
 use Rattle.command_answers.specs.declared.status.Status.{Status}
 use Rattle.command_answers.specs.declared.status.Status.TheVariants as status
 use Rattle.command_answers.specs.Statuses.{number_of}
-use Rattle.explain_commands.specs.Explaining.{others_of}
-use Rattle.plan_texts.specs.CertificateSubjects.{certificate_subjects}
-use Rattle.plan_texts.specs.Explanations.{IsObstacleTold, told_subjects}
-use Rattle.plan_texts.specs.Pieces.{Tells}
-use Rattle.plan_texts.specs.SummaryLines.{summary_text}
+use Rattle.command_answers.specs.Certifying.{others_of}
+use Rattle.explanation_texts.specs.CertificateSubjects.{certificate_subjects}
+use Rattle.explanation_texts.specs.Explanations.{IsObstacleTold, told_subjects}
+use Rattle.explanation_texts.specs.Pieces.{Tells}
+use Rattle.explanation_texts.specs.SummaryLines.{summary_text}
 use Rattle.command_questions.specs.declared.form.Form.TheVariants.{Json}
 use Rattle.json_commands.specs.Edits.{edit_data}
 use Rattle.json_commands.specs.Lists.{IsListTold, empty_data}

@@ -17,7 +17,7 @@ use Rattle.net_questions.specs.Findings.{AreFindings}
 use Rattle.command_answers.specs.declared.status.Status.{Status}
 use Rattle.command_answers.specs.declared.status.Status.TheVariants as status
 use Rattle.fault_texts.specs.Places.{part_pointer, record_pointer, row_pointer}
-use Rattle.plan_texts.specs.FindingLines.{findings_text}
+use Rattle.question_texts.specs.FindingLines.{findings_text}
 use Rattle.command_questions.specs.declared.form.Form.{Form}
 use Rattle.command_questions.specs.declared.form.Form.TheVariants.{Json}
 use Rattle.json_commands.specs.Lists.{IsListTold}

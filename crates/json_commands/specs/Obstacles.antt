@@ -15,7 +15,7 @@ use Rattle.net_rules.specs.declared.fault_run.FaultRun.{FaultRun}
 use Rattle.net_rules.specs.Faults.{site_of}
 use Rattle.net_rules.specs.RecordChains.{chain_entry_of}
 use Rattle.net_rules.specs.Rules.{code_of}
-use Rattle.plan_texts.specs.Explanations.{around, row_for}
+use Rattle.explanation_texts.specs.Explanations.{around, row_for}
 use Rattle.plan_texts.specs.Lines.{obstacle_text}
 use Rattle.fault_texts.specs.FaultListLines.{run_text}
 use Rattle.fault_texts.specs.Places.{obstacle_pointer, part_pointer, record_pointer, row_pointer}

@@ -19,7 +19,7 @@ use Rattle.command_answers.specs.declared.inputs.Unread.TheVariants as unread
 use Rattle.command_answers.specs.declared.refused.Input.{Input}
 use Rattle.command_answers.specs.declared.status.Status.TheVariants as status
 use Rattle.command_answers.specs.Answers.{Stream}
-use Rattle.explain_commands.specs.UnreadTexts.{IsUnreadText, IsUnreadCertificateText, IsWrittenOf}
+use Rattle.command_answers.specs.UnreadTexts.{IsUnreadText, IsUnreadCertificateText, IsWrittenOf}
 use Rattle.reading_texts.specs.ReadingLines.{unread_code}
 use Rattle.command_questions.specs.declared.form.Form.{Form}
 use Rattle.json_commands.specs.Lists.{empty_data, one_data}

@@ -13,13 +13,12 @@ use crate::faults::obstacle_results;
 use crate::lists::empty_list;
 use crate::said::Said;
 use crate::sentences::lines_value;
-use command_answers::{PlanText, Status};
+use command_answers::{PlanText, Status, others_of};
 use command_questions::Form;
-use explain_commands::others_of;
+use explanation_texts::{cause_lines, certificate_fault_lines, obstacle_lines, summary_lines};
 use net_check::{CertifyError, Fault, certify, faults};
 use net_explained::{Cause, find_cause, most_hops, tried_edits};
 use net_plan::{Certificate, Plan};
-use plan_texts::{cause_lines, certificate_fault_lines, obstacle_lines, summary_lines};
 use serde_json::{Value, json};
 use std::alloc::{AllocError, Global};
 

@@ -18,7 +18,7 @@ use mctp_transport::Eid;
 use net_json::PointerStep;
 use net_plan::Plan;
 use net_questions::Finding;
-use plan_texts::lint_lines;
+use question_texts::lint_lines;
 use serde_json::Value;
 use std::alloc::{AllocError, Global};
 

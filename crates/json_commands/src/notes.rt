@@ -110,8 +110,8 @@ fn result_value(
     ensures { IfOk result (λ value. view value ≡ result_data code.now (view place) (view related) message.now) }
 {
     let locations = list_of_one(alloc, place)?;
-    let message = json!(in alloc; {"text": message})?;
     json!(in alloc; {
-        "level": "error", "locations": locations, "message": message, "relatedLocations": related, "ruleId": code
+        "level": "error", "locations": locations, "message": {"text": message}, "relatedLocations": related,
+        "ruleId": code
     })
 }

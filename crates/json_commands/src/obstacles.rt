@@ -3,7 +3,7 @@ ghost use Rattle.std.specs.Prelude.{◌≡◌, IfOk, None, Some, map, option_map
 ghost use Rattle.json.specs.Value.{value_view};
 ghost use Rattle.net_json.specs.Finding.{step_value};
 ghost use Rattle.net_pointers.specs.Offsets.{IsTextOf};
-ghost use Rattle.plan_texts.specs.Explanations.{around};
+ghost use Rattle.explanation_texts.specs.Explanations.{around};
 ghost use Rattle.serde_json.specs.View.{view};
 ghost use Rattle.json_commands.specs.Lists.{IsListTold};
 ghost use Rattle.json_commands.specs.Obstacles.{AreRelated, IsCausePlaced, IsHopPlaced, IsObstacleNote, IsRunNote, bus_pointer, cause_pointer, eids_of, entry_of, first_fault, hop_pointer, kind_of, nodes_of, rule_of, run_subject, subject_of};
@@ -13,6 +13,7 @@ ghost use Rattle.json_commands.specs.Places.{IsPlaceListTold};
 use crate::lists::{Listed, empty_list, list_of, list_of_one};
 use crate::notes::{Subject, nodes_value, note_value};
 use crate::places::{Placing, place_of};
+use explanation_texts::{around, index_for};
 use fault_texts::{
     obstacle_pointer, part_pointer, record_pointer, row_pointer, run_line, site_pointer,
     way_pointer,
@@ -22,7 +23,7 @@ use net_explained::{Cause, find_cause};
 use net_json::PointerStep;
 use net_plan::Plan;
 use net_rules::{CertifyError, Fault, FaultRun};
-use plan_texts::{around, index_for, obstacle_line};
+use plan_texts::obstacle_line;
 use serde_json::Value;
 use std::alloc::{AllocError, Global};
 

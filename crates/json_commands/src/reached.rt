@@ -63,8 +63,8 @@ impl<'p> Listed for PairWriter<'p> {
 fn pair_value(alloc: Global, plan: &Plan, pair: &Pair) -> Result<Value, AllocError>
     ensures { IfOk result (λ value. view value ≡ pair_data plan.now pair.now) }
 {
-    let from = node_value(alloc, plan, pair.from)?;
-    let hops = number_or_null(pair.there);
-    let to = node_value(alloc, plan, pair.to)?;
-    json!(in alloc; {"from": from, "hops": hops, "to": to})
+    json!(in alloc; {
+        "from": node_value(alloc, plan, pair.from)?, "hops": number_or_null(pair.there),
+        "to": node_value(alloc, plan, pair.to)?
+    })
 }

@@ -77,7 +77,7 @@ fn version() -> &'static str {
 }
 
 /// The codes that results may have.
-const CODES: [&str; 25] = [
+static CODES: [&str; 25] = [
     "C01", "C02", "C03", "C04", "C05", "C06", "C07", "C08", "C09", "C10", "C11", "C12", "C13",
     "C14", "C15", "C16", "J01", "J02", "J03", "J04", "J05", "J06", "J07", "J08", "J09",
 ];

@@ -13,9 +13,8 @@ use crate::places::{Placing, place_of};
 use crate::reports::report;
 use crate::said::Said;
 use crate::spots::spot_of;
-use command_answers::{Input, Status, Unread};
+use command_answers::{Input, Status, Unread, unread_text};
 use command_questions::Form;
-use explain_commands::unread_text;
 use json::{Scratch, Value as Tree};
 use net_json::{PointerStep, json_of};
 use net_pointers::{

@@ -5,7 +5,7 @@ use Rattle.net_questions.specs.declared.finding.Finding.{Finding}
 use Rattle.net_questions.specs.Findings.{AreFindings, IsSo}
 use Rattle.command_answers.specs.declared.status.Status.{Status}
 use Rattle.command_answers.specs.declared.status.Status.TheVariants as status
-use Rattle.plan_texts.specs.FindingLines.{findings_text}
+use Rattle.question_texts.specs.FindingLines.{findings_text}
 use Rattle.command_answers.specs.Statuses.{clean_line}
 
 -- No sentence on what looks wrong is so of anything in the plan, and the text says that the plan is clean.

@@ -8,7 +8,7 @@ use Rattle.net_questions.specs.declared.way.End.{End}
 use Rattle.net_questions.specs.Packets.{KeepsToWays}
 use Rattle.net_questions.specs.Ways.{IsWay}
 use Rattle.command_answers.specs.Naming.{IsFirstNamed, IsDestination}
-use Rattle.plan_texts.specs.WayLines.{trace_text}
+use Rattle.question_texts.specs.WayLines.{trace_text}
 
 -- The text is the lines of the way of a packet for e that is put in at n. It has no more hops than the certified rank,
 -- and in every run of the network each packet keeps to its way.

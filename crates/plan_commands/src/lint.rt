@@ -6,7 +6,7 @@ ghost use Rattle.plan_commands.specs.Linting.{IsLinted};
 use command_answers::Answer;
 use net_plan::Plan;
 use net_questions::lint;
-use plan_texts::lint_lines;
+use question_texts::lint_lines;
 use std::alloc::{AllocError, Global};
 
 /// All that looks wrong in a plan, or that it is clean.

@@ -152,7 +152,7 @@ fn answered_with<F: RecordFiles>(
 }
 
 /// Why a file can't be had: a line that says so, or too little memory.
-#[derive(Debug, Drop)]
+#[derive(Drop)]
 enum FileFault {
     Unread(String),
     OutOfMemory,

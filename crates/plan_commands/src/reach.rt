@@ -4,7 +4,7 @@ ghost use Rattle.plan_commands.specs.Reaching.{IsReachText};
 
 use net_check::Checked;
 use net_questions::reach;
-use plan_texts::reach_lines;
+use question_texts::reach_lines;
 use std::alloc::{AllocError, Global};
 
 /// The lines of each two different nodes of a checked plan.

@@ -8,7 +8,7 @@ use command_answers::{Refused, named_ends};
 use mctp_transport::Eid;
 use net_check::Checked;
 use net_questions::follow;
-use plan_texts::trace_lines;
+use question_texts::trace_lines;
 use std::alloc::{AllocError, Global};
 
 /// The way of a packet that the node of the name `from` sends to `to`: the name of a node, or else an endpoint ID, 8 to

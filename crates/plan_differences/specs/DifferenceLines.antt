@@ -7,7 +7,7 @@ use Rattle.plan_differences.specs.declared.difference.Difference.{Difference}
 use Rattle.plan_differences.specs.declared.difference.Difference.TheVariants.{Removed, Changed, Added}
 use Rattle.plan_differences.specs.Facts.{FactValue, unit, bus, node, pool, port, row, terminus, record_of}
 use Rattle.plan_differences.specs.Things.{ThingValue, thing_of}
-use Rattle.plan_texts.specs.WayLines.{address_text}
+use Rattle.plan_texts.specs.LineParts.{address_text}
 
 -- the words for a thing
 abbrev pub thing_words : ThingValue → List ℕ

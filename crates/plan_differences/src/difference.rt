@@ -12,7 +12,7 @@ use crate::lines::{fact_text, thing_text};
 use std::alloc::{AllocError, Global};
 
 /// How the facts of two plans differ. A fact stands by its index in its plan's list.
-#[derive(Clone, Copy, Debug, PartialEq, Eq)]
+#[derive(Clone, Copy)]
 pub enum Difference {
     /// This fact of the old plan isn't one of the new plan's, which says nothing else of its thing either.
     Removed(usize),

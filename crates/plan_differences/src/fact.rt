@@ -7,7 +7,7 @@ use mctp_transport::Eid;
 use net_plan::{Kind, Pool};
 
 /// What a plan says of one thing. Buses and nodes stand by their names.
-#[derive(Clone, Copy, Debug, PartialEq, Eq)]
+#[derive(Clone, Copy, PartialEq, Eq)]
 pub enum Fact<'p> {
     /// The transmission unit, in bytes.
     Unit(u16),
@@ -59,7 +59,7 @@ pub enum Fact<'p> {
 }
 
 /// What a fact is about.
-#[derive(Clone, Copy, Debug, PartialEq, Eq)]
+#[derive(Clone, Copy, PartialEq, Eq)]
 pub enum Thing<'p> {
     /// The plan as a whole.
     Plan,

@@ -10,7 +10,7 @@ use net_reached::hops_between;
 use std::alloc::{AllocError, Global};
 
 /// What becomes of the way from one node to another, both of which stand in both plans.
-#[derive(Clone, Copy, Debug, PartialEq, Eq)]
+#[derive(Clone, Copy)]
 pub struct OtherWay {
     /// The indices of the nodes in the old plan's list.
     pub from: usize,

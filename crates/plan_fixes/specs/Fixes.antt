@@ -15,7 +15,7 @@ use Rattle.net_rules.specs.declared.certify_error.CertifyError.{CertifyError}
 use Rattle.plan_fixes.specs.Splices.{IsSpliced}
 use Rattle.plan_fixes.specs.declared.fixing.Draft.{Draft}
 use Rattle.plan_fixes.specs.declared.fixing.Fixed.{Fixed}
-use Rattle.plan_texts.specs.EditLines.{edit_text}
+use Rattle.explanation_texts.specs.EditLines.{edit_text}
 
 -- the text is that of the plan
 abbrev pub IsTextOf : List ℕ → Plan → Type 0

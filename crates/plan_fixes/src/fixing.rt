@@ -3,18 +3,18 @@ ghost use Rattle.std.specs.Prelude.{IfOk, IfSome, Some};
 ghost use Rattle.plan_fixes.specs.Fixes.{IsAsEdited, IsFixed, IsLeftOf, IsMadeBy, IsTextOf, LeadsOn};
 
 use crate::splicing::spliced;
+use explanation_texts::edit_line;
 use net_explained::{Edit, edited, tried_edits};
 use net_json::{PlanError, plan_of_text};
 use net_plan::{Plan, are_same_plans};
 use net_rules::{CertifyError, certify};
-use plan_texts::edit_line;
 use std::alloc::{AllocError, Global};
 
 /// How many edits are made at most.
 const MOST_FIXES: usize = 1000;
 
 /// A plan and its text, with the lines of the edits that led there.
-#[derive(Debug, Drop)]
+#[derive(Drop)]
 pub struct Draft {
     pub text: Vec<u8>,
     pub plan: Plan,
@@ -22,7 +22,7 @@ pub struct Draft {
 }
 
 /// Where edits of a plan led, and what then still rules certificates out, if anything does.
-#[derive(Debug, Drop)]
+#[derive(Drop)]
 pub struct Fixed {
     pub draft: Draft,
     pub left: Option<CertifyError>,

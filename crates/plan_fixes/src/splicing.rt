@@ -6,6 +6,7 @@ ghost use Rattle.net_json.specs.Finding.{Step, step_value};
 ghost use Rattle.net_pointers.specs.Offsets.{IsTextOf};
 ghost use Rattle.plan_fixes.specs.Splices.{IsSpan, IsSpliced, changed_pointer};
 
+use explanation_texts::value_text;
 use fault_texts::{part_pointer, record_pointer, row_pointer};
 use json::{Scratch, Value};
 use net_explained::{Change, Edit};
@@ -13,11 +14,10 @@ use net_json::{PlanError, PointerStep, json_of};
 use net_plan::Plan;
 use net_pointers::offset_of_pointer;
 use net_tables::lookup::rows_at;
-use plan_texts::value_text;
 use std::alloc::{AllocError, Global};
 
 /// Where a value stands in a text: from one offset up to another.
-#[derive(Clone, Copy, Debug)]
+#[derive(Clone, Copy)]
 struct Span {
     from: usize,
     to: usize,
@@ -188,7 +188,7 @@ fn middle_text(
 }
 
 /// The rows of a node: how many there are, and where their list stands.
-#[derive(Clone, Copy, Debug)]
+#[derive(Clone, Copy)]
 struct Rows {
     node: usize,
     count: usize,

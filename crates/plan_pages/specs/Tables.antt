@@ -21,7 +21,7 @@ use Rattle.plan_pages.specs.Escaping.{escaped}
 use Rattle.plan_pages.specs.Lists.{AreJoined, AreListed, AreNamesOf}
 use Rattle.plan_pages.specs.Markup.{IsTable, cell_text, row_line}
 use Rattle.plan_pages.specs.Words.{bus_name, node_name, number_or_dash, or_dash, span_text}
-use Rattle.plan_texts.specs.WayLines.{bus_text}
+use Rattle.plan_texts.specs.LineParts.{bus_text}
 
 -- a row of a table: a heading, and a cell for each text
 abbrev pub row_of_cells : List ℕ → List (List ℕ) → List ℕ

@@ -1,6 +1,4 @@
 mod Drawn
-mod Traced
-mod Chains
 mod Differing
 mod RowDrawn
 mod ObstacleLines

@@ -18,7 +18,7 @@ use Rattle.net_plan.specs.declared.nodes.Pool.{Pool}
 use Rattle.net_plan.specs.declared.nodes.Port.{Port}
 use Rattle.net_plan.specs.declared.plan.Plan.{Plan}
 use Rattle.net_plan.specs.declared.terminus.PlannedTerminus.{PlannedTerminus}
-use Rattle.plan_texts.specs.WayLines.{address_text}
+use Rattle.plan_texts.specs.LineParts.{address_text}
 
 -- a character as it stands between DOT's quotes: after a backslash where it is a quote or a backslash itself
 abbrev pub escaped_char : ℕ → List ℕ

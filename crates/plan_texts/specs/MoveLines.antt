@@ -17,7 +17,7 @@ use Rattle.net_rules.specs.MoveFaults.{code_of_move}
 use Rattle.net_plan.specs.declared.plan.Plan.{Plan}
 use Rattle.net_tables.specs.Names.{node_name}
 use Rattle.plan_texts.specs.Lines.{number_or_dash, names_text, obstacle_text}
-use Rattle.plan_texts.specs.Pieces.{name_or_none}
+use Rattle.plan_texts.specs.LineParts.{name_or_none}
 
 -- whose rule is broken: the code, the node's name, the entry and the endpoint ID
 abbrev pub move_fault_text : Plan → List ℕ → MoveFault → List ℕ

@@ -13,7 +13,7 @@ use Rattle.net_rollout.specs.declared.change.Rollout.TheVariants as way
 use Rattle.net_tables.specs.Names.{node_name}
 use Rattle.plan_texts.specs.Lines.{names_text}
 use Rattle.plan_texts.specs.MoveLines.{move_obstacle_text}
-use Rattle.plan_texts.specs.Pieces.{name_or_none}
+use Rattle.plan_texts.specs.LineParts.{name_or_none}
 
 -- the endpoint IDs of a part: the one, or the first and the last
 abbrev pub eids_text : ℕ → ℕ → List ℕ

@@ -13,7 +13,7 @@ use Rattle.plan_texts.specs.declared.drawings.rows.Lead.{Lead}
 use Rattle.plan_texts.specs.declared.drawings.rows.Lead.TheVariants.{Arrives, Stops, Returns, Circles}
 use Rattle.plan_texts.specs.declared.drawings.rows.Leg.{Leg}
 use Rattle.plan_texts.specs.DrawingLines.{first_line, last_line, node_line, all_by_index, round_lines}
-use Rattle.plan_texts.specs.Pieces.{span_text}
+use Rattle.plan_texts.specs.LineParts.{span_text}
 use Rattle.std.specs.List.{concat}
 
 -- ---- the ways of one endpoint ID

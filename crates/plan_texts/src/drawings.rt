@@ -2,11 +2,11 @@
 ghost use Rattle.std.specs.Prelude.{◌≡◌, ◌==◌, ◌∷◌, [], List, ℕ, ◌++◌, IfOk, OnOk, Some, option_map, string_bytes, encode_utf8_all};
 ghost use Rattle.std.specs.List.{concat, flat_map, list_any};
 ghost use Rattle.plan_texts.specs.DrawingLines.{escaped_char, escaped, color_among, kind_shape, pool_text, terminus_text, label_text, range_text, certified_text, tooltip_text, first_line, last_line, bus_line, shape_line, shape_text, outline_count, node_line, is_owner_on, bus_before, bus_behind, port_line, owner_line, owner_lines, red_arrow, arrows_along, round_lines, all_by_index, IsDrawing};
-ghost use Rattle.plan_texts.specs.WayLines.{address_text};
+ghost use Rattle.plan_texts.specs.LineParts.{address_text};
 
 mod rows;
 
-use super::ways::address_text;
+use crate::lookups::address_text;
 use mctp_transport::Eid;
 use net_plan::{Bus, Certificate, Kind, Name, Node, Plan, PlannedTerminus, Pool, Port, RankRange};
 use net_tables::lookup::{given_level_of, is_on_bus, kind_word, ranges_at};

@@ -1,55 +1,30 @@
-//! The lines that answers about plans have, and why they are so.
+//! The lines that answers about plans have.
 #![tactic(auto)]
 
 ghost use Rattle.std.specs.Prelude.{◌≡◌, Some, IfOk, string_bytes};
 ghost use Rattle.net_tables.specs.Names.{bus_name, node_name};
 ghost use Rattle.plan_texts.specs.Lines.{names_text, as_line, fault_words, fault_text, owner_loop_words, loop_words, chain_words, obstacle_words, obstacle_text};
 
-mod causes;
-mod certificates;
 mod differences;
 mod drawings;
-mod edits;
-mod explanations;
-mod findings;
 mod lookups;
 mod moves;
-mod pairs;
-mod pieces;
-mod proposals;
 mod shown;
-mod summaries;
 mod walks;
-mod ways;
 
-pub use certificates::certificate_fault_lines;
 pub use differences::first_difference;
 pub use drawings::{bundle_drawing, drawing, way_drawing};
-pub use explanations::{around, cause_lines, index_for, obstacle_lines};
-pub use findings::lint_lines;
-pub use lookups::number_text;
+pub use lookups::{address_text, bus_text, from_to, name_or_none, number_text, span_text};
 use mctp_transport::Eid;
 pub use moves::steps::rollout_lines;
 pub use moves::{move_error_line, move_obstacle_line};
 use net_plan::Plan;
 use net_rules::{CertifyError, ChainFault, Fault};
 use net_tables::lookup::{bus_name, node_name};
-pub use pairs::reach_lines;
-pub use proposals::{edit_line, edit_lines, value_text};
 pub use shown::{packet_text, record_text, refused_text};
 use std::alloc::{AllocError, Global};
 use std::fmt;
-pub use summaries::summary_lines;
 pub use walks::walk_text;
-pub use ways::{address_text, bus_text, trace_lines};
-
-/// What is said where a certificate is at fault, and its plan has another.
-pub const REMEDY: &str =
-    "This plan has a certificate.\nHint: take the one that mctpplan certify makes.\n";
-
-/// What is said where a certificate is at fault, and its plan has none.
-pub const NO_CERTIFICATE: &str =
-    "This plan has no certificate, whatever this one says. mctpplan certify says:\n";
 
 /// The answer where a plan has a fault.
 pub fn fault_line(alloc: Global, plan: &Plan, fault: &Fault) -> Result<String, AllocError>
@@ -145,7 +120,7 @@ fn names_after_spaces(alloc: Global, plan: &Plan, nodes: &[usize]) -> Result<Str
 }
 
 /// A value that may be absent, which a dash tells.
-#[derive(Clone, Copy, Debug)]
+#[derive(Clone, Copy)]
 struct OrDash<T>(Option<T>);
 
 impl<T: fmt::Display> fmt::Display for OrDash<T> {

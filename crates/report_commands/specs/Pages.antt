@@ -10,7 +10,7 @@ use Rattle.plan_pages.specs.Markup.{block_text, section_text}
 use Rattle.plan_pages.specs.Pages.{page_text}
 use Rattle.plan_pages.specs.Tables.{IsBusTable, IsNodeTable, IsPoolTable, IsRowTable}
 use Rattle.plan_pages.specs.Termini.{IsTerminusList}
-use Rattle.plan_texts.specs.FindingLines.{findings_text}
+use Rattle.question_texts.specs.FindingLines.{findings_text}
 use Rattle.report_commands.specs.Matrices.{IsReachedSection}
 
 -- what the plan has: its transmission unit, and how many buses and nodes; and then links, as HTML

@@ -5,7 +5,7 @@ ghost use Rattle.report_commands.specs.Pages.{IsFindingsSection, lint_text};
 use net_plan::Plan;
 use net_questions::{Finding, lint};
 use plan_pages::{block, section};
-use plan_texts::lint_lines;
+use question_texts::lint_lines;
 use std::alloc::{AllocError, Global};
 
 /// The section with the lines that `lint` prints.

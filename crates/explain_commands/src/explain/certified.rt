@@ -11,17 +11,18 @@ ghost use Rattle.explain_commands.specs.Explaining.{IsCauseTold, IsFaultExplaine
 ghost use Rattle.command_answers.specs.Told.{ConcludesOnOutput};
 ghost use Rattle.command_answers.specs.UnreadInputs.{IsTextOf};
 
-use super::unread::unread_answer;
 use super::{edits_text, more_faults, obstacle_text, sound_text};
 use command_answers::{
     Answer, Input, PlanText, Refused, Status, certificate_or_text, plan_or_text, tell,
+    unread_answer,
 };
+use explanation_texts::{NO_CERTIFICATE, REMEDY, cause_lines, certificate_fault_lines};
 use fault_texts::obstacle_place;
 use net_check::{CertifyError, CheckError, Fault, certify, check};
 use net_explained::{Cause, find_cause};
 use net_json::{Sink, Source};
 use net_plan::Certificate;
-use plan_texts::{NO_CERTIFICATE, REMEDY, cause_lines, certificate_fault_lines, fault_line};
+use plan_texts::fault_line;
 use std::alloc::{AllocError, Global};
 
 /// Says on `output` what `check` says of a plan and its certificate, and explains it. Where a file can't be read, it

@@ -13,15 +13,14 @@ ghost use Rattle.command_answers.specs.declared.status.Status.TheVariants as sta
 ghost use Rattle.command_answers.specs.Answers.{stream, IsWithoutPlan};
 ghost use Rattle.command_answers.specs.Inputs.{GaveEvents};
 ghost use Rattle.command_answers.specs.Told.{ConcludesOnOutput};
-ghost use Rattle.command_answers.specs.UnreadInputs.{IsTextOf};
-ghost use Rattle.explain_commands.specs.ExplainingEvents.{AreNoEventsIn, AreNoEventsBy, AreEventsExplained, IsExplainedWithEvents, AreAllExplained, ExplainsAllSo};
+ghost use Rattle.command_answers.specs.UnreadInputs.{AreNoEventsBy, AreNoEventsIn, IsTextOf};
+ghost use Rattle.explain_commands.specs.ExplainingEvents.{AreEventsExplained, IsExplainedWithEvents, AreAllExplained, ExplainsAllSo};
 
 use super::certified::explained;
 use super::sound_text;
-use super::unread::unread_answer;
 use command_answers::{
     Answer, Input, PlanText, Refused, Status, Unread, certificate_or_text, plan_or_text, tell,
-    without_text,
+    unread_answer, without_text,
 };
 use net_check::check;
 use net_json::{Sink, Source, TEXT_LIMIT, read_within};

@@ -19,9 +19,10 @@ mod differences;
 mod rows;
 
 use super::certified::cause_text;
-use super::unread::unread_answer;
 use super::{edits_text, explained_there, sound_text, told_there};
-use command_answers::{Answer, Input, PlanText, Refused, Status, plan_or_text, tell};
+use command_answers::{
+    Answer, Input, PlanText, Refused, Status, plan_or_text, tell, unread_answer,
+};
 use differences::difference_text;
 use fault_texts::pointer_place;
 use net_check::{

@@ -5,7 +5,7 @@ use net_tables::lookup::{owner_at, ports_at};
 use std::alloc::{AllocError, Global};
 
 /// A node in the picture.
-#[derive(Clone, Copy, Debug)]
+#[derive(Clone, Copy)]
 pub struct Line {
     pub node: usize,
     /// How many owners stand above it; none where its owners go round.

@@ -12,7 +12,7 @@ pub const NAMES: usize = 88;
 const CHARACTER: usize = 8;
 
 /// The columns of a picture.
-#[derive(Clone, Copy, Debug)]
+#[derive(Clone, Copy)]
 pub struct Scale {
     /// Where the endpoint IDs end.
     pub eids: usize,

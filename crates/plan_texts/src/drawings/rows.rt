@@ -13,7 +13,7 @@ use net_tables::lookup::{covers, holds, rows_at};
 use std::alloc::{AllocError, Global};
 
 /// Where the way of an endpoint ID from a node leads.
-#[derive(Clone, Copy, Debug, PartialEq, Eq)]
+#[derive(Clone, Copy)]
 pub enum Lead {
     /// To the node that holds it, with so many hops.
     Arrives(usize),
@@ -26,7 +26,7 @@ pub enum Lead {
 }
 
 /// Where a node sends packets for an endpoint ID.
-#[derive(Clone, Copy, Debug, PartialEq, Eq)]
+#[derive(Clone, Copy)]
 pub struct Leg {
     /// The next node.
     pub next: usize,

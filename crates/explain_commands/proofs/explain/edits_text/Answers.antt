@@ -1,5 +1,5 @@
 use Rattle.std.proofs.Common.{◌∙◌, ap}
-use Rattle.plan_texts.specs.EditLines.{edits_text}
+use Rattle.explanation_texts.specs.EditLines.{edits_text}
 use Rattle.explain_commands.proofs.explain.edits_text.Goals as goal
 
 pub returns : goal.returns

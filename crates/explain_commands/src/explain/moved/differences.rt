@@ -17,7 +17,7 @@ use net_tables::lookup::node_name;
 use std::alloc::{AllocError, Global};
 
 /// What a node says beside its rows.
-#[derive(Clone, Copy, Debug)]
+#[derive(Clone, Copy)]
 pub enum NodePart {
     Name,
     Kind,
@@ -29,7 +29,7 @@ pub enum NodePart {
 }
 
 /// What is not the same in two plans.
-#[derive(Clone, Copy, Debug)]
+#[derive(Clone, Copy)]
 pub enum Unlike {
     /// The transmission unit.
     Unit,

@@ -1,18 +1,19 @@
 //! The rows by which packets go while nodes move from one plan to another: of a loop, and where a way ends.
 ghost use Rattle.std.specs.Prelude.{◌≡◌, ◌+◌, IfOk, length, option_map, string_bytes};
 ghost use Rattle.command_answers.specs.UnreadInputs.{IsTextOf};
-ghost use Rattle.plan_texts.specs.Explanations.{row_for};
+ghost use Rattle.explanation_texts.specs.Explanations.{row_for};
 ghost use Rattle.explain_commands.specs.MoveRows.{AreHopsTold, IsHopTold, IsLackTold, IsMixedLoopTold, IsMoveRemedyTold, IsRowTold, IsStopTold, IsWayOnTold, IsWayTold};
 ghost use Rattle.explain_commands.specs.MoveRows.{circling_text, file_of, lack_line, mend_text, next_of, other_side, row_at, row_line, row_words, side_file, steps_text, table_word};
 
 use super::place_of;
 use command_answers::PlanText;
+use explanation_texts::index_for;
 use fault_texts::{part_pointer, way_pointer};
 use mctp_transport::Eid;
 use net_check::{CertifyError, MixedLoop, MoveFault, Side, certify};
 use net_plan::{Plan, Row};
 use net_tables::lookup::{node_name, row_at as row_of};
-use plan_texts::{index_for, number_text};
+use plan_texts::number_text;
 use std::alloc::{AllocError, Global};
 
 /// What M02 asks of the next node.

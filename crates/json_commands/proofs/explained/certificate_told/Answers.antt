@@ -2,8 +2,8 @@ use Rattle.std.proofs.Common.{◌∙◌, List, ℕ, ap, sym, subst}
 use Rattle.serde_json.specs.Data.{Data}
 use Rattle.serde_json.specs.View.{view}
 use Rattle.command_answers.specs.declared.status.Status.TheVariants as status
-use Rattle.plan_texts.specs.CertificateSubjects.{certificate_subjects}
-use Rattle.plan_texts.specs.Pieces.{Tells}
+use Rattle.explanation_texts.specs.CertificateSubjects.{certificate_subjects}
+use Rattle.explanation_texts.specs.Pieces.{Tells}
 use Rattle.json_commands.specs.Explained.{explained_data}
 use Rattle.json_commands.specs.Notes.{lines_data}
 use Rattle.json_commands.proofs.explained.certificate_told.Goals as goal

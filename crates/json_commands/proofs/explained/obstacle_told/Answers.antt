@@ -1,5 +1,5 @@
 use Rattle.std.proofs.Common.{List, ℕ, sym, subst}
-use Rattle.plan_texts.specs.Explanations.{IsObstacleTold}
+use Rattle.explanation_texts.specs.Explanations.{IsObstacleTold}
 use Rattle.json_commands.proofs.NotMemory.{told_not_memory}
 use Rattle.json_commands.proofs.explained.obstacle_told.Goals as goal
 

@@ -7,7 +7,7 @@ use Rattle.net_questions.proofs.Packets.{keeps_to_ways}
 use Rattle.net_questions.proofs.WayLaws.{ways_reach}
 use Rattle.net_rules.specs.Rules.{Accepts}
 use Rattle.plan_commands.specs.Reaching.{IsReachText}
-use Rattle.plan_texts.specs.PairLines.{reach_text}
+use Rattle.question_texts.specs.PairLines.{reach_text}
 use Rattle.plan_commands.proofs.reach.pairs_text.Goals as goal
 
 -- the lines of the plan's pairs are its text

@@ -8,7 +8,7 @@ use Rattle.net_questions.specs.Ways.{IsWay}
 use Rattle.net_questions.proofs.Packets.{keeps_to_ways}
 use Rattle.net_rules.specs.Rules.{Accepts}
 use Rattle.plan_commands.specs.Tracing.{IsWayText}
-use Rattle.plan_texts.specs.WayLines.{trace_text}
+use Rattle.question_texts.specs.WayLines.{trace_text}
 use Rattle.plan_commands.proofs.trace.way_text.Goals as goal
 
 -- the lines of the way are its text

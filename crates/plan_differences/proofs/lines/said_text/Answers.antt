@@ -1,7 +1,7 @@
 use Rattle.std.proofs.Common.{rules, subst, codes, List, ◌≡◌, IfOk, string_bytes, ℕ, ◌++◌}
 use Rattle.plan_differences.specs.Facts.{fact_value}
 use Rattle.plan_differences.specs.DifferenceLines.{said_text}
-use Rattle.plan_texts.specs.WayLines.{address_text}
+use Rattle.plan_texts.specs.LineParts.{address_text}
 use Rattle.plan_differences.proofs.lines.said_text.Goals as goal
 
 pub returns-in_ok-address-in-Port : goal.returns-in_ok-address-in-Port

@@ -3,7 +3,7 @@ use Rattle.net_explained.specs.Edits.{IsEdited}
 use Rattle.net_plan.specs.PlanValues.{PlanValue, plan_value}
 use Rattle.plan_fixes.specs.Fixes.{IsAsEdited, IsTextOf}
 use Rattle.plan_fixes.specs.Splices.{IsSpliced}
-use Rattle.plan_texts.specs.EditLines.{edit_text}
+use Rattle.explanation_texts.specs.EditLines.{edit_text}
 use Rattle.plan_fixes.proofs.fixing.draft_with.Goals as goal
 use Rattle.net_explained.proofs.SamePlan.{same_plan}
 

@@ -1,0 +1,7 @@
+pub mod Pieces
+pub mod CauseSubjects
+pub mod EditSubjects
+pub mod Explanations
+pub mod CertificateSubjects
+pub mod SummaryLines
+pub mod EditLines

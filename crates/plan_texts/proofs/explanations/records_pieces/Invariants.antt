@@ -1,9 +1,0 @@
-use Rattle.std.proofs.Common.{◌≡◌, take}
-use Rattle.std.specs.List.{flat_map}
-use Rattle.plan_texts.specs.Explanations.{record_subjects}
-use Rattle.plan_texts.specs.Pieces.{entry_at, subjects}
-use Rattle.plan_texts.proofs.explanations.records_pieces.Given as goal
-
-abbrev pub invariant-loop-index : goal.invariant-loop-index
-invariant-loop-index l =
-    subjects l.pieces.items ≡ flat_map (λ j. record_subjects (entry_at l.node j)) (take l.index-index l.records)

@@ -1,7 +1,0 @@
-use Rattle.std.proofs.Common.{◌≡◌, string_bytes, take}
-use Rattle.std.specs.List.{flat_map}
-use Rattle.plan_texts.specs.FindingLines.{finding_line}
-use Rattle.plan_texts.proofs.findings.lint_lines.Given as goal
-
-abbrev pub invariant-loop-finding : goal.invariant-loop-finding
-invariant-loop-finding l = string_bytes l.lines ≡ flat_map (finding_line l.plan) (take l.finding-index l.findings)

@@ -1,7 +1,0 @@
-use Rattle.std.proofs.Common.{◌≡◌, string_bytes, take}
-use Rattle.std.specs.List.{flat_map}
-use Rattle.plan_texts.specs.PairLines.{pair_line}
-use Rattle.plan_texts.proofs.pairs.reach_lines.Given as goal
-
-abbrev pub invariant-loop-pair : goal.invariant-loop-pair
-invariant-loop-pair l = string_bytes l.lines ≡ flat_map (pair_line l.plan) (take l.pair-index l.pairs)

@@ -1,6 +1,0 @@
-use Rattle.std.proofs.Common.{◌≡◌, string_bytes, take}
-use Rattle.plan_texts.specs.WayLines.{steps_from}
-use Rattle.plan_texts.proofs.ways.steps_lines.Given as goal
-
-abbrev pub invariant-loop-index : goal.invariant-loop-index
-invariant-loop-index l = string_bytes l.lines ≡ steps_from l.plan 1 (take l.index l.steps)

@@ -1,0 +1,3 @@
+pub mod WayLines
+pub mod FindingLines
+pub mod PairLines
