@@ -21,5 +21,5 @@ pub use order::{Asked, NameList, TextSort, Trouble, asked_of, list_key, name_key
 pub use path::part_after;
 pub use position::{Position, position_of};
 pub use ranges::{Overlap, end_of_range, first_in_range, first_overlap};
-pub use syntax::{JsonFault, Wanted, is_blank, json_fault};
+pub use syntax::{JsonFault, Wanted, closing_quote, is_blank, json_fault};
 pub use texts::{TextTrouble, no_value};

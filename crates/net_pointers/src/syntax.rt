@@ -278,8 +278,9 @@ fn quote_end(text: &[u8], quote: usize) -> usize
     text.len()
 }
 
-/// Where the first quote stands that is not escaped; the end where there is none.
-fn closing_quote(bytes: &[u8]) -> usize
+/// Where the first quote stands that no backslash escapes, of the bytes behind an opening quote; the end where there is
+/// none.
+pub fn closing_quote(bytes: &[u8]) -> usize
     ensures { IsFirstFrom (closes bytes.now) 0 (length bytes.now) result }
 {
     let mut escaped = false;

@@ -1,3 +1,4 @@
 mod ToldTexts
 mod TextErrors
 mod DoubledTold
+mod Quotes

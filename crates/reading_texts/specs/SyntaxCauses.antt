@@ -1,9 +1,11 @@
 -- Why a text stops being JSON, where the bytes there tell it.
-use Rattle.std.specs.Prelude.{◌+◌, ◌==◌, ◌&&◌, ◌||◌, nat_lt, nat_le, not, ℕ, Bool, true, false, cond}
+use Rattle.std.specs.Prelude.{◌+◌, ◌==◌, ◌&&◌, ◌||◌, nat_lt, nat_le, ℕ, Bool, false, cond}
 use Rattle.std.specs.Prelude.{List, [], ◌∷◌, length, take, drop, get_or, codes, if◌then◌else◌}
 use Rattle.std.specs.Prelude.{Option, Some, None}
+use Rattle.std.specs.List.{list_any, position_or_len, range_with_len}
 use Rattle.std.specs.Option.{option_or}
-use Rattle.net_pointers.specs.Syntax.{is_blank}
+use Rattle.net_pointers.specs.Positions.{is_line_feed}
+use Rattle.net_pointers.specs.Syntax.{is_blank, closes}
 
 -- a digit
 abbrev pub is_digit : ℕ → Bool
@@ -19,27 +21,26 @@ abbrev pub is_byte : ℕ → Option ℕ → Bool
 is_byte b (Some c) = c == b
 is_byte b None = false
 
--- a control character or a quote
-abbrev pub ends_plain : ℕ → Bool
-ends_plain b = nat_lt b 32 || b == 34
+-- a control character
+abbrev pub is_control : ℕ → Bool
+is_control b = nat_lt b 32
 
--- the first control character or quote is a control character
-abbrev pub has_control : List ℕ → Bool
-has_control [] = false
-has_control (b ∷ bs) = cond (ends_plain b) (nat_lt b 32) (has_control bs)
+-- how many of the bytes behind a quote stand within the quotes: those before the first quote that closes, or all
+abbrev pub quoted_count : List ℕ → ℕ
+quoted_count cs = position_or_len (closes cs) (range_with_len 0 (length cs))
 
--- a quote that no backslash before it escapes
-abbrev pub closes : Bool → ℕ → Bool
-closes escaped b = not escaped && b == 34
+-- by the bytes within the quotes, and whether the text ends with them
+abbrev pub quoted_line : List ℕ → Bool → List ℕ
+quoted_line quoted ends =
+    if list_any is_line_feed quoted
+    then codes "The quotes don't end on their line; a line break within them is written \\n.\n"
+    else (if list_any is_control quoted
+    then codes "A control character in a text is written with a backslash, as \\t.\n"
+    else (if ends then codes "The text ends within quotes.\n" else []))
 
--- a backslash that escapes what follows
-abbrev pub escapes : Bool → ℕ → Bool
-escapes escaped b = not escaped && b == 92
-
--- a quote that closes stands in bytes within a text in quotes; whether a backslash escapes the first of them
-abbrev pub is_closed : List ℕ → Bool → Bool
-is_closed [] escaped = false
-is_closed (b ∷ bs) escaped = cond (closes escaped b) true (is_closed bs (escapes escaped b))
+-- by the bytes behind a quote
+abbrev pub quotes_line : List ℕ → List ℕ
+quotes_line cs = quoted_line (take (quoted_count cs) cs) (quoted_count cs == length cs)
 
 -- of a text that ends there: whether it has anything else than white space
 abbrev pub end_line : Option ℕ → List ℕ
@@ -59,10 +60,8 @@ byte_line rest b next last =
     else (if b == 47 || b == 35 then codes "JSON has no comments.\n"
     else (if b == 39 then codes "A text stands in double quotes.\n"
     else (if (b == 93 || b == 125) && is_byte 44 last then codes "A comma stands only between two items.\n"
-    else (if b == 34 && has_control rest
-    then codes "A control character in a text is written with a backslash, as \\t.\n"
-    else (if b == 34 && not (is_closed rest false) then codes "The text ends within quotes.\n"
-    else [])))))))
+    else (if b == 34 then quotes_line rest
+    else []))))))
 
 -- the line of the cause at an offset, where there is one
 abbrev pub cause_line : List ℕ → ℕ → List ℕ

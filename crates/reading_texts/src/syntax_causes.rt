@@ -1,8 +1,10 @@
 //! Why a text stops being JSON, where the bytes there tell it.
-ghost use Rattle.std.specs.Prelude.{◌≡◌, ◌≤◌, ◌<◌, false, length, get_or};
-ghost use Rattle.reading_texts.specs.SyntaxCauses.{byte_line, cause_line, are_marks, closes, encoding_line, end_line, ends_plain, escapes, has_control, is_byte, is_closed, is_digit, is_mark, last_filled};
+ghost use Rattle.std.specs.Prelude.{◌≡◌, ◌≤◌, ◌<◌, length, get_or};
+ghost use Rattle.std.specs.List.{list_any};
+ghost use Rattle.net_pointers.specs.Positions.{is_line_feed};
+ghost use Rattle.reading_texts.specs.SyntaxCauses.{byte_line, cause_line, are_marks, encoding_line, end_line, is_byte, is_control, is_digit, is_mark, last_filled, quoted_count, quoted_line, quotes_line};
 
-use net_pointers::is_blank;
+use net_pointers::{closing_quote, is_blank};
 
 /// The line of the cause at an offset, where there is one.
 pub fn cause_line(text: &[u8], offset: usize) -> &'static str
@@ -68,13 +70,42 @@ fn byte_line(rest: &[u8], byte: u8, next: u8, last: Option<u8>) -> &'static str
         "A text stands in double quotes.\n"
     } else if (byte == b']' || byte == b'}') && is_byte(b',', last) {
         "A comma stands only between two items.\n"
-    } else if byte == b'"' && has_control(rest) {
+    } else if byte == b'"' {
+        quotes_line(rest)
+    } else {
+        ""
+    }
+}
+
+/// The line by the bytes behind a quote.
+fn quotes_line(rest: &[u8]) -> &'static str
+    ensures { result.now ≡ quotes_line rest.now }
+{
+    let count = quoted_count(rest);
+    quoted_line(&rest[..count], count == rest.len())
+}
+
+/// The line by the bytes within quotes, and whether the text ends with them.
+fn quoted_line(quoted: &[u8], ends: bool) -> &'static str
+    ensures { result.now ≡ quoted_line quoted.now ends }
+{
+    if has_line_feed(quoted) {
+        "The quotes don't end on their line; a line break within them is written \\n.\n"
+    } else if has_control(quoted) {
         "A control character in a text is written with a backslash, as \\t.\n"
-    } else if byte == b'"' && !is_closed(rest) {
+    } else if ends {
         "The text ends within quotes.\n"
     } else {
         ""
     }
+}
+
+/// How many of the bytes behind a quote stand within the quotes.
+fn quoted_count(rest: &[u8]) -> usize
+    ensures count { result ≡ quoted_count rest.now }
+    ensures within { result ≤ length rest.now }
+{
+    closing_quote(rest)
 }
 
 /// The byte at an index, 0 where there is none.
@@ -110,50 +141,16 @@ fn is_byte(wanted: u8, byte: Option<u8>) -> bool
     }
 }
 
-/// Whether a control character stands before the next quote.
+fn has_line_feed(bytes: &[u8]) -> bool
+    ensures { result ≡ list_any is_line_feed bytes.now }
+{
+    bytes.iter().any(|byte| *byte == b'\n')
+}
+
 fn has_control(bytes: &[u8]) -> bool
-    ensures { result ≡ has_control bytes.now }
+    ensures { result ≡ list_any is_control bytes.now }
 {
-    for byte in bytes {
-        if ends_plain(*byte) {
-            return *byte < 32;
-        }
-    }
-    false
-}
-
-/// Whether a quote that no backslash escapes stands in bytes within a text in quotes.
-fn is_closed(bytes: &[u8]) -> bool
-    ensures { result ≡ is_closed bytes.now false }
-{
-    let mut escaped = false;
-    for byte in bytes {
-        if closes(escaped, *byte) {
-            return true;
-        }
-        escaped = escapes(escaped, *byte);
-    }
-    false
-}
-
-/// Whether a byte is a quote that no backslash before it escapes.
-fn closes(escaped: bool, byte: u8) -> bool
-    ensures { result ≡ closes escaped byte }
-{
-    !escaped && byte == b'"'
-}
-
-/// Whether a byte is a backslash that escapes what follows.
-fn escapes(escaped: bool, byte: u8) -> bool
-    ensures { result ≡ escapes escaped byte }
-{
-    !escaped && byte == b'\\'
-}
-
-fn ends_plain(byte: u8) -> bool
-    ensures { result ≡ ends_plain byte }
-{
-    byte < 32 || byte == b'"'
+    bytes.iter().any(|byte| *byte < 32)
 }
 
 /// The last byte that is no white space.
