@@ -1,5 +1,5 @@
 -- Why a source gave no events, or no lines.
-use Rattle.std.proofs.Common.{◌≡◌, refl}
+use Rattle.std.proofs.Common.{refl}
 use Rattle.net_plan.specs.declared.plan.Plan.{Plan}
 use Rattle.net_json.specs.Stream.{HasFailed}
 use Rattle.command_answers.specs.declared.refused.Input.TheVariants as input

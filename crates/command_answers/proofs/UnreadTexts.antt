@@ -1,5 +1,5 @@
 -- What is explained of a source that gave no plan, no certificate or no events.
-use Rattle.std.proofs.Common.{◌≡◌, ◌≢◌, ◌≤◌, ◌++◌, List, length, ℕ, Result, Err, string_bytes, refl, inl, inr}
+use Rattle.std.proofs.Common.{◌≡◌, ◌≢◌, ◌≤◌, List, length, ℕ, Result, Err, string_bytes, refl, inl, inr}
 use Rattle.std.specs.Io.KnownBytes.{Consumes, IsAtEnd}
 use Rattle.std.specs.Cow.{cow_str_bytes}
 use Rattle.serde_json.specs.Data.{Data}

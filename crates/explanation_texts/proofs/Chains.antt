@@ -1,5 +1,5 @@
 -- Where records of a bad chain have handles of their own.
-use Rattle.std.proofs.Common.{◌<◌, ℕ, Some, None, arith}
+use Rattle.std.proofs.Common.{ℕ, Some, None, arith}
 use Rattle.net_rules.specs.declared.rule.Rule.TheVariants.{C12, C14}
 use Rattle.net_rules.specs.Certificates.{CanBeMetBefore}
 use Rattle.net_rules.specs.Faults.{order_of}

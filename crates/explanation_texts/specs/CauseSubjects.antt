@@ -1,5 +1,5 @@
 -- What is named where a cause is told, in the order of its sentences.
-use Rattle.std.specs.Prelude.{ℕ, ◌==◌, List, [], ◌∷◌, ◌++◌, if◌then◌else◌, Option, Some, None}
+use Rattle.std.specs.Prelude.{ℕ, ◌==◌, List, [], ◌∷◌, if◌then◌else◌, Option, Some, None}
 use Rattle.net_rules.specs.declared.fault.Fault.{Fault}
 use Rattle.net_tables.specs.Routing.{eid_number}
 use Rattle.net_tables.specs.Ownership.{owner_of}

@@ -1,5 +1,5 @@
 -- Edits that were tried, as operations of a JSON patch.
-use Rattle.std.specs.Prelude.{◌≡◌, ℕ, List, [], ◌∷◌, ◌++◌, codes, length, Option, Some, None, unwrap_or}
+use Rattle.std.specs.Prelude.{ℕ, List, [], ◌∷◌, ◌++◌, codes, length, Option, Some, None, unwrap_or}
 use Rattle.hex.specs.Hex.{encode_lower}
 use Rattle.serde_json.specs.Data.{Data, null, string, object, member, no_members}
 use Rattle.net_json.specs.Finding.{Step, key}

@@ -1,5 +1,5 @@
 -- Notes: what is told of one fault, of one thing that looks wrong, or of a text that can't be read.
-use Rattle.std.specs.Prelude.{◌≡◌, ◌⊎◌, ℕ, List, [], ◌∷◌, ◌++◌, codes, map, Option, Some, None}
+use Rattle.std.specs.Prelude.{◌≡◌, ◌⊎◌, ℕ, List, [], ◌++◌, codes, map, Option, Some, None}
 use Rattle.std.specs.Str.Lines.{lines}
 use Rattle.mctp_transport.specs.declared.address.Eid.{Eid}
 use Rattle.serde_json.specs.Data.{Data, null, string, array, object, member, no_members}

@@ -1,5 +1,5 @@
 -- What is made of a value that is one of the grammar is what the relation tells.
-use Rattle.std.proofs.Common.{◌≡◌, ◌≢◌, ◌⊎◌, inl, inr, ℕ, zero, suc, ◌<◌, ◌≤◌, List, [], ◌∷◌, length, Bool, true, false, nat_lt, cond, ◌&&◌, ◌||◌, Option, Some, None, Result, slice_get, refl, sym, ap, ◌∙◌, subst, true≢false, arith, Contains, codes}
+use Rattle.std.proofs.Common.{◌≡◌, ◌≢◌, ◌⊎◌, inl, inr, ℕ, zero, suc, ◌<◌, ◌≤◌, List, [], ◌∷◌, length, Bool, true, false, nat_lt, cond, ◌||◌, Option, Some, None, Result, slice_get, refl, sym, ap, ◌∙◌, subst, true≢false, arith, Contains, codes}
 use Rattle.std.proofs.lemmas.Bool.{and_from, or_right, le-leb, ltb-true, lt-ltb}
 use Rattle.std.proofs.lemmas.Slice.Eq.{bytes_eq-Decides}
 use Rattle.std.specs.List.{list_all}

@@ -1,5 +1,5 @@
 -- What stands at the front of a text: spaces, strings and numbers.
-use Rattle.std.proofs.Common.{◌≡◌, ℕ, suc, zero, ◌+◌, ◌-◌, ◌*◌, ◌<◌, ◌≤◌, Bool, true, false, not, cond, ◌&&◌, ◌||◌, ◌==◌, nat_lt, List, [], ◌∷◌, ◌++◌, length, take, drop, get_or, Some, ◌⊎◌, inl, inr, refl, sym, ap, ap₂, ◌∙◌, subst, arith, length-append, add-zero, zero-add}
+use Rattle.std.proofs.Common.{◌≡◌, ℕ, suc, zero, ◌+◌, ◌-◌, ◌*◌, ◌<◌, ◌≤◌, Bool, true, false, not, cond, ◌&&◌, ◌==◌, nat_lt, List, [], ◌∷◌, ◌++◌, length, take, drop, get_or, Some, ◌⊎◌, inl, inr, refl, sym, ap, ap₂, ◌∙◌, subst, arith, length-append, add-zero, zero-add}
 use Rattle.std.proofs.lemmas.Bool.{and_parts, or_cases, not-true, eqb-true, ne_eqb, leb-true, ltb-true, le-ltb}
 use Rattle.std.proofs.lemmas.List.{take_all, drop_all, take-append-drop}
 use Rattle.std.proofs.lemmas.Str.{IsUtf8-from_ascii, digit_value_digit}

@@ -1,5 +1,5 @@
 -- Files that hold their bytes, one after another.
-use Rattle.std.proofs.Common.{◌≡◌, ℕ, List, [], ◌∷◌, ◌++◌, Some, string_bytes, subst, inl, inr}
+use Rattle.std.proofs.Common.{ℕ, List, [], ◌∷◌, ◌++◌, Some, string_bytes, subst, inl, inr}
 use Rattle.mctp_transport.proofs.FirstIndexes.{get_cases}
 use Rattle.board.specs.declared.board.RecordFile.{RecordFile}
 use Rattle.plan_commands.specs.Making.{AreHeld}

@@ -1,5 +1,5 @@
 -- Questions about a plan and its certificate.
-use Rattle.std.proofs.Common.{◌≡◌, ◌≢◌, ◌⊎◌, ℕ, List, Option, Some, None, is_some, true, false, true≢false, Result, Ok, Err, inl, inr, sym, subst}
+use Rattle.std.proofs.Common.{◌≡◌, ◌⊎◌, ℕ, List, Option, Some, None, is_some, true, false, true≢false, Result, Ok, Err, inl, inr, sym, subst}
 use Rattle.std.specs.Prelude.{IfOk, IfErr, MatchOption}
 use Rattle.std.specs.Cow.{cow_str_bytes}
 use Rattle.net_rules.specs.Rules.{Accepts}

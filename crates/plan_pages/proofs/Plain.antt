@@ -1,5 +1,5 @@
 -- Escaped characters are plain.
-use Rattle.std.proofs.Common.{◌≡◌, ◌≢◌, ℕ, ◌==◌, true, false, List, [], ◌∷◌, ◌++◌, refl, rules, All, if◌then◌else◌}
+use Rattle.std.proofs.Common.{ℕ, true, false, List, [], ◌∷◌, refl, rules, All}
 use Rattle.std.specs.List.{flat_map}
 use Rattle.std.proofs.lemmas.List.Elements.{All-nil, All-append}
 use Rattle.plan_pages.specs.Escaping.{IsPlain, escaped_char}

@@ -1,4 +1,4 @@
-use Rattle.std.proofs.Common.{◌≡◌, ◌∙◌, ℕ, string_bytes}
+use Rattle.std.proofs.Common.{ℕ, string_bytes}
 use Rattle.command_answers.specs.Certifying.{IsRuledOutBy}
 use Rattle.command_answers.proofs.Obstacles.{not_memory}
 use Rattle.explain_commands.proofs.Explained.{obstacle_written}

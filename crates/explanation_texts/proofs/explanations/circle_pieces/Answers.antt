@@ -1,4 +1,4 @@
-use Rattle.std.proofs.Common.{◌≡◌, ◌∙◌, ap, subst, sym}
+use Rattle.std.proofs.Common.{◌∙◌, ap, subst, sym}
 use Rattle.net_rules.specs.Circles.{IsLoopFrom, IsOnCircle}
 use Rattle.net_rules.specs.RecordChains.{IsFollowedBy}
 use Rattle.explanation_texts.specs.Explanations.{circle_subjects}

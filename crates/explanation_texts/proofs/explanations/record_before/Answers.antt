@@ -1,4 +1,4 @@
-use Rattle.std.proofs.Common.{◌≡◌, ◌∙◌, ◌==◌, position, ap, sym}
+use Rattle.std.proofs.Common.{◌∙◌, ◌==◌, position, ap, sym}
 use Rattle.explanation_texts.specs.Explanations.{record_before}
 use Rattle.explanation_texts.proofs.explanations.record_before.Goals as goal
 

@@ -1,4 +1,4 @@
-use Rattle.std.proofs.Common.{rules, ◌≡◌, List, ℕ, inl, inr, sym, ap, subst}
+use Rattle.std.proofs.Common.{rules, List, ℕ, inl, inr, sym, ap, subst}
 use Rattle.serde_json.specs.View.{view}
 use Rattle.net_plan.specs.declared.certificate.Certificate.{Certificate}
 use Rattle.net_plan.specs.declared.plan.Plan.{Plan}

@@ -1,4 +1,4 @@
-use Rattle.std.proofs.Common.{◌≡◌, List, ℕ, subst}
+use Rattle.std.proofs.Common.{List, ℕ, subst}
 use Rattle.serde_json.specs.View.{view}
 use Rattle.net_plan.specs.declared.plan.Plan.{Plan}
 use Rattle.command_answers.specs.Naming.{IsDestination, IsFirstNamed}

@@ -1,4 +1,4 @@
-use Rattle.std.proofs.Common.{◌≡◌, subst}
+use Rattle.std.proofs.Common.{subst}
 use Rattle.serde_json.specs.View.{view}
 use Rattle.net_plan.specs.declared.plan.Plan.{Plan}
 use Rattle.json_commands.specs.Traced.{IsWayTold}

@@ -1,4 +1,4 @@
-use Rattle.std.proofs.Common.{◌≡◌, true, rules}
+use Rattle.std.proofs.Common.{true, rules}
 use Rattle.net_json.proofs.Gathered.{name_next}
 use Rattle.net_json.proofs.next_value.next_name.Goals as goal
 

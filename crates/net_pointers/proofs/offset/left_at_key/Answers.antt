@@ -1,4 +1,4 @@
-use Rattle.std.proofs.Common.{rules, ◌≡◌, ◌<◌, Some}
+use Rattle.std.proofs.Common.{rules, Some}
 use Rattle.net_pointers.proofs.Short.{key_fits}
 use Rattle.net_pointers.proofs.offset.left_at_key.Goals as goal
 

@@ -1,4 +1,4 @@
-use Rattle.std.proofs.Common.{rules, ◌≡◌, map, Some, None}
+use Rattle.std.proofs.Common.{rules, map, Some, None}
 use Rattle.json.specs.Value.{value_view}
 use Rattle.net_json.specs.Finding.{step_value}
 use Rattle.net_pointers.proofs.Offsets.{found_pointer_leads}

@@ -1,4 +1,4 @@
-use Rattle.std.proofs.Common.{◌≡◌, ◌∙◌, Some, arith}
+use Rattle.std.proofs.Common.{◌∙◌, Some, arith}
 use Rattle.json.specs.Json.{skip_value}
 use Rattle.net_pointers.proofs.PartTokens.{item_passed}
 use Rattle.net_pointers.proofs.tokens.pass_items.Goals as goal

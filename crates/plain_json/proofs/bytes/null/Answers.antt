@@ -1,4 +1,4 @@
-use Rattle.std.proofs.Common.{◌≡◌, ◌∷◌, true, ap, ◌∙◌, rules}
+use Rattle.std.proofs.Common.{◌∷◌, true, ap, ◌∙◌, rules}
 use Rattle.json.specs.Lex.{lex, between}
 use Rattle.plain_json.proofs.Plain.{null_at}
 use Rattle.plain_json.proofs.bytes.null.Goals as goal

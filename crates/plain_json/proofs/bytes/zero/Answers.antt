@@ -1,4 +1,4 @@
-use Rattle.std.proofs.Common.{◌≡◌, true, rules}
+use Rattle.std.proofs.Common.{true, rules}
 use Rattle.plain_json.proofs.Plain.{zero_at}
 use Rattle.plain_json.proofs.bytes.zero.Goals as goal
 

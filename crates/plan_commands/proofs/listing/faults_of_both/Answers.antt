@@ -1,4 +1,4 @@
-use Rattle.std.proofs.Common.{rules, ◌≡◌, Some}
+use Rattle.std.proofs.Common.{rules, Some}
 use Rattle.std.specs.Cow.{cow_str_bytes}
 use Rattle.net_rules.specs.FaultLists.{AreFaults}
 use Rattle.net_check.specs.declared.check_error.CheckError.TheVariants as check_error

@@ -1,4 +1,4 @@
-use Rattle.std.proofs.Common.{◌≡◌, ◌<◌, ℕ, [], length, map, subst, sym, ap, ◌∙◌, arith, rules, Some}
+use Rattle.std.proofs.Common.{◌≡◌, ◌<◌, ℕ, [], length, map, subst, sym, ap, arith, rules, Some}
 use Rattle.std.specs.Prelude.{slice_get}
 use Rattle.std.proofs.lemmas.List.{length-map}
 use Rattle.plan_differences.specs.Facts.{fact_value}

@@ -1,4 +1,4 @@
-use Rattle.std.proofs.Common.{rules, ◌≡◌, ◌∙◌, List, ℕ, Ok, Err, map, refl, subst, string_bytes}
+use Rattle.std.proofs.Common.{rules, ◌≡◌, List, ℕ, Ok, Err, map, refl, subst, string_bytes}
 use Rattle.std.specs.Prelude.{IfOk}
 use Rattle.std.specs.Cow.{cow_str_bytes}
 use Rattle.net_plan.specs.declared.event.Event.{Event}

@@ -1,4 +1,4 @@
-use Rattle.std.proofs.Common.{◌≡◌, string_bytes}
+use Rattle.std.proofs.Common.{string_bytes}
 use Rattle.play_commands.proofs.Scripted.{stuck, found, not_back}
 use Rattle.play_commands.proofs.script.answer_by_text.Goals as goal
 

@@ -1,4 +1,3 @@
-use Rattle.std.proofs.Common.{◌≤◌}
 use Rattle.net_sim.specs.Outcomes.{outcome_value}
 use Rattle.play_commands.proofs.Scripted.{other_end, stuck}
 use Rattle.play_commands.proofs.script.answer_on_made.Goals as goal

@@ -1,4 +1,4 @@
-use Rattle.std.proofs.Common.{◌≡◌, ◌∙◌, Some, string_bytes, subst, sym}
+use Rattle.std.proofs.Common.{◌∙◌, Some, string_bytes, subst, sym}
 use Rattle.plan_pages.specs.declared.style.TheConstants.{STYLE}
 use Rattle.report_commands.specs.Pages.{ArePlanSections, IsFindingsSection}
 use Rattle.report_commands.proofs.Counts.{with_front}

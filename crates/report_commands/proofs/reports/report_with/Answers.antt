@@ -1,4 +1,4 @@
-use Rattle.std.proofs.Common.{◌≡◌, subst}
+use Rattle.std.proofs.Common.{subst}
 use Rattle.std.specs.Prelude.{IfOk}
 use Rattle.std.specs.Cow.{cow_str_bytes}
 use Rattle.net_plan.specs.declared.certificate.Certificate.{Certificate}

@@ -1,4 +1,4 @@
-use Rattle.std.proofs.Common.{◌≡◌, Some, codes, rules}
+use Rattle.std.proofs.Common.{Some, codes, rules}
 use Rattle.net_json.specs.NameIndexes.{noted}
 use Rattle.net_json.proofs.EventParts.{word_here}
 use Rattle.net_json.proofs.Gathered.{if_some}

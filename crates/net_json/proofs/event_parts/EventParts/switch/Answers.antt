@@ -1,4 +1,4 @@
-use Rattle.std.proofs.Common.{◌≡◌, Some, rules}
+use Rattle.std.proofs.Common.{Some, rules}
 use Rattle.net_json.specs.NameIndexes.{noted}
 use Rattle.net_json.proofs.EventParts.{switch_of}
 use Rattle.net_json.proofs.event_parts.EventParts.switch.Goals as goal

@@ -1,4 +1,4 @@
-use Rattle.std.proofs.Common.{◌≡◌, Some, sym, subst, rules}
+use Rattle.std.proofs.Common.{Some, sym, subst, rules}
 use Rattle.net_json.specs.EventParts.{IsEventBy}
 use Rattle.json.specs.Json.{object}
 use Rattle.net_plan.specs.EventValues.{walk}

@@ -1,4 +1,4 @@
-use Rattle.std.proofs.Common.{rules, ◌≡◌, true, Some, refl}
+use Rattle.std.proofs.Common.{rules, true, Some, refl}
 use Rattle.std.proofs.lemmas.Map.Text.{btree_map_updates_str}
 use Rattle.net_json.specs.NameIndexes.{noted}
 use Rattle.net_json.proofs.Names.{was_new, noted_now, noted_again}

@@ -1,4 +1,4 @@
-use Rattle.std.proofs.Common.{◌≤◌, map, codes, refl, rules}
+use Rattle.std.proofs.Common.{map, codes, refl, rules}
 use Rattle.net_json.specs.EventParts.{IsEventBy}
 use Rattle.net_json.specs.EventText.{IsFormat}
 use Rattle.net_plan.specs.EventValues.{event_entry}

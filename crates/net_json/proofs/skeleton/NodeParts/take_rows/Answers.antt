@@ -1,4 +1,4 @@
-use Rattle.std.proofs.Common.{◌≡◌, ◌≤◌, [], false, is_some, Some, codes, map, option_map, inl, inr, refl, sym, ap, ◌∙◌, subst, rules}
+use Rattle.std.proofs.Common.{◌≡◌, [], false, is_some, Some, codes, map, option_map, inl, inr, refl, sym, ap, ◌∙◌, subst, rules}
 use Rattle.json.specs.Json.{array, no_items}
 use Rattle.json.specs.Value.{value_view, items_view, members_view}
 use Rattle.json.specs.declared.value.Value.{Array}

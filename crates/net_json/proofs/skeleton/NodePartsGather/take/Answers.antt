@@ -1,4 +1,4 @@
-use Rattle.std.proofs.Common.{◌≡◌, IfSome, codes, true, sym, subst, rules}
+use Rattle.std.proofs.Common.{IfSome, codes, true, sym, subst, rules}
 use Rattle.std.proofs.lemmas.Slice.Eq.{bytes_eq-Decides}
 use Rattle.std.specs.Str.{bytes_eq}
 use Rattle.net_json.specs.Gathered.{IsMore}

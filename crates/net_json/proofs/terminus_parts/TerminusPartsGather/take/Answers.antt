@@ -1,4 +1,4 @@
-use Rattle.std.proofs.Common.{◌≤◌, map, codes, refl, rules}
+use Rattle.std.proofs.Common.{map, codes, refl, rules}
 use Rattle.net_json.specs.JsonWords.{IsNumberWithin, IsShortListOf}
 use Rattle.net_plan.specs.NodeValues.{record_value}
 use Rattle.net_json.specs.PlanText.{IsRecordOf}

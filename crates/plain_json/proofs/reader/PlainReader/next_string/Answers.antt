@@ -1,4 +1,4 @@
-use Rattle.std.proofs.Common.{◌≡◌, ◌∷◌, false, sym, ap, ◌∙◌, rules}
+use Rattle.std.proofs.Common.{◌∷◌, false, sym, ap, ◌∙◌, rules}
 use Rattle.json.specs.Token.{string}
 use Rattle.plain_json.proofs.Tokens.{string_begins}
 use Rattle.plain_json.proofs.reader.PlainReader.next_string.Goals as goal
