@@ -12,7 +12,11 @@ use Rattle.plan_exports.specs.TableAnswers.{AreEntriesOf}
 use Rattle.audited_captures.specs.Repositories.{TellsRecords}
 use Rattle.audited_captures.specs.Lines.{LineValue, line_value}
 use Rattle.audited_captures.specs.declared.lines.Line.{Line}
+use Rattle.audited_captures.specs.Exchanges.{AreExchanges}
+use Rattle.audited_captures.specs.Strangers.{AreStrangerLines}
 use Rattle.audited_captures.specs.TrafficLines.{IsTraffic}
+use Rattle.audited_captures.specs.Words.{AreWords}
+use Rattle.heard_captures.specs.Messages.{MessageValue, AreHeard}
 use Rattle.audited_captures.specs.Audits.{Heard, AreNodeLines, AreLines, More, lines_of_node, AreBeside, AreAudited, AreRepositories}
 
 -- three lists of lines joined
@@ -40,6 +44,22 @@ pub next_node : (plan : Plan) (rs : List (List Entry)) (h : Heard) (n : ℕ) (ol
     → AreNodeLines plan rs h n (map line_value more) → new ≡ old ++ more → AreLines plan rs h (n + 1) (map line_value new)
 next_node plan rs h n old more new are of_one joins =
     subst (λ ls. AreLines plan rs h (n + 1) ls) (sym (ap (map line_value) joins ∙ map-append line_value old more)) (More n (map line_value old) (map line_value more) are of_one)
+
+pub beside_so : (plan : Plan) (rs : List (List Entry)) (entries : List captured.EntryValue) (messages : List MessageValue) (h : Heard) (nodes strangers all : List Line)
+    → AreHeard plan.unit entries messages → AreWords messages h.words → AreExchanges h.words h.exchanges → AreLines plan rs h (length plan.nodes.items) (map line_value nodes)
+    → AreStrangerLines plan h.exchanges (map line_value strangers) → all ≡ nodes ++ strangers → AreBeside plan rs entries (map line_value all)
+beside_so plan rs entries messages h nodes strangers all whole spoken answered told strange joins = record {
+  messages = messages;
+  heard = h;
+  whole = whole;
+  spoken = spoken;
+  answered = answered;
+  of_nodes = map line_value nodes;
+  of_strangers = map line_value strangers;
+  told = told;
+  strange = strange;
+  joined = ap (map line_value) joins ∙ map-append line_value nodes strangers;
+}
 
 pub audited_so : (plan : Plan) (cert : Certificate) (bus : Option ℕ) (rs : List (List Entry)) (entries : List captured.EntryValue) (answers traffic all : List Line)
     → AreRepositories plan cert (length plan.nodes.items) rs → AreBeside plan rs entries (map line_value answers) → IsTraffic plan bus entries (map line_value traffic)

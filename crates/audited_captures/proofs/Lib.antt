@@ -12,5 +12,6 @@ pub mod PlannedReadings
 pub mod MatchLaws
 pub mod PacketLaws
 pub mod TrafficLaws
+pub mod StrangerLaws
 pub mod WholeAudits
 pub mod ForwardLaws

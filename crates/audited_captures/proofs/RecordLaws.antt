@@ -1,6 +1,6 @@
 -- Records that were brought, beside the planned ones.
 use Rattle.std.proofs.Common.{◌≡◌, ◌≢◌, ℕ, suc, ◌+◌, ◌<◌, ◌≤◌, ◌&&◌, Bool, true, false, List, [], ◌∷◌, length, refl, ap, sym, ◌∙◌, nat_eq, take, drop, get_or, ◌++◌, inl, inr, arith}
-use Rattle.std.specs.Prelude.{Some, None, Vec}
+use Rattle.std.specs.Prelude.{Some, Vec}
 use Rattle.std.specs.List.{flat_map}
 use Rattle.std.proofs.lemmas.List.{append-nil}
 use Rattle.std.proofs.lemmas.Grind.{flat_map-append}

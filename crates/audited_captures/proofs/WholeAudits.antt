@@ -10,6 +10,7 @@ use Rattle.audited_captures.specs.Audits.{Heard, NodeFacts, AreFacts, AreLines, 
 use Rattle.audited_captures.specs.Lines.{LineValue}
 use Rattle.audited_captures.specs.Matching.{SaysAsPlanned, AuditMatches, MatchesAudit}
 use Rattle.audited_captures.proofs.MatchLaws.{zero_left, zero_right, zero_both, nodes_match}
+use Rattle.audited_captures.proofs.StrangerLaws.{no_strangers, no_stranger_told}
 use Rattle.audited_captures.proofs.TrafficLaws.{traffic_matches}
 
 -- the node at a place has said what is planned
@@ -42,13 +43,19 @@ no_node plan rs h (More m lines more are one) says =
 
 pub audit_matches : AuditMatches
 audit_matches plan cert bus entries lines are zero =
-    let told : difference_count (are.answers ++ are.traffic) ≡ 0 = ap difference_count (sym are.joined) ∙ zero in (
-      λ n node at. each_node plan are.repositories are.beside.heard are.beside.told (zero_left are.answers are.traffic told) n node (slice_get_within plan.nodes.items n node at) at,
+    let told : difference_count (are.answers ++ are.traffic) ≡ 0 = ap difference_count (sym are.joined) ∙ zero in
+    let answered = zero_left are.answers are.traffic told in
+    let beside = are.beside in
+    let said : difference_count (beside.of_nodes ++ beside.of_strangers) ≡ 0 = ap difference_count (sym beside.joined) ∙ answered in (
+      λ n node at. each_node plan are.repositories beside.heard beside.told (zero_left beside.of_nodes beside.of_strangers said) n node (slice_get_within plan.nodes.items n node at) at,
+      no_strangers plan beside.strange (zero_right beside.of_nodes beside.of_strangers said),
       (traffic_matches plan bus entries are.traffic are.passed).0 (zero_right are.answers are.traffic told),
     )
 
 pub matches_audit : MatchesAudit
-matches_audit plan cert bus entries lines are says planned =
-    ap difference_count are.joined
-    ∙ zero_both are.answers are.traffic (no_node plan are.repositories are.beside.heard are.beside.told says)
-    ((traffic_matches plan bus entries are.traffic are.passed).1 planned)
+matches_audit plan cert bus entries lines are says strangers planned =
+    let beside = are.beside in
+    let answered : difference_count are.answers ≡ 0 =
+    ap difference_count beside.joined
+    ∙ zero_both beside.of_nodes beside.of_strangers (no_node plan are.repositories beside.heard beside.told says) (no_stranger_told plan beside.strange strangers) in
+    ap difference_count are.joined ∙ zero_both are.answers are.traffic answered ((traffic_matches plan bus entries are.traffic are.passed).1 planned)

@@ -22,6 +22,7 @@ use Rattle.audited_captures.specs.Readings.{parts_of, readings}
 use Rattle.audited_captures.specs.Lines.{LineValue, note}
 use Rattle.audited_captures.specs.RecordLines.{walks_lines}
 use Rattle.audited_captures.specs.RecordParts.{RecordPartValue, AreRecordParts}
+use Rattle.audited_captures.specs.Strangers.{AreStrangerLines}
 use Rattle.audited_captures.specs.Routes.{routes_lines}
 use Rattle.audited_captures.specs.TrafficLines.{IsTraffic}
 use Rattle.audited_captures.specs.Walking.{Walked, AreWalks}
@@ -122,8 +123,8 @@ abbrev pub audit_text : List LineValue → End → List ℕ
 audit_text lines how = flat_map text_line lines ++ (rest_line how ++ last_line how (difference_count lines))
 
 -- These are the lines of what was captured beside the plan and these records: the messages that came whole in packets
--- of the plan's transmission unit, those among them that ask and answer, the control messages that were answered, and
--- what the answers of each node say.
+-- of the plan's transmission unit, those among them that ask and answer, the control messages that were answered, what
+-- the answers of each node say, and behind that those of devices that no node stands for.
 pub record AreBeside (plan : Plan) (repositories : List (List Entry)) (entries : List EntryValue)
     (lines : List LineValue) : Type 0 where
   pub messages : List MessageValue
@@ -131,7 +132,11 @@ pub record AreBeside (plan : Plan) (repositories : List (List Entry)) (entries :
   pub whole : AreHeard plan.unit entries messages
   pub spoken : AreWords messages heard.words
   pub answered : AreExchanges heard.words heard.exchanges
-  pub told : AreLines plan repositories heard (length plan.nodes.items) lines
+  pub of_nodes : List LineValue
+  pub of_strangers : List LineValue
+  pub told : AreLines plan repositories heard (length plan.nodes.items) of_nodes
+  pub strange : AreStrangerLines plan heard.exchanges of_strangers
+  pub joined : lines ≡ of_nodes ++ of_strangers
 
 -- The lines are those of the answers, beside the plan and its records, and behind them those of the packets that the
 -- plan doesn't have on the bus where the capture was taken, or on any bus where none is named.

@@ -18,6 +18,7 @@ pub mod Counts
 pub mod Traffic
 pub mod Judging
 pub mod TrafficLines
+pub mod Strangers
 pub mod Audits
 pub mod AsPlanned
 pub mod Matching

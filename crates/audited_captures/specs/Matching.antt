@@ -13,6 +13,7 @@ use Rattle.audited_captures.specs.Exchanges.{ExchangeValue}
 use Rattle.audited_captures.specs.Identities.{answers_of, first_of, size_of, kind_number}
 use Rattle.audited_captures.specs.Lines.{LineValue}
 use Rattle.audited_captures.specs.Packets.{NumberedPacket}
+use Rattle.audited_captures.specs.Strangers.{HasNoStrangers}
 use Rattle.audited_captures.specs.Traffic.{IsPlanned}
 use Rattle.audited_captures.specs.TrafficLines.{IsTraffic}
 use Rattle.pdr_repository.specs.Records.{Entry, bytes_by_place}
@@ -76,19 +77,22 @@ TrafficMatchesWhereAsPlanned = (plan : Plan) (bus : Option ℕ) (entries : List 
     (lines : List LineValue) → (passed : IsTraffic plan bus entries lines)
     → (difference_count lines ≡ 0) ↔ ArePlanned plan bus passed.packets
 
--- where an audit matches, each node has said what is planned, and each packet is planned on the bus
+-- where an audit matches, each node has said what is planned, no device took an endpoint ID that no node holds, and
+-- each packet is planned on the bus
 abbrev pub AuditMatches : Type 0
 AuditMatches = (plan : Plan) (cert : Certificate) (bus : Option ℕ) (entries : List captured.EntryValue)
     (lines : List LineValue) → (are : AreAudited plan cert bus entries lines) → difference_count lines ≡ 0
     → ((n : ℕ) (node : Node) → slice_get plan.nodes.items n ≡ Some node
     → (f : NodeFacts) × AreFacts plan are.repositories are.beside.heard n node f
     × SaysAsPlanned node are.beside.heard.exchanges f)
-    × ArePlanned plan bus are.passed.packets
+    × HasNoStrangers plan are.beside.heard.exchanges × ArePlanned plan bus are.passed.packets
 
--- where each node has said what is planned, and each packet is planned on the bus, the audit matches
+-- where each node has said what is planned, no device took an endpoint ID that no node holds, and each packet is
+-- planned on the bus, the audit matches
 abbrev pub MatchesAudit : Type 0
 MatchesAudit = (plan : Plan) (cert : Certificate) (bus : Option ℕ) (entries : List captured.EntryValue)
     (lines : List LineValue) → (are : AreAudited plan cert bus entries lines)
     → ((n : ℕ) (node : Node) (f : NodeFacts) → slice_get plan.nodes.items n ≡ Some node
     → AreFacts plan are.repositories are.beside.heard n node f → SaysAsPlanned node are.beside.heard.exchanges f)
-    → ArePlanned plan bus are.passed.packets → difference_count lines ≡ 0
+    → HasNoStrangers plan are.beside.heard.exchanges → ArePlanned plan bus are.passed.packets
+    → difference_count lines ≡ 0

@@ -20,6 +20,7 @@ use crate::lines::{Line, differences_or};
 use crate::readings::parts_of;
 use crate::record_parts::record_parts_of;
 use crate::routes::routes_lines;
+use crate::strangers::stranger_lines;
 use crate::traffic_lines::traffic_lines;
 use crate::walks::walks_lines;
 use crate::words::{Word, words_of};
@@ -31,9 +32,10 @@ use net_plan::{Node, Plan};
 use plan_exports::planned_entries;
 use std::alloc::{AllocError, Global};
 
-/// What was captured, laid beside a checked plan: the lines of what each node said, in the plan's order, and behind
-/// them those of the packets that the plan doesn't have on the bus, or on any bus where none is given. The repositories
-/// are the nodes' records by place, as handles and bytes.
+/// What was captured, laid beside a checked plan: the lines of what each node said, in the plan's order, behind them
+/// those of devices that took an endpoint ID that no node holds, and last those of the packets that the plan doesn't
+/// have on the bus, or on any bus where none is given. The repositories are the nodes' records by place, as handles and
+/// bytes.
 pub fn audited_lines(
     alloc: Global,
     checked: &Checked,
@@ -63,7 +65,10 @@ fn lines_of_capture(
     let messages = heard_messages(alloc, usize::from(plan.unit), capture)?;
     let words = words_of(alloc, &messages)?;
     let exchanges = exchanges_of(alloc, &words)?;
-    lines_of_nodes(alloc, plan, repositories, &words, &exchanges)
+    let mut lines = lines_of_nodes(alloc, plan, repositories, &words, &exchanges)?;
+    let mut strangers = stranger_lines(alloc, plan, &exchanges)?;
+    lines.append(&mut strangers)?;
+    Ok(lines)
 }
 
 fn lines_of_nodes(

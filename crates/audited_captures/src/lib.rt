@@ -13,6 +13,7 @@ mod readings;
 mod record_lines;
 mod record_parts;
 mod routes;
+mod strangers;
 mod traffic;
 mod traffic_lines;
 mod walking;
