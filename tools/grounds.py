@@ -60,12 +60,12 @@ def parts(text, begin, end, boundary):
 
 
 class Item:
-    """A piece of a text: the names by any of which it is found, the type that has to be named besides, and whether it is a
-    function, or has what calls functions."""
+    """A piece of a text: the names by any of which it is found, the type that has to be named besides, whether it is a
+    function, or has what calls functions, and whether its lines count, as in definitions."""
 
-    def __init__(self, names, text, of="", span=(0, 0), is_function=False, calls=False):
+    def __init__(self, names, text, of="", span=(0, 0), is_function=False, calls=False, has_layout=False):
         self.names, self.text, self.of, self.span = names, without_comments(text), of, span
-        self.is_function, self.calls = is_function, calls
+        self.is_function, self.calls, self.has_layout = is_function, calls, has_layout
         self.digest = hashlib.sha256(repr((sorted(names), of, self.text)).encode()).digest()
 
 
@@ -141,11 +141,14 @@ class Source(File):
                 kept, at = kept + self.text[at:first], last
         return kept + self.text[at:end]
 
-    def whole_at(self, begin, end):
-        """The item that holds a part of the text, with its bodies: its text and what it names. None where no item does."""
+    def whole_at(self, begin, end, new=None):
+        """The item that holds a part of the text, with its bodies and, where one is given, with a new text for that part: its
+        text and what it names. None where no item does."""
         for it in self.items:
-            if it.span[0] <= begin and end <= it.span[1]:
-                whole = without_comments(self.text[slice(*it.span)])
+            first, last = it.span
+            if first <= begin and end <= last:
+                whole = self.text[first:last] if new is None else self.text[first:begin] + new + self.text[end:last]
+                whole = without_comments(whole)
                 return whole, it.words | self.words_of(whole)
         return None
 
@@ -159,7 +162,7 @@ class Definitions(File):
             piece = text[begin:end]
             name = DEFINED.match(piece)
             if name and not re.match(r"(?:pub )?(?:use|mod)\b", piece):
-                self.items.append(Item({name[1]} if WORD.fullmatch(name[1]) else set(), piece))
+                self.items.append(Item({name[1]} if WORD.fullmatch(name[1]) else set(), piece, has_layout=True))
                 # (a value may be written by its constructor alone)
                 for made in re.findall(r"(?m)^ +(?:pub )?(\w+) :", piece) if re.match(r"(?:\w+ )*?data\b", piece) else []:
                     self.imports.setdefault(made, set()).add(name[1])
@@ -181,7 +184,7 @@ class Grounds:
                     self.by_name.setdefault(f".{name}", []).append((it, of))
 
     def reached_from(self, words):
-        """The digests of all items that are reached from these words, which are those of a body."""
+        """The items that are reached from these words, which are those of a body, in the order of their digests."""
         found, seen, types, waiting = set(), set(), set(), {}
         todo = [(word, True) for word in words]
 
@@ -207,4 +210,4 @@ class Grounds:
                     waiting.setdefault(of, []).append(it)
                 else:
                     take(it)
-        return sorted(it.digest for it in found)
+        return sorted(found, key=lambda it: it.digest)

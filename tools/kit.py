@@ -4,6 +4,8 @@ Nothing of rt's own code is used. Its commands are called as `rt help` tells of 
 `rattle check --help` and `rattle build --help` do. So the tools go with each kit that has these words. What two kits may
 say or do differently is asked of the kit, here and nowhere else.
 """
+import contextlib
+import fcntl
 import functools
 import hashlib
 import os
@@ -12,17 +14,27 @@ import shutil
 import signal
 import subprocess
 import sys
+import tempfile
 
+# The program logic by which these sources were proved, as `rt version` names it. Under another one they may not be proved: see
+# stop_on_other_logic. Whoever moves to a new logic writes it here once a gate has passed under it.
+LOGIC = "dac8208d650f15bf"
 PARTS = ("src", "specs", "proofs")
-# What the last line of a proved crate may not have here, where HANDLES allows nothing: each such word says that something
-# isn't proved, may not return, or is done by other means than files.
-NOT_HERE = ("foreign", "hides", "partial", "may-abort", "may-wait", "may-serve", "main", "bugs")
+# The words of the last line of a proved crate, as `rattle check --help` has them, that say nothing against it. The others say
+# that something isn't proved, may not return, or is done by other means than files, where HANDLES allows nothing; and a word
+# that isn't here may say so. Trusted is the kit, with what this run proved of the crates below.
+WORDS = ("logic", "tests", "functions", "axioms", "target", "cpu", "threads", "sum", "native")
+TRUSTED = ("logic-built", "libraries-built", "statements")
+# What the program says where nobody named the kit that proved it, in the file of its sources that is for this alone.
+KIT_FILE, UNNAMED = "src/kit.rt", "no kit is named, so this program is not known to be proved"
 # What rattle says where a library was built over others than those that are there.
 STALE = re.compile(r"module .Rattle-(\w+)-.*Run the lower steps again")
+# MB of a disk that have to be free where something is proved.
+ROOM = 10_000
 
 
 class Missing(Exception):
-    """Why there is no kit."""
+    """What is missing for a tool to do its work, in words that say what to do."""
 
 
 # ---- where it is, and which one
@@ -33,14 +45,18 @@ def home():
     """The folder of the kit."""
     rt = shutil.which("rt")
     if not rt:
-        raise Missing("rt is not on the PATH")
+        raise Missing("rt, the kit's command, is not on the PATH: put the bin/ of a kit there")
     return os.path.dirname(os.path.dirname(os.path.realpath(rt)))
 
 
 @functools.lru_cache(maxsize=None)
 def version():
-    """What the kit says that it is: its name and the sum of its program logic in the first line, and further sums."""
-    return subprocess.run(["rt", "version"], stdout=subprocess.PIPE, check=True, text=True).stdout.strip()
+    """What the kit says that it is: its name and the sum of its program logic in the first line, and maybe further sums."""
+    home()
+    ran = subprocess.run(["rt", "version"], capture_output=True, text=True, errors="replace")
+    if ran.returncode or not ran.stdout.strip():
+        raise Missing(f"rt version, of the kit in {home()}, ended with status {ran.returncode}: put that kit in order. {ran.stderr.strip()[-300:]}")
+    return ran.stdout.strip()
 
 
 def name():
@@ -50,19 +66,49 @@ def name():
 
 def logic():
     """The sum of the program logic by which the kit proves, or all that it says of itself where it names none."""
-    found = re.search(r"\blogic ([0-9a-f]{8,})", version())
+    found = re.search(r"\blogic ([0-9a-f]{8,})", version().splitlines()[0])
     return found[1] if found else version()
+
+
+def stop_on_other_logic():
+    """Stops where the kit's logic isn't the one by which the sources were proved, unless ANY_LOGIC=1 asks to go on."""
+    if logic() != LOGIC and os.environ.get("ANY_LOGIC") != "1":
+        raise Missing(
+            f"the sources were proved under the logic {LOGIC}, and the kit {name()} has {logic()}: take a kit of that logic, or set "
+            "ANY_LOGIC=1 to try whether they are proved under this one; bin/try runs the program unproved"
+        )
 
 
 @functools.lru_cache(maxsize=None)
 def tells_of(verb, word):
-    """Whether rattle's help on a command has the word."""
-    ran = subprocess.run([rattle(), verb, "--help"], stdout=subprocess.PIPE, stderr=subprocess.DEVNULL, text=True)
-    return word in ran.stdout
+    """Whether rattle's help on a command has the flag."""
+    ran = subprocess.run([rattle(), verb, "--help"], stdout=subprocess.PIPE, stderr=subprocess.DEVNULL, text=True, errors="replace")
+    return bool(re.search(rf"(?m)^ *{re.escape(word)}\b(?!-)", ran.stdout))
 
 
 def rattle():
     return f"{home()}/bin/rattle"
+
+
+def clang():
+    """The kit's C compiler. The linker that goes with it stands beside it."""
+    return f"{home()}/toolchain/bin/clang"
+
+
+def backend():
+    """The words after `rattle build` by which LLVM compiles what is proved."""
+    return ["--toolchain", f"{home()}/toolchain", "--backend", "llvm"]
+
+
+def c_libraries():
+    """What an object file that rattle made is linked with, besides the C library."""
+    return [f"{home()}/c/{it}" for it in ("libos_c.a", "liblibc_c.a")]
+
+
+def link_words(made, program):
+    """The words that link an object file that rattle made of a program."""
+    how = ["--target", "x86_64-unknown-linux-gnu", "--toolchain", f"{home()}/toolchain"]
+    return [f"{home()}/bin/rattle-link", *how, "-o", program, made, *c_libraries()]
 
 
 # ---- crates
@@ -81,19 +127,18 @@ class Crate:
         self.is_program = os.path.isfile(f"{self.folder}/src/main.rt")
         # (where the kit's own commands have it, too)
         self.rlib = f"{self.folder}/out/rlib/{name}.rlib"
-        self.deps, self.of_kit, self.kept_key = [], ["std"], None
+        self.deps, self.of_kit, self.kept_key, self.kept_below = [], ["std"], None, None
 
     def below(self):
         """The crates below it, each after those that it uses."""
-        found = {}
-        for dep in self.deps:
-            found.update({it.name: it for it in [*dep.below(), dep]})
-        return [*found.values()]
+        if self.kept_below is None:
+            self.kept_below = [*{it.name: it for dep in self.deps for it in [*dep.below(), dep]}.values()]
+        return self.kept_below
 
     def files(self):
         """Its sources, definitions and proofs."""
         folders = [f"{self.folder}/{part}" for part in PARTS]
-        return sorted(f"{at}/{name}" for folder in folders for at, _, names in os.walk(folder) for name in names)
+        return sorted(f"{at}/{name}" for folder in folders for at, _, names in os.walk(folder, followlinks=True) for name in names)
 
     def lines(self):
         """How many lines its sources have."""
@@ -111,8 +156,9 @@ class Crate:
         """Whether its library is there and is what rt ci left: one of other commands has a stamp, and its proofs."""
         return os.path.isdir(self.rlib) and not os.path.isfile(f"{self.folder}/out/rlib/stamp")
 
-    def words(self, tests=False):
-        """The words after `rattle check` and `rattle build` that say what the crate is and stands on."""
+    def words(self, tests=False, checks=True):
+        """The words after `rattle check` and `rattle build` that say what the crate is and stands on. One that takes over an
+        earlier check checks nothing."""
         words = ["--crate-name", self.name, f"src/{'main' if self.is_program else 'lib'}.rt"]
         for it in self.of_kit:
             words += ["--extern", f"{it}={home()}/rlibs/{it}.rlib"]
@@ -121,30 +167,39 @@ class Crate:
             words += ["--extern", f"{it.name}={it.rlib}"]
         for it in self.below():
             words += ["-L", f"dependency={os.path.dirname(it.rlib)}"]
-        words += ["--antt-project", f"{home()}/rattle/logic/antt-project.json", "--logic-built", f"{home()}/logic_built"]
-        words += ["--test"] * tests
+        words += ["--antt-project", f"{home()}/rattle/logic/antt-project.json"]
+        words += ["--logic-built", f"{home()}/logic_built"] * checks + ["--test"] * tests
         # (that it is linked with nothing of its own, so that C functions of its own are refused)
         return [*words, "--links", f"{self.name}="] if tells_of("check", "--links") else words
 
-    def key(self, anew=False):
-        """A sum of all that its proof rests on: the kit, and the files of the crate and of those below. Its own files are read once, or anew."""
-        if anew or not self.kept_key:
-            files = [(os.path.relpath(it, self.folder), sum_of(it)) for it in self.files()]
-            self.kept_key = hashlib.sha256(repr((version(), self.name, self.uses, files, [it.key() for it in self.deps])).encode()).hexdigest()
+    def key(self):
+        """A sum of all that its proof rests on: the kit, and the files of the crate and of those below, as they were at the first call."""
+        if not self.kept_key:
+            self.kept_key = self.key_now()
         return self.kept_key
+
+    def key_now(self):
+        """The same with the crate's own files as they are."""
+        files = [(os.path.relpath(it, self.folder), sum_of(it)) for it in self.files()]
+        return hashlib.sha256(repr((version(), self.name, self.uses, files, [it.key() for it in self.deps])).encode()).hexdigest()
 
 
 def crates(top):
     """The crates that crates.txt lists, each after those that it uses."""
+    if not os.path.isfile(f"{top}/crates.txt"):
+        raise Missing(f"there is no {top}/crates.txt: take a whole checkout")
     rows = re.findall(r"(?m)^(\w+)[^:#\n]*:([^#\n]*)", text_of(f"{top}/crates.txt"))
     made = {name: Crate(top, name, below.split()) for name, below in rows}
     for crate in made.values():
         crate.deps = [made[it] for it in crate.uses if it in made]
-        crate.of_kit += [it for it in crate.uses if it not in made]
+        crate.of_kit += [it for it in crate.uses if it not in made and it != "std"]
         lost = [it for it in crate.of_kit if not os.path.isdir(f"{home()}/rlibs/{it}.rlib")]
         if lost:
-            raise Missing(f"{crate.name} uses {lost[0]}, which is neither in crates.txt nor in the kit")
-    return sorted(made.values(), key=lambda it: len(it.below()))
+            raise Missing(f"the crate {crate.name} uses {lost[0]}, which is neither in crates.txt nor in the kit {name()}: list it, or take a kit that has it")
+    try:
+        return sorted(made.values(), key=lambda it: len(it.below()))
+    except RecursionError:
+        raise Missing("crates.txt has crates that use each other in a circle") from None
 
 
 def sum_of(file):
@@ -181,29 +236,103 @@ def called(words, folder, hears=None, **how):
     return ran.returncode, "".join(said), usage.ru_utime + usage.ru_stime
 
 
-def proved(words, folder, jobs, hears=None):
-    """Calls rattle, once more with one process where it was killed, most likely for memory; answers whether the crate is proved."""
-    status, said, _ = called([rattle(), *words, "--jobs", str(jobs)], folder, hears)
-    if status == -signal.SIGKILL:
-        status, said, _ = called([rattle(), *words, "--jobs", "1"], folder, hears)
+def remove(path):
+    """Removes a file or a folder, where it is there."""
+    if os.path.isdir(path):
+        shutil.rmtree(path)
+    elif os.path.lexists(path):
+        os.remove(path)
+
+
+def proved(words, made, folder, jobs, hears):
+    """Has rattle prove a crate and write what it makes of it. Does so once more with one process where it was killed, most
+    likely for memory. Answers whether the crate is proved."""
+    for many in (jobs, 1):
+        remove(made)
+        status, said, _ = called([rattle(), *words, "--jobs", str(many), "-o", made], folder, hears)
+        if status != -signal.SIGKILL:
+            break
+    if status == 0 and not is_proved(status, said):
+        hears(f"rt: nothing is taken for proved whose last line says {' '.join(against(last_line(said))) or 'nothing of the logic'}\n")
     return is_proved(status, said)
 
 
+def last_line(said):
+    return said.rstrip("\n").rpartition("\n")[2]
+
+
+def against(line):
+    """The words of the last line of a proved crate by which something may be left out of what is proved."""
+    pairs = [it.partition("=") for it in line.split()]
+    return ["".join(it) for it in pairs if it[0] not in (TRUSTED if it[2] == "trusted" else WORDS)]
+
+
 def is_proved(status, said):
-    """Whether rattle proved the crate, with nothing taken for granted but the kit."""
-    last = said.rstrip("\n").rpartition("\n")[2]
-    words = {it.partition("=")[0] for it in last.split()}
-    return status == 0 and last.startswith("logic=proved ") and not words & {*NOT_HERE}
+    """Whether rattle proved the crate, with nothing taken for granted but the kit and what was proved before."""
+    line = last_line(said)
+    return status == 0 and line.startswith("logic=proved ") and not against(line)
+
+
+@contextlib.contextmanager
+def named(program):
+    """A copy of a program's folder, for as long as it is proved there, whose sources name this kit. The program's own name
+    none: so what is built of them by other means, or proves nothing, doesn't say that it is proved."""
+    with tempfile.TemporaryDirectory(prefix="named-") as room:
+        for part in filter(lambda it: os.path.isdir(f"{program.folder}/{it}"), PARTS):
+            shutil.copytree(f"{program.folder}/{part}", f"{room}/{part}")
+        text = text_of(f"{room}/{KIT_FILE}")
+        if text.count(UNNAMED) != 1:
+            raise Missing(f"{program.name}/{KIT_FILE} is to have the line '{UNNAMED}' once: tools/made writes it")
+        with open(f"{room}/{KIT_FILE}", "w", encoding="utf-8") as it:
+            it.write(text.replace(UNNAMED, f"proved with {version().splitlines()[0]}"))
+        yield room
+
+
+def built(program, made, jobs, hears):
+    """Proves a program from nothing under the kit's name, over its proved libraries, and links it; answers whether both went well."""
+    with named(program) as folder:
+        return proved(["build", *program.words(), *backend()], f"{made}.o", folder, jobs, hears) and link(f"{made}.o", made, hears) == 0
 
 
 def link(made, program, hears=None):
     """Links an object file that rattle made of a program; answers the status."""
-    libraries = [f"{home()}/c/{it}" for it in ("libos_c.a", "liblibc_c.a")]
-    how = ["--target", "x86_64-unknown-linux-gnu", "--toolchain", f"{home()}/toolchain"]
-    return called([f"{home()}/bin/rattle-link", *how, "-o", program, made, *libraries], os.path.dirname(program), hears)[0]
+    return called(link_words(made, program), os.path.dirname(program), hears)[0]
 
 
 # ---- what the machine has
+
+
+def lanes():
+    """How many processes are to be at work: RT_JOBS, or one a processor."""
+    said = os.environ.get("RT_JOBS") or str(processors())
+    if not re.fullmatch(r"0*[1-9]\d*", said):
+        raise Missing(f"RT_JOBS is {said}: set it to how many processes are to be at work, or not at all")
+    return int(said)
+
+
+def stop_on_no_room(*folders):
+    """Stops where one of the folders can't be written, or its disk has not enough room for proofs."""
+    for it in folders:
+        try:
+            with tempfile.TemporaryFile(dir=it):
+                pass
+        except OSError as why:
+            raise Missing(f"{it} cannot be written ({why.strerror}): work in a copy that can, or set TMPDIR where it is for other files") from why
+        if free_on_disk(it) < ROOM:
+            raise Missing(f"the disk of {it} has {free_on_disk(it)} MB free, and proofs want {ROOM}: make room there")
+
+
+@contextlib.contextmanager
+def alone(file, tell):
+    """Holds the lock of a file. Where another call has it, tells that this one waits, and waits."""
+    os.makedirs(os.path.dirname(file), exist_ok=True)
+    with open(file, "a", encoding="utf-8") as it:
+        try:
+            fcntl.flock(it, fcntl.LOCK_EX | fcntl.LOCK_NB)
+        except BlockingIOError:
+            tell("another call is at work here: waiting until it ends")
+            fcntl.flock(it, fcntl.LOCK_EX)
+        yield
 
 
 def number_in(file, pattern):

@@ -1,15 +1,21 @@
 """What the program and its manual page say of the commands, of docs/COMMANDS.md, and the schemas that the program prints.
 
-crates/program_texts/src/guides.rt has the list of the commands, a text for each, and the version, whose name is in CHANGELOG.md
-and whose kit in README.md; schemas.rt beside it has the files of docs/schema. The list stands in docs/GUIDE.md too, and in
-the completions. Of docs/mctpplan.1 what stands between two comments each is made: the synopsis and the commands.
+crates/program_texts/src/guides.rt has the list of the commands, a text for each, and the version, of CHANGELOG.md; schemas.rt
+beside it has the files of docs/schema. The list stands in docs/GUIDE.md too, and in the completions. Of docs/mctpplan.1
+what stands between two comments each is made: the synopsis and the commands. Of crates/mctpplan/src/kit.rt it is the text,
+which names no kit: tools/kit.py puts a kit's name into a copy.
 """
 import pathlib
 import re
+import sys
 import textwrap
 
 TOP = pathlib.Path(__file__).resolve().parent.parent.parent
+sys.path.insert(0, str(TOP / "tools"))
+import kit  # noqa: E402
+
 SOURCE = "docs/COMMANDS.md"
+PROGRAM_KIT = f"crates/mctpplan/{kit.KIT_FILE}"
 GUIDES = "crates/program_texts/src/guides.rt"
 SCHEMAS = "crates/program_texts/src/schemas.rt"
 MANUAL = "docs/mctpplan.1"
@@ -97,11 +103,22 @@ def schema(kind):
     return text_of(f"docs/schema/{kind}.schema.json")
 
 
+def version_name(changes):
+    """The latest release that CHANGELOG.md tells of, and whether anything came later."""
+    heads = re.findall(r"(?ms)^## (\S+)[^\n]*\n(.*?)(?=^## |\Z)", changes)
+    later = heads[0][1].strip() if heads[0][0] == "Unreleased" else ""
+    released = next((name for name, _ in heads if name != "Unreleased"), None)
+    return f"{released} and later changes" if released and later else released or "unreleased"
+
+
 def version():
-    name = re.search(r"(?m)^## (\S+)", text_of("CHANGELOG.md"))[1].lower()
-    # (the README may break the line within it)
-    kit = re.sub(r"\s+", " ", re.search(r"rattle-kit-\S+\s+logic\s+[0-9a-f]+", text_of("README.md"))[0])
-    return f"mctpplan {name}\n{READ}\nproved with {kit}\n"
+    """What `version` prints but for its last line, which is of the kit."""
+    return f"mctpplan {version_name(text_of('CHANGELOG.md'))}\n{READ}\n"
+
+
+def without_kit():
+    """The file of the kit's name, with none."""
+    return re.sub(r'"[^"\n]*\\n"', lambda _: f'"{kit.UNNAMED}\\n"', text_of(PROGRAM_KIT))
 
 
 def between(text, begin, made, end):
@@ -148,7 +165,7 @@ def guides(found):
     made = [
         "//! What is said of the commands. `tools/made` writes this file from docs/COMMANDS.md.",
         f"/// The commands, a line each with its words.\npub const GUIDE: &str = {literal(''.join(it.listed() for it in found))};",
-        f"/// The version, the formats that are read, and the kit.\npub const VERSION: &str = {literal(version())};",
+        f"/// The version, and the formats that are read.\npub const VERSION: &str = {literal(version())};",
         *choosing("guide_to", "What is said of a command, if it is one.", "command", constants),
     ]
     return "\n\n".join(made) + "\n"
@@ -171,4 +188,5 @@ def made():
     """The text of each file."""
     found = entries()
     page = between(text_of(LIST), "$ bin/mctpplan guide\n", "".join(it.listed() for it in found), "```")
-    return {GUIDES: guides(found), SCHEMAS: schemas(), MANUAL: manual(found), LIST: page, **completions(found)}
+    made = {GUIDES: guides(found), SCHEMAS: schemas(), MANUAL: manual(found), LIST: page, PROGRAM_KIT: without_kit()}
+    return {**made, **completions(found)}

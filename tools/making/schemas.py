@@ -1,4 +1,4 @@
-"""The bounds in the schemas of plans, certificates and events, of the table in crates/net_json/src/tables.rt.
+"""The bounds in the schemas of plans, certificates and events, of the table in crates/net_plan/src/tables.rt.
 
 Numbers, the most items of lists, and the keys that an object has to have come from the table, whose definition in specs/
 is proved to say the same. All else in docs/schema is written by hand.
@@ -8,7 +8,7 @@ import pathlib
 import re
 
 TOP = pathlib.Path(__file__).resolve().parent.parent.parent
-TABLES = "crates/net_json/src/tables.rt"
+TABLES = "crates/net_plan/src/tables.rt"
 TOKEN = re.compile(r'\s*("\w+"|[\w:]+!?|[(){}\[\],&;=|])')
 
 

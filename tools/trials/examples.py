@@ -3,9 +3,9 @@
 The documents are README.md, docs/*.md and the examples' README.md. In a block that begins ```console a line
 `$ COMMAND` is run, and the lines up to the next one are what it must print on standard output and standard error
 together. A line that ends with a backslash goes on in the next one. The commands of a document run one after another
-in a folder that stands for the top of the repository, so that what they write stays outside of it. With --program the
-commands that call bin/try are left out, since it builds a program of its own; of the program of an archive of a release
-the archive's own documents are tried.
+in a folder that stands for the top of the repository, so that what they write stays outside of it. A program that is
+built, or is given with --program, stands in for bin/try too, but for what that says of itself. With the program of a
+release, the documents of that release are tried.
 """
 import os
 import pathlib
@@ -16,7 +16,8 @@ import tempfile
 
 from runner import TOP
 
-PROGRAM = "bin/mctpplan"
+PROGRAM, UNPROVED = "bin/mctpplan", "bin/try"
+SAID = "mctpplan: nothing is proved here; bin/mctpplan proves and builds the program\n"
 
 
 def shown_commands(text):
@@ -25,6 +26,13 @@ def shown_commands(text):
         for part in re.split(r"^\$ ", block, flags=re.M)[1:]:
             command, output = re.fullmatch(r"((?:.*\\\n)*.*)\n((?:.*\n)*)", part).groups()
             yield command, output
+
+
+def proved(commands):
+    """Commands that call bin/try, and what is shown for them, as bin/mctpplan in its place does."""
+    for command, output in commands:
+        is_unproved = UNPROVED in command
+        yield (command.replace(UNPROVED, PROGRAM), output.replace(SAID, "", 1)) if is_unproved else (command, output)
 
 
 def printed(commands, stand_in, top):
@@ -41,10 +49,13 @@ def printed_at(desk, command):
 
 
 def try_all(trial):
-    archive = pathlib.Path(trial.given or TOP).resolve().parent.parent
-    top = archive if trial.given and (archive / "README.md").exists() else TOP
+    folder = pathlib.Path(trial.given or TOP).resolve().parent.parent
+    # (an archive has its documents at its top, and a package in its folder of documents)
+    tops = [folder, folder / "share/doc/mctpplan"] if trial.given else []
+    top = next((it for it in tops if (it / "README.md").exists()), TOP)
     paths = [top / "README.md", *sorted(top.glob("docs/*.md")), *sorted(top.glob("examples/*/README.md"))]
     for name in filter(trial.has, (str(it.relative_to(top)) for it in paths)):
-        rows = [it for it in shown_commands((top / name).read_text()) if not (trial.given and "bin/try" in it[0])]
+        rows = [*shown_commands((top / name).read_text())]
+        rows = rows if trial.is_unproved else [*proved(rows)]
         for (command, output), answer in zip(rows, printed([it for it, _ in rows], shlex.join(trial.program), top)):
             trial.note(answer == output, f"{name}: {command}\nshown:\n{output}printed:\n{answer}")

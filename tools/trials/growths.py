@@ -8,7 +8,7 @@ between them, with that one refused, and once more with all from that one on, un
 pass: the test itself wants the answer or want of memory, and where nothing is refused the answer is wanted. Then each
 command of the program is run so, over all its growths: it must answer as with ample memory, or end with status 3 and
 'no memory' and nothing on standard output, but that sim and simmove have written whole lines of the outcomes that were
-played before.
+played before. Where a growth and all after it are refused, a later one leaves no fewer lines, and the last all but one.
 
 Each call and each command has a line with how many growths it has and what came of refusing them. The words choose among
 the crates of tests and the commands.
@@ -16,11 +16,14 @@ the crates of tests and the commands.
 import os
 import pathlib
 import re
-import shutil
 import subprocess
+import sys
 import threading
 
 from runner import TOP, Failed, commands, each
+
+sys.path.insert(0, str(TOP / "tools"))
+import kit  # noqa: E402
 
 CRATES = ("message_tests", "network_tests")
 # What a program takes memory by, besides the two that are refused.
@@ -28,16 +31,18 @@ OTHER_WAYS = {"calloc", "reallocarray", "aligned_alloc", "posix_memalign", "mema
 NO_MEMORY = (3, b"no memory\n")
 # What writes lines before it ends.
 WRITES_LINES = ("sim", "simmove")
+LACKED, LACKED_LATER = "no memory", "no memory after some lines"
 
 
 def compiled(room):
     """The library that refuses, made by the kit's own compiler, which links the programs too."""
-    if not shutil.which("rt"):
-        raise Failed("rt is not on the PATH, so no growth was refused")
-    kit = pathlib.Path(shutil.which("rt")).resolve().parent.parent / "toolchain/bin"
+    try:
+        clang = kit.clang()
+    except kit.Missing as why:
+        raise Failed(f"{why}; no growth was refused") from why
     made = f"{room}/refuse.so"
-    flags = ["-O1", "-shared", "-fPIC", "-nostdlib", "-fuse-ld=lld", f"-B{kit}"]
-    ran = subprocess.run([kit / "clang", *flags, "-o", made, TOP / "tools/trials/refuse.c"], capture_output=True, text=True)
+    flags = ["-O1", "-shared", "-fPIC", "-nostdlib", "-fuse-ld=lld", f"-B{os.path.dirname(clang)}"]
+    ran = subprocess.run([clang, *flags, "-o", made, TOP / "tools/trials/refuse.c"], capture_output=True, text=True)
     if ran.returncode:
         raise Failed(f"refuse.c is not compiled, so no growth was refused: {ran.stderr}")
     return made
@@ -146,13 +151,28 @@ def try_command(trial, refusing, words):
         is_begun = whole[1].startswith(output) and (not output or output.endswith(b"\n"))
         if (status, error) != NO_MEMORY or not is_begun or output and not writes_lines:
             return None
-        return "no memory after some lines" if output else "no memory"
+        return LACKED_LATER if output else LACKED
 
     growths, tried = in_turn(refusing, words, "all", judge)
     judged(trial, name, growths, tried)
     trial.note(whole[0] <= 1, f"{name}: status {whole[0]} with ample memory")
-    has_begun = any(it[3] == "no memory after some lines" for it in tried)
-    trial.note(has_begun or not writes_lines, f"{name}: no run has written what was played before")
+    if writes_lines:
+        note_lines(trial, name, whole[1].count(b"\n"), tried)
+
+
+def note_lines(trial, name, whole, tried):
+    """Whether later growths leave more lines, up to all but one.
+
+    All events are played before the first line is made. So where one growth alone is refused, there are the lines of what
+    was played until then, and then anew those that were made until then. Where all after it are refused too, no line is
+    made of what was played, and the lines never get fewer.
+    """
+    for what, goes_on in (("alone", False), ("with all after it", True)):
+        lines = [ran[1].count(b"\n") for _, on, _, came, ran in tried if on == goes_on and came in (LACKED, LACKED_LATER)]
+        fewer = sum(later < earlier for earlier, later in zip(lines, lines[1:]))
+        told = f"{name}: of {whole} lines, each growth refused {what}: {lines}"
+        trial.note(fewer <= (0 if goes_on else 1), f"{told}: they get fewer {fewer} times")
+        trial.note(lines[-1:] == [whole - 1], f"{told}: the last isn't all but one")
 
 
 def try_all(trial):

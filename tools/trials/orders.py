@@ -1,6 +1,6 @@
 """Networks in more orders than can be written down: what comes of each. Each order is one item:
 
-    lines     a request along a line of bridges, for each length from 2 to 64
+    lines     a line of bridges, for each length from 2 to 64: its certificate, to the byte, and a request along it
     switches  packets on their way while six bridges switch to new rows, in each of the 720 orders of switches
     packets   the five packets of a message: each choice of them, in each order, one of them twice or none (3,751)
     parts     messages of other numbers of packets: two of six come, and four of 1,024 bytes
@@ -112,12 +112,24 @@ def line_of(count):
     return plan_of([f"b{at}" for at in range(1, count)], nodes)
 
 
+def ranks_of_line(count):
+    """The text of the line's certificate: in it each bridge's rank for the endpoint ID of another is their distance."""
+    ranks = [
+        {"node": f"n{at}", "ranges": [{"first": 8 + to, "rank": abs(to - at), "size": 1} for to in range(count) if to != at]}
+        for at in range(count)
+    ]
+    return json.dumps({"format": 1, "levels": [], "places": [], "ranks": ranks}, separators=(",", ":"))
+
+
 def try_line(program, count):
-    """A request of the first bridge comes whole at the last, with as many moves as there are bridges."""
+    """The certificate has the distances and no other rank, `check` accepts it, and a request of the first bridge comes
+    whole at the last, with as many moves as there are bridges."""
+    plan, certificate = program.certified(line_of(count))
     request = bytes([1, count + 7, 8, 0xCB, 1, 0x80, 0, 2])
-    came = program.played("sim", program.certified(line_of(count)), [put("n0", request), *[move(1)] * count])
+    came = program.played("sim", (plan, certificate), [put("n0", request), *[move(1)] * count])
     hops = [f"moved 1 to n{at} hops {at}" for at in range(1, count)]
-    return came == ["put 1 at n0", *hops, f"whole 1 at n{count - 1} bytes 01800002"]
+    is_ranked = certificate.read_text() == ranks_of_line(count) + "\n" and program.lines("check", plan, certificate) == ["yes"]
+    return is_ranked and came == ["put 1 at n0", *hops, f"whole 1 at n{count - 1} bytes 01800002"]
 
 
 # ---- switches

@@ -1,11 +1,13 @@
 """The rows in tests/: plans, certificates and events, and what the program prints for them.
 
-More rows run `code`, `guide`, `schema` and `version`, which are to print what docs/ say: known.rows.
+More rows run `code`, `guide`, `schema` and `version`, which are to print what docs/ say: known.rows. The last line of
+`version` names the kit that proved the program, or says that none is named; a program that nobody proved names none.
 
 tests/README.md says how rows are written. All that is printed is compared, on standard output and on standard error,
 and the status.
 """
 import codecs
+import functools
 import importlib.machinery
 import json
 import pathlib
@@ -27,11 +29,12 @@ class Row:
 
 
 class Scene:
-    """A title, the words of a command, the texts that they name, those given as words and not as files, and rows."""
+    """A title, the words of a command, the texts that they name, those given as words and not as files, the one that is
+    given on standard input, and rows."""
 
     def __init__(self, title):
         self.title, self.words, self.texts, self.as_words, self.rows = title, [], {}, set(), []
-        self.folder = None
+        self.folder = self.as_input = None
 
     def last_text(self):
         """The name of the text that the rows change or fill: the last one that was set."""
@@ -57,6 +60,8 @@ class Case:
     def word(self, word, path_of):
         if word not in self.texts:
             return word
+        if word == self.scene.as_input:
+            return "-"
         text = self.texts[word]
         return text.decode() if word in self.scene.as_words else path_of(word, text)
 
@@ -100,10 +105,16 @@ def wanted_of(row, words):
     errors = [it for it in row.wanted if it.startswith("unreadable ")]
     status = next((int(it.split()[1]) for it in row.wanted if it.startswith("status ")), 2 if errors else 0)
     # (`explain` is asked why a text doesn't read, and `make` why a board doesn't: they answer on standard output; `require`
-    # does so of its wishes)
-    errors = [] if words[0] in ("explain", "make") else [it for it in errors if not it.startswith("unreadable wanted")]
-    lines = [it for it in row.wanted if it not in errors and not it.startswith("status ")]
+    # does so of its wishes, and `decode` of its capture)
+    told = "unreadable wanted", "unreadable capture"
+    errors = [] if words[0] in ("explain", "make") else [it for it in errors if not it.startswith(told)]
+    lines = [versioned(it) for it in row.wanted if it not in errors and not it.startswith("status ")]
     return "".join(f"{it}\n" for it in lines), "".join(f"{it}\n" for it in errors), status
+
+
+def versioned(line):
+    """A wanted line with the program's version in the place of the word VERSION."""
+    return line.replace('"VERSION"', f'"{versions()[0]}"') if '"VERSION"' in line else line
 
 
 # ---- reading
@@ -140,6 +151,9 @@ def setting(scene, line, number):
     """A line between a scene's title and its rows."""
     key, _, value = line.partition(": ")
     kind, _, rest = value.partition(" ")
+    if kind == "input":
+        scene.as_input = key
+        kind, _, rest = rest.partition(" ")
     if key == "run":
         scene.words = value.split()
     elif key.isupper() and value == "folder":
@@ -245,17 +259,40 @@ def read(trial):
 
 
 def known():
-    """A case for each text that the program has of documents: of a code, in both cases, a command, a schema, the version."""
-    codes, commands = (importlib.machinery.SourceFileLoader(it, str(TOP / f"tools/making/{it}.py")).load_module() for it in ("codes", "commands"))
+    """A case for each text that the program has of documents: of a code, in both cases, a command, a schema."""
+    codes, commands = maker("codes"), maker("commands")
     rows = [(("code", word), text) for code, text in codes.texts() for word in (code, code.lower())]
     rows += [(("guide", name), text) for name, text in commands.told(commands.entries()).items()]
     rows += [(("schema", kind), commands.schema(kind)) for kind in commands.KINDS]
-    rows += [(("version",), commands.version())]
     for number, (words, text) in enumerate(rows, 1):
         scene, row = Scene("the documents have this of it"), Row(number)
         scene.words = [*words]
         row.given, row.wanted = [" ".join(words)], text.split("\n")[:-1]
         yield "known.rows", Case(scene, {}, [row])
+
+
+@functools.cache
+def maker(name):
+    """What makes texts of the program of documents."""
+    return importlib.machinery.SourceFileLoader(name, str(TOP / f"tools/making/{name}.py")).load_module()
+
+
+@functools.cache
+def versions():
+    """The program's version by itself, what `version` prints up to its last line, and that line where no kit is named."""
+    it = maker("commands")
+    return it.version_name(it.text_of("CHANGELOG.md")), it.version(), f"{it.kit.UNNAMED}\n"
+
+
+def try_version(trial):
+    """Compares what `version` prints, whose last line differs from build to build."""
+    _, lines, unnamed = versions()
+    status, output, error = trial.run(["version"])
+    last = output.decode().removeprefix(lines)
+    is_named = re.fullmatch(r"proved with rattle-kit-\S+ logic [0-9a-f]+\n", last) and not trial.is_unproved
+    wanted = f"{lines}{unnamed}" if trial.is_unproved else f"{lines}proved with KIT\nor\n{lines}{unnamed}"
+    told = f"version\nwanted:\n{wanted}printed:\n{output.decode()}{error.decode()}status {status}"
+    trial.note((status, error) == (0, b"") and (last == unnamed or is_named), told)
 
 
 def named_in(printed, paths):
@@ -273,6 +310,8 @@ def written_in(folder):
 
 
 def try_all(trial):
+    if trial.has("known.rows"):
+        try_version(trial)
     named = [*read(trial)]
 
     def run(case):
@@ -283,7 +322,7 @@ def try_all(trial):
             return paths[name]
 
         with tempfile.TemporaryDirectory(prefix="rows-") as folder:
-            status, output, error = trial.run(case.words(path_of, folder))
+            status, output, error = trial.run(case.words(path_of, folder), stdin=None, input=case.texts.get(case.scene.as_input, b""))
             written = written_in(folder) if case.scene.folder else ""
         return case.wrong(named_in(output, paths), named_in(error, paths), status, written)
 
