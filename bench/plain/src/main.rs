@@ -1,6 +1,6 @@
 //! Reads a plan, then a certificate or events of it where they are given, by serde's structs, and ends.
 //!
-//! It makes what `net_json` makes of the same texts: bytes for hex, indexes for names, numbers within their bounds. It
+//! It makes what `net_plan` makes of the same texts: bytes for hex, indexes for names, numbers within their bounds. It
 //! does not tell which fault a text has.
 //!
 //!     plain PLAN [certificate CERTIFICATE | events EVENTS]

@@ -10,10 +10,10 @@ use Rattle.byte_commands.specs.Decoding.{IsNotGiven, not_given}
 use Rattle.command_answers.specs.Answers.{Stream, AreGiven, IsFaultText}
 use Rattle.command_answers.specs.declared.status.Status.{Status}
 use Rattle.command_answers.specs.declared.status.Status.TheVariants as status
-use Rattle.net_json.specs.Texts.{Gave}
-use Rattle.net_json.specs.declared.stream.TextFault.{TextFault}
-use Rattle.net_plan.specs.declared.certificate.Certificate.{Certificate}
-use Rattle.net_plan.specs.declared.plan.Plan.{Plan}
+use Rattle.net_plan.specs.Texts.{Gave}
+use Rattle.net_plan.specs.declared.stream.TextFault.{TextFault}
+use Rattle.plan_values.specs.declared.certificate.Certificate.{Certificate}
+use Rattle.plan_values.specs.declared.plan.Plan.{Plan}
 use Rattle.net_rules.specs.Rules.{Accepts}
 use Rattle.audit_commands.specs.Buses.{IsBusOf, NamesNoBus}
 

@@ -1,6 +1,6 @@
 -- The bus that a name stands for.
 use Rattle.std.specs.Prelude.{ℕ, ⊤, List, Option, Some, None}
-use Rattle.net_plan.specs.declared.plan.Plan.{Plan}
+use Rattle.plan_values.specs.declared.plan.Plan.{Plan}
 use Rattle.net_tables.specs.Names.{IsFirstBus, IsNoBus}
 
 -- the bus of the name, where one is given

@@ -1,10 +1,10 @@
 //! The command `audit`: what captured devices said, laid beside a checked plan.
 ghost use Rattle.std.specs.Prelude.{◌≡◌, ◌≢◌, Option, IfOk, IfErr, map, option_map, string_bytes, codes};
 ghost use Rattle.std.specs.Cow.{cow_str_bytes};
-ghost use Rattle.net_json.specs.Stream.{HasRoom};
+ghost use Rattle.net_plan.specs.Stream.{HasRoom};
 ghost use Rattle.command_answers.specs.declared.status.Status.TheVariants.{Yes, Fault, Unreadable};
 ghost use Rattle.command_answers.specs.declared.refused.Refused.TheVariants as refused;
-ghost use Rattle.command_answers.specs.Answers.{stream, AreUnread, IsWithoutPlan};
+ghost use Rattle.command_answers.specs.Answers.{stream, AreUnread, IsWithoutPlan, AreWithoutCertificate};
 ghost use Rattle.command_answers.specs.Told.{ConcludesOnBoth};
 ghost use Rattle.audited_captures.specs.Audits.{difference_count};
 ghost use Rattle.audited_captures.specs.Lines.{line_value};
@@ -17,8 +17,8 @@ use bus_captures::{End, read_capture};
 use byte_commands::not_given;
 use command_answers::{Answer, Refused, Status, fault_answer, read_inputs, refuse, tell};
 use net_check::{Checked, check};
-use net_json::{Sink, Source, TEXT_LIMIT, read_within};
-use net_plan::{Certificate, Plan};
+use net_plan::{Sink, Source, TEXT_LIMIT, read_within};
+use plan_values::{Certificate, Plan};
 use std::alloc::Global;
 
 /// Says on `output` what the devices of a capture said and which of its packets aren't planned, laid beside a plan, or
@@ -48,6 +48,8 @@ pub fn run_audit<P: Source, C: Source, T: Source, O: Sink, E: Sink>(
         (output.new ≡ output.old) (errors.new ≡ errors.old) }
     ensures in_order { IsWithoutPlan (stream P.account plan.old plan.new)
         → (certificate.new ≡ certificate.old) × (capture.new ≡ capture.old) }
+    ensures certified_in_order { AreWithoutCertificate (stream P.account plan.old plan.new) (stream C.account certificate.old certificate.new)
+        → capture.new ≡ capture.old }
 {
     match read_inputs(alloc, plan, certificate) {
         Ok((plan, certificate)) => {

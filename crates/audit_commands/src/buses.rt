@@ -2,8 +2,8 @@
 ghost use Rattle.std.specs.Prelude.{IfOk, IfErr, option_map};
 ghost use Rattle.audit_commands.specs.Buses.{IsBusOf, NamesNoBus};
 
-use net_plan::Plan;
 use net_tables::lookup::bus_named;
+use plan_values::Plan;
 
 /// A name that no bus of a plan has.
 #[derive(Clone, Copy)]

@@ -3,9 +3,9 @@ use Rattle.std.proofs.Common.{◌≡◌, ℕ, ◌+◌, List, ◌++◌, length, a
 use Rattle.std.specs.Prelude.{Result, Ok, Err, IfOk, Option, Some, slice_get}
 use Rattle.std.proofs.lemmas.List.{map-append}
 use Rattle.bus_captures.specs.Values as captured
-use Rattle.net_plan.specs.declared.certificate.Certificate.{Certificate}
-use Rattle.net_plan.specs.declared.plan.Plan.{Plan}
-use Rattle.net_plan.specs.declared.nodes.Node.{Node}
+use Rattle.plan_values.specs.declared.certificate.Certificate.{Certificate}
+use Rattle.plan_values.specs.declared.plan.Plan.{Plan}
+use Rattle.plan_values.specs.declared.nodes.Node.{Node}
 use Rattle.mctp_control.specs.RouteEntries.{EntryValue}
 use Rattle.pdr_repository.specs.Records.{Entry}
 use Rattle.plan_exports.specs.TableAnswers.{AreEntriesOf}

@@ -3,16 +3,16 @@ use Rattle.std.proofs.Common.{◌≡◌, ℕ, zero, suc, ◌+◌, ◌<◌, ◌==
 use Rattle.std.specs.Prelude.{Option, Some, None, nat_lt}
 use Rattle.std.proofs.lemmas.Bool.{cases_Bool, cases_lt}
 use Rattle.std.proofs.lemmas.Bool.Decides.{nat_tests}
-use Rattle.mctp_bridge.specs.Rows.{Covers, Routes}
-use Rattle.mctp_bridge.specs.declared.device_kind.DeviceKind.{DeviceKind}
-use Rattle.mctp_bridge.specs.declared.device_kind.DeviceKind.TheVariants as device
-use Rattle.mctp_bridge.specs.declared.row.Hop.{Hop}
-use Rattle.mctp_bridge.specs.declared.row.TableRow.{TableRow}
-use Rattle.mctp_control.specs.Entries.{run_entry, own_entry, entry_before, lies_later, entries_to, row_entries, table_entries}
+use Rattle.mctp_routing.specs.Rows.{Covers, Routes}
+use Rattle.mctp_transport.specs.declared.device_kind.DeviceKind.{DeviceKind}
+use Rattle.mctp_transport.specs.declared.device_kind.DeviceKind.TheVariants as device
+use Rattle.mctp_routing.specs.declared.row.Hop.{Hop}
+use Rattle.mctp_routing.specs.declared.row.TableRow.{TableRow}
+use Rattle.mctp_bridge.specs.Entries.{run_entry, own_entry, entry_before, lies_later, entries_to, row_entries, table_entries}
 use Rattle.mctp_control.specs.RouteEntries.{EntryValue}
 use Rattle.mctp_control.specs.declared.route_entry.EntryKind.TheVariants as kind
-use Rattle.mctp_control.specs.declared.routing_entries.Neighbor.{Neighbor}
-use Rattle.net_plan.specs.declared.plan.Plan.{Plan}
+use Rattle.mctp_bridge.specs.declared.routing_entries.Neighbor.{Neighbor}
+use Rattle.plan_values.specs.declared.plan.Plan.{Plan}
 use Rattle.net_questions.proofs.WayLaws.{accepted_apart, one_hop}
 use Rattle.net_tables.specs.Routing.{rows_of}
 use Rattle.net_tables.specs.Rows.{RowsAreApart}
@@ -26,7 +26,7 @@ use Rattle.audited_captures.proofs.Booleans.{both_left, both_right}
 use Rattle.audited_captures.proofs.PacketLaws.{among_left, among_right, among_split}
 use Rattle.audited_captures.proofs.PlannedReadings.{matches}
 use Rattle.audited_captures.proofs.WholeAudits.{audit_matches}
-use Rattle.mctp_bridge.proofs.Apart.{routes_moved}
+use Rattle.mctp_routing.proofs.Apart.{routes_moved}
 
 -- ---- the entries of one row
 

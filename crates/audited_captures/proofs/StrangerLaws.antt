@@ -1,7 +1,7 @@
 -- Lines of devices that no node of the plan stands for.
 use Rattle.std.proofs.Common.{◌≡◌, ℕ, ◌<◌, ◌+◌, List, [], ◌∷◌, ◌++◌, length, arith, refl, ap, sym, subst, inl, inr, map, take, get_or}
 use Rattle.std.specs.Prelude.{Result, Ok, Err, IfOk}
-use Rattle.net_plan.specs.declared.plan.Plan.{Plan}
+use Rattle.plan_values.specs.declared.plan.Plan.{Plan}
 use Rattle.audited_captures.specs.Audits.{difference_count}
 use Rattle.audited_captures.specs.Exchanges.{ExchangeValue, exchange_value}
 use Rattle.audited_captures.specs.declared.exchanges.Exchange.{Exchange}

@@ -3,8 +3,8 @@ use Rattle.std.proofs.Common.{◌≡◌, ◌⊎◌, ℕ, ◌<◌, ◌+◌, Bool,
 use Rattle.std.specs.Prelude.{Option, Some, Result, Ok, Err, IfOk}
 use Rattle.bus_captures.specs.Values.{EntryValue}
 use Rattle.net_check.proofs.Lawful.{alone_by_rule}
-use Rattle.net_plan.specs.declared.certificate.Certificate.{Certificate}
-use Rattle.net_plan.specs.declared.plan.Plan.{Plan}
+use Rattle.plan_values.specs.declared.certificate.Certificate.{Certificate}
+use Rattle.plan_values.specs.declared.plan.Plan.{Plan}
 use Rattle.net_questions.proofs.WayLaws.{ways_are_alone}
 use Rattle.net_questions.specs.Ways.{IsWay}
 use Rattle.net_questions.specs.declared.step.WayStep.{WayStep}

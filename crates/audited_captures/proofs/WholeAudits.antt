@@ -4,8 +4,8 @@ use Rattle.std.specs.Prelude.{slice_get}
 use Rattle.std.proofs.lemmas.Bool.{cases_lt}
 use Rattle.std.proofs.lemmas.Option.{same_Some, slice_get_within}
 use Rattle.pdr_repository.specs.Records.{Entry}
-use Rattle.net_plan.specs.declared.nodes.Node.{Node}
-use Rattle.net_plan.specs.declared.plan.Plan.{Plan}
+use Rattle.plan_values.specs.declared.nodes.Node.{Node}
+use Rattle.plan_values.specs.declared.plan.Plan.{Plan}
 use Rattle.audited_captures.specs.Audits.{Heard, NodeFacts, AreFacts, AreLines, Empty, More, AreNodeLines, difference_count}
 use Rattle.audited_captures.specs.Lines.{LineValue}
 use Rattle.audited_captures.specs.Matching.{SaysAsPlanned, AuditMatches, MatchesAudit}

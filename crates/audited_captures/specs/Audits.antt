@@ -8,10 +8,10 @@ use Rattle.bus_captures.specs.declared.capture.End.{End}
 use Rattle.bus_captures.specs.declared.capture.End.TheVariants as end
 use Rattle.heard_captures.specs.Messages.{MessageValue, AreHeard}
 use Rattle.mctp_control.specs.RouteEntries as routes
-use Rattle.net_plan.specs.NodeValues.{name_bytes}
-use Rattle.net_plan.specs.declared.certificate.Certificate.{Certificate}
-use Rattle.net_plan.specs.declared.plan.Plan.{Plan}
-use Rattle.net_plan.specs.declared.nodes.Node.{Node}
+use Rattle.plan_values.specs.NodeValues.{name_bytes}
+use Rattle.plan_values.specs.declared.certificate.Certificate.{Certificate}
+use Rattle.plan_values.specs.declared.plan.Plan.{Plan}
+use Rattle.plan_values.specs.declared.nodes.Node.{Node}
 use Rattle.audited_captures.specs.Words.{WordValue, AreWords}
 use Rattle.audited_captures.specs.Exchanges.{ExchangeValue, AreExchanges}
 use Rattle.net_tables.specs.Repositories.{records_by_place}

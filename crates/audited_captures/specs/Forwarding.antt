@@ -1,12 +1,12 @@
 -- What it means that a bridge's routing table, as it was read, forwards as the plan's rows do.
 use Rattle.std.specs.Prelude.{◌≡◌, ℕ, ◌+◌, ◌<◌, ◌≤◌, List, [], Option, Some, map, slice_get}
 use Rattle.bus_captures.specs.Values as captured
-use Rattle.mctp_bridge.specs.Rows.{Routes}
-use Rattle.mctp_bridge.specs.declared.row.Hop.{Hop}
+use Rattle.mctp_routing.specs.Rows.{Routes}
+use Rattle.mctp_routing.specs.declared.row.Hop.{Hop}
 use Rattle.mctp_control.specs.RouteEntries.{EntryValue}
-use Rattle.net_plan.specs.declared.certificate.Certificate.{Certificate}
-use Rattle.net_plan.specs.declared.nodes.Node.{Node}
-use Rattle.net_plan.specs.declared.plan.Plan.{Plan}
+use Rattle.plan_values.specs.declared.certificate.Certificate.{Certificate}
+use Rattle.plan_values.specs.declared.nodes.Node.{Node}
+use Rattle.plan_values.specs.declared.plan.Plan.{Plan}
 use Rattle.net_rules.specs.Rules.{Accepts}
 use Rattle.net_tables.specs.Routing.{rows_of}
 use Rattle.net_tables.specs.Tables.{table_row}

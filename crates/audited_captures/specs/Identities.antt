@@ -6,9 +6,9 @@ use Rattle.std.specs.Fmt.{decimal}
 use Rattle.std.specs.List.{flat_map, list_any}
 use Rattle.mctp_control.specs.Requests.{CommandValue, SetsEid, GetsEid, AllocatesEids, GetsEntries}
 use Rattle.mctp_control.specs.Responses.{AnswerValue, EidSet, EidTold, PoolTold, EntriesTold, Failed}
-use Rattle.net_plan.specs.declared.nodes.Kind.{Kind}
-use Rattle.net_plan.specs.declared.nodes.Kind.TheVariants as kind
-use Rattle.net_plan.specs.declared.nodes.Pool.{Pool}
+use Rattle.plan_values.specs.declared.nodes.Kind.{Kind}
+use Rattle.plan_values.specs.declared.nodes.Kind.TheVariants as kind
+use Rattle.plan_values.specs.declared.nodes.Pool.{Pool}
 use Rattle.audited_captures.specs.Exchanges.{ExchangeValue}
 use Rattle.audited_captures.specs.Lines.{LineValue, difference, note, differences_or}
 

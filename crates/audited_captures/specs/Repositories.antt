@@ -1,7 +1,7 @@
 -- The records of a plan's nodes, and what is told of those of one node.
 use Rattle.std.specs.Prelude.{ℕ, List, map, Vec}
-use Rattle.net_plan.specs.NodeValues.{name_bytes}
-use Rattle.net_plan.specs.declared.nodes.Node.{Node}
+use Rattle.plan_values.specs.NodeValues.{name_bytes}
+use Rattle.plan_values.specs.declared.nodes.Node.{Node}
 use Rattle.pdr_repository.specs.Records.{Entry, entries}
 use Rattle.audited_captures.specs.Lines.{LineValue}
 use Rattle.audited_captures.specs.RecordParts.{RecordPartValue, AreRecordParts}

@@ -3,7 +3,7 @@ use Rattle.std.specs.Prelude.{◌≡◌, ◌⊎◌, ℕ, ◌-◌, ◌==◌, List
 use Rattle.std.specs.Fmt.{decimal}
 use Rattle.std.specs.List.{flat_map}
 use Rattle.bus_captures.specs.Values.{EntryValue}
-use Rattle.net_plan.specs.declared.plan.Plan.{Plan}
+use Rattle.plan_values.specs.declared.plan.Plan.{Plan}
 use Rattle.net_questions.specs.declared.step.WayStep.{WayStep}
 use Rattle.net_tables.specs.Routing.{Holds, IsHeld}
 use Rattle.net_tables.specs.Rows.{bus_of}

@@ -1,8 +1,8 @@
 -- How the code goes from one part of a walk to the next.
 use Rattle.std.specs.Prelude.{◌≡◌, ◌≢◌, ℕ, ◌==◌, List, true, false, Ok, Err, Option, None, Some}
 use Rattle.pdr_repository.specs.Walkers.{WalkState, Takes}
-use Rattle.pdr_repository.specs.declared.walk_fault.WalkProgress.{WalkProgress}
-use Rattle.pdr_repository.specs.declared.walk_fault.WalkProgress.TheVariants.{Done}
+use Rattle.pdr_repository.specs.declared.walk_fault.Step.{Step as WalkStep}
+use Rattle.pdr_repository.specs.declared.walk_fault.Step.TheVariants.{Done}
 use Rattle.pdr_repository.specs.declared.walk_fault.WalkFault.TheVariants.{OutOfMemory}
 use Rattle.audited_captures.specs.RecordParts.{RecordPartValue}
 use Rattle.audited_captures.specs.Walking.{is_due, asking}
@@ -23,7 +23,7 @@ ending_of (turn.Stops fault) = Some (ending.Stopped fault)
 abbrev pub TakesAnswer : WalkState → List ℕ → Turn → WalkState → Type 0
 TakesAnswer old answer turn.Other new = ⊥
 TakesAnswer old answer turn.Left new = ⊥
-TakesAnswer old answer turn.GoesOn new = (step : WalkProgress) × (step ≢ Done) × Takes old answer (Ok step) new
+TakesAnswer old answer turn.GoesOn new = (step : WalkStep) × (step ≢ Done) × Takes old answer (Ok step) new
 TakesAnswer old answer turn.Ends new = Takes old answer (Ok Done) new
 TakesAnswer old answer (turn.Stops fault) new = (fault ≢ OutOfMemory) × Takes old answer (Err fault) new
 

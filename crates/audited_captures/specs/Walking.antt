@@ -3,8 +3,8 @@ use Rattle.std.specs.Prelude.{◌≡◌, ◌≢◌, ℕ, ◌==◌, ◌&&◌, ◌
 use Rattle.std.specs.Prelude.{Option, None, Some, Ok, Err}
 use Rattle.pldm_message.specs.Pdrs.{PartRequest}
 use Rattle.pdr_repository.specs.Walkers.{WalkState, Takes, fresh}
-use Rattle.pdr_repository.specs.declared.walk_fault.WalkProgress.{WalkProgress}
-use Rattle.pdr_repository.specs.declared.walk_fault.WalkProgress.TheVariants.{Done}
+use Rattle.pdr_repository.specs.declared.walk_fault.Step.{Step as WalkStep}
+use Rattle.pdr_repository.specs.declared.walk_fault.Step.TheVariants.{Done}
 use Rattle.pdr_repository.specs.declared.walk_fault.WalkFault.{WalkFault}
 use Rattle.pdr_repository.specs.declared.walk_fault.WalkFault.TheVariants.{OutOfMemory}
 use Rattle.audited_captures.specs.RecordParts.{RecordPartValue}
@@ -60,7 +60,7 @@ pub data Walks (requester : ℕ) : WalkState → List RecordPartValue → Walked
   Left : (s : WalkState) (p : RecordPartValue) (ps : List RecordPartValue)
       → (p.requester == requester) ≡ true → is_due s p.asked.body ≡ false
       → Walks requester s (p ∷ ps) (Open s.records)
-  GoesOn : (s new : WalkState) (p : RecordPartValue) (ps : List RecordPartValue) (w : Walked) (step : WalkProgress)
+  GoesOn : (s new : WalkState) (p : RecordPartValue) (ps : List RecordPartValue) (w : Walked) (step : WalkStep)
       → (p.requester == requester) ≡ true → is_due s p.asked.body ≡ true → step ≢ Done
       → Takes (asking s p) p.answer (Ok step) new → Walks requester new ps w → Walks requester s (p ∷ ps) w
   Ends : (s new : WalkState) (p : RecordPartValue) (ps : List RecordPartValue)

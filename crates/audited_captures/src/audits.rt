@@ -2,7 +2,7 @@
 ghost use Rattle.std.specs.Prelude.{◌≡◌, ◌++◌, ◌<◌, ◌+◌, ◌==◌, ◌&&◌, IfOk, OnOk, map, length, slice_get, Some, string_bytes, codes, ◌∷◌, []};
 ghost use Rattle.std.specs.List.{flat_map};
 ghost use Rattle.bus_captures.specs.Values.{entry_value as bus_entry_value};
-ghost use Rattle.net_plan.specs.NodeValues.{name_bytes};
+ghost use Rattle.plan_values.specs.NodeValues.{name_bytes};
 ghost use Rattle.mctp_control.specs.RouteEntries.{entry_value};
 ghost use Rattle.audited_captures.specs.Exchanges.{exchange_value};
 ghost use Rattle.plan_exports.specs.PlannedTables.{HasLawfulRows};
@@ -28,8 +28,8 @@ use bus_captures::{Capture, End};
 use heard_captures::heard_messages;
 use mctp_control::{ControlAnswer, RouteEntry};
 use net_check::Checked;
-use net_plan::{Node, Plan};
 use plan_exports::planned_entries;
+use plan_values::{Node, Plan};
 use std::alloc::{AllocError, Global};
 
 /// What was captured, laid beside a checked plan: the lines of what each node said, in the plan's order, behind them

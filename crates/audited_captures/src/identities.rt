@@ -11,7 +11,7 @@ use crate::exchanges::Exchange;
 use crate::lines::{Line, add_difference, differences_or};
 use mctp_control::{ControlAnswer, ControlCommand};
 use mctp_transport::Eid;
-use net_plan::{Kind, Pool};
+use plan_values::{Kind, Pool};
 use std::alloc::{AllocError, Global};
 
 /// The answers of the device of an endpoint ID.

@@ -10,8 +10,8 @@ use crate::exchanges::Exchange;
 use crate::lines::{Line, add_difference};
 use mctp_control::{ControlAnswer, ControlCommand};
 use mctp_transport::Eid;
-use net_plan::Plan;
 use net_tables::lookup::is_held;
+use plan_values::Plan;
 use std::alloc::{AllocError, Global};
 
 /// A line for each answer to Set Endpoint ID of a device whose endpoint ID no node holds, neither the one that it was

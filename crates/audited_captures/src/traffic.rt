@@ -6,9 +6,9 @@ ghost use Rattle.audited_captures.specs.Traffic.{LacksSender, LacksReceiver, is_
 
 use mctp_transport::Eid;
 use net_check::Checked;
-use net_plan::Plan;
 use net_questions::{End, Way, WayStep, follow};
 use net_tables::lookup::{bus_at, holder, holds, is_held};
+use plan_values::Plan;
 use std::alloc::{AllocError, Global};
 
 /// Why packets from an endpoint ID to another aren't planned.

@@ -19,9 +19,9 @@ use crate::traffic::{Unplanned, judged};
 use bus_captures::Capture;
 use mctp_transport::Eid;
 use net_check::Checked;
-use net_plan::Plan;
 use net_questions::WayStep;
 use net_tables::lookup::{bus_at, bus_name, holder, node_name};
+use plan_values::Plan;
 use std::alloc::{AllocError, Global};
 
 /// What is told of the packets of a capture that a checked plan doesn't have on a bus, or on any bus where none is

@@ -8,7 +8,7 @@ ghost use Rattle.audited_captures.specs.WalkTurns.{TakesAnswer, TakesPart, endin
 
 use crate::record_parts::RecordPart;
 use mctp_transport::{Eid, Wire};
-use pdr_repository::{WalkFault, WalkProgress, Walker};
+use pdr_repository::{Step, WalkFault, Walker};
 use pldm_message::GetPdrRequest;
 use std::alloc::{AllocError, Global};
 
@@ -121,8 +121,8 @@ fn take_answer(walker: &mut Walker, answer: &[u8]) -> Result<Turn, AllocError>
     ensures { IfOk result (λ turn. TakesAnswer (state_of walker.old) answer.now turn (state_of walker.new)) }
 {
     match walker.take(answer) {
-        Ok(WalkProgress::Done) => Ok(Turn::Ends),
-        Ok(WalkProgress::More | WalkProgress::Record) => Ok(Turn::GoesOn),
+        Ok(Step::Done) => Ok(Turn::Ends),
+        Ok(Step::More | Step::Record) => Ok(Turn::GoesOn),
         Err(WalkFault::OutOfMemory) => Err(AllocError),
         Err(fault) => Ok(Turn::Stops(fault)),
     }

@@ -1,5 +1,5 @@
 //! What a board says: buses and nodes, with whatever is given of them.
-use net_plan::Kind;
+use plan_values::Kind;
 
 /// What an engineer says of a network.
 #[derive(Drop)]

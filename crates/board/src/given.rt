@@ -27,6 +27,7 @@ impl<'v> Given<'v> {
     pub fn fault(&self, key: &str, item: Option<usize>, wanted: &str) -> BoardError {
         match self.reason(key, item, wanted) {
             Ok(reason) => self.fault_of(key, item, reason),
+            // no memory: the text of the reason could not grow.
             Err(_) => BoardError::OutOfMemory,
         }
     }
@@ -42,6 +43,7 @@ impl<'v> Given<'v> {
     ) -> BoardError {
         match self.near_reason(key, item, wanted, name, known) {
             Ok(reason) => self.fault_of(key, item, reason),
+            // no memory: the text of the reason could not grow.
             Err(_) => BoardError::OutOfMemory,
         }
     }

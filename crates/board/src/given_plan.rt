@@ -2,7 +2,7 @@
 use crate::board::{
     Board, BoardBus, BoardNode, BoardPool, BoardPort, BoardRecord, BoardRow, RecordContent,
 };
-use net_plan::{Bus, Node, Plan, PlannedRecord, Pool, Port, Row};
+use plan_values::{Bus, Node, Plan, PlannedRecord, Pool, Port, Row};
 use std::alloc::{AllocError, Global};
 
 /// The board that gives all that a plan has, its rows too, and asks that all nodes reach each other.

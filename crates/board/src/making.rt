@@ -8,7 +8,7 @@ mod ways;
 use crate::board::{Board, BoardNode, BoardRow, RecordFile};
 use crate::writing::plan_text;
 use eids::choose_eids;
-use net_plan::Kind;
+use plan_values::Kind;
 use records::make_records;
 pub use records::named_files;
 use rows::{given_rows, make_rows};

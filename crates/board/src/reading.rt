@@ -4,7 +4,7 @@ use crate::fault::BoardError;
 use crate::given::{Given, nearest_of};
 use crate::items::{index_of, read_eids, read_port, read_row};
 use crate::record_words::read_records;
-use net_plan::{Kind, is_name};
+use plan_values::{Kind, is_name};
 use std::alloc::{AllocError, Global};
 use toml::{Table, Value};
 
@@ -297,6 +297,7 @@ fn port_fault(given: &Given, names: Names, index: usize, text: &str) -> BoardErr
     let (bus, address) = text.split_once(' ').unwrap_or((text, ""));
     match near_port(given, names, bus, address) {
         Ok(wanted) => given.fault("ports", Some(index), &wanted),
+        // no memory: the text of what is wanted could not grow.
         Err(_) => BoardError::OutOfMemory,
     }
 }
@@ -362,6 +363,7 @@ fn read_one_row(
 fn row_fault(given: &Given, names: Names, index: usize, text: &str) -> BoardError {
     match near_row(given, names, text) {
         Ok(wanted) => given.fault("rows", Some(index), &wanted),
+        // no memory: the text of what is wanted could not grow.
         Err(_) => BoardError::OutOfMemory,
     }
 }

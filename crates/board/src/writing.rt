@@ -1,7 +1,7 @@
 //! Writing a plan as a person would lay it out.
 use crate::board::{Board, BoardBus, BoardNode, BoardPort, BoardRow};
 use crate::making::{Chosen, MadePool, MadeRecord};
-use net_plan::Kind;
+use plan_values::Kind;
 use std::alloc::{AllocError, Global};
 
 /// The transmission unit of a plan that says none.

@@ -1,7 +1,7 @@
 -- Nodes that no hop leaves.
 use Rattle.std.proofs.Common.{◌≡◌, ◌≢◌, ◌⊎◌, ℕ, zero, suc, ◌<◌, List, Vec, length, Bool, true, Option, Some, slice_get, Result, Ok, Err, IfOk, IsTrue, subst, sym, inl, inr}
 use Rattle.std.specs.declared.alloc.Global.{Global}
-use Rattle.net_plan.specs.declared.plan.Plan.{Plan}
+use Rattle.plan_values.specs.declared.plan.Plan.{Plan}
 use Rattle.net_tables.specs.Routing.{IsBridge}
 use Rattle.toml.specs.Data.{Data}
 use Rattle.board_kept.specs.Made.{AsksFor, AreKindsAsSaid, GivesStep, IsCutOff}

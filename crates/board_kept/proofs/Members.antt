@@ -2,7 +2,7 @@
 use Rattle.std.proofs.Common.{◌≡◌, ℕ, List, ◌∷◌, String, Global, string_bytes, sym, subst}
 use Rattle.toml.specs.View.{view, members_view}
 use Rattle.toml.specs.declared.value.Value.{Value}
-use Rattle.net_plan.specs.declared.plan.Plan.{Plan}
+use Rattle.plan_values.specs.declared.plan.Plan.{Plan}
 use Rattle.record_fields.specs.Named.{Named}
 use Rattle.board_values.specs.Said.{AreKeys}
 use Rattle.board_kept.specs.Fields.{IsMemberGiven, AreMembersGiven}

@@ -4,10 +4,10 @@ use Rattle.std.proofs.lemmas.Bool.{cases_lt, cases_Bool, false≢true}
 use Rattle.std.proofs.lemmas.Option.{none-some}
 use Rattle.mctp_transport.specs.declared.address.Eid.{Eid}
 use Rattle.toml.specs.Data.{Data, as_str}
-use Rattle.net_plan.specs.declared.plan.Plan.{Plan}
-use Rattle.net_plan.specs.declared.nodes.Node.{Node}
+use Rattle.plan_values.specs.declared.plan.Plan.{Plan}
+use Rattle.plan_values.specs.declared.nodes.Node.{Node}
 use Rattle.board_values.specs.Said.{SaysText, item_at}
-use Rattle.net_plan.specs.declared.nodes.Row.{Row}
+use Rattle.plan_values.specs.declared.nodes.Row.{Row}
 use Rattle.board_kept.specs.Fields.{NamesHolder}
 use Rattle.board_kept.specs.Kept.{IsRowKeptAt, IsNameAt}
 use Rattle.board_kept.proofs.Beyond.{item_beyond}

@@ -4,7 +4,7 @@ use Rattle.std.specs.Prelude.{slice_get}
 use Rattle.std.proofs.Math.Seq.{drop-cons, drop-nil}
 use Rattle.std.proofs.lemmas.Option.{slice_get_within, get_or_from_slice_get}
 use Rattle.toml.specs.Data.{Data}
-use Rattle.net_plan.specs.declared.plan.Plan.{Plan}
+use Rattle.plan_values.specs.declared.plan.Plan.{Plan}
 use Rattle.record_fields.specs.Named.{Named}
 use Rattle.board_kept.specs.Fields.{AreNamed, AddsIfNamed, IsSaidAt, AreSaid, value_at}
 

@@ -4,8 +4,8 @@ use Rattle.std.proofs.lemmas.Bool.{cases_lt}
 use Rattle.std.proofs.lemmas.Option.{slice_get_within}
 use Rattle.mctp_transport.proofs.FirstIndexes.{get_front, get_last}
 use Rattle.std.specs.declared.alloc.Global.{Global}
-use Rattle.net_plan.specs.declared.plan.Plan.{Plan}
-use Rattle.net_plan.specs.declared.nodes.Port.{Port}
+use Rattle.plan_values.specs.declared.plan.Plan.{Plan}
+use Rattle.plan_values.specs.declared.nodes.Port.{Port}
 use Rattle.net_tables.specs.Routing.{ports_of}
 use Rattle.board_kept.specs.Ways.{AreNear, AreNeighbours, AreSenders, ComesOver, HaveReached, IsNearIn, IsPortOnBusOf, IsStepIn, NoneFewer, ShareBus, TurnsTo}
 

@@ -1,8 +1,8 @@
 -- Two plans of one frame, of whose nodes none is unlike.
 use Rattle.std.proofs.Common.{◌≡◌, ℕ, Option, Some, None, is_some, Bool, IsTrue, not}
-use Rattle.net_plan.specs.NodeValues.{but_rows}
-use Rattle.net_plan.specs.declared.plan.Plan.{Plan}
-use Rattle.net_plan.proofs.SameItems.{same_items}
+use Rattle.plan_values.specs.NodeValues.{but_rows}
+use Rattle.plan_values.specs.declared.plan.Plan.{Plan}
+use Rattle.plan_values.proofs.SameItems.{same_items}
 use Rattle.net_rules.specs.MoveRules.{HaveSameFrame, IsSameNode}
 use Rattle.net_rules.specs.MoveSearch.{IsFirstUnlike}
 use Rattle.board_kept.specs.Rowed.{IsSameButRows}

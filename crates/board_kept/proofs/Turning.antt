@@ -3,9 +3,9 @@ use Rattle.std.proofs.Common.{◌≡◌, ℕ, ◌<◌, ◌≤◌, List, [], ◌�
 use Rattle.std.specs.declared.alloc.Global.{Global}
 use Rattle.std.proofs.lemmas.Option.{same_Some}
 use Rattle.mctp_transport.proofs.FirstIndexes.{get_cases}
-use Rattle.net_plan.specs.declared.plan.Plan.{Plan}
+use Rattle.plan_values.specs.declared.plan.Plan.{Plan}
 use Rattle.toml.specs.Data.{Data}
-use Rattle.net_plan.specs.declared.nodes.Row.{Row}
+use Rattle.plan_values.specs.declared.nodes.Row.{Row}
 use Rattle.net_tables.specs.Routing.{eid_of, rows_of}
 use Rattle.net_reached.specs.Wishes.{ComesTo}
 use Rattle.board_kept.specs.Ways.{AreLeast, NoneFewer, ReachesBy, ReachesTurning, TurnsTo}

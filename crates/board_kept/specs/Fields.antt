@@ -4,8 +4,8 @@ use Rattle.std.specs.Prelude.{List, [], ◌∷◌, ◌++◌, codes, length, Opti
 use Rattle.std.specs.Prelude.{None, is_some, slice_get, string_bytes, ⊤}
 use Rattle.std.specs.Fmt.{decimal, signed_decimal}
 use Rattle.toml.specs.Data.{Data, Members, no_members, member, table, at, as_str, as_integer, as_array}
-use Rattle.net_plan.specs.declared.plan.Plan.{Plan}
-use Rattle.net_plan.specs.declared.nodes.Node.{Node}
+use Rattle.plan_values.specs.declared.plan.Plan.{Plan}
+use Rattle.plan_values.specs.declared.nodes.Node.{Node}
 use Rattle.pdr_record.specs.Records.{RecordValue, Spelled, type_of}
 use Rattle.record_fields.specs.Named.{Named, named_fields}
 use Rattle.record_fields.specs.Said.{Says, IsTypeWord}

@@ -2,10 +2,10 @@
 use Rattle.std.specs.Prelude.{◌≡◌, ◌≢◌, ◌⊎◌, ℕ, ◌<◌, List, codes, length, None, Some, slice_get}
 use Rattle.toml.specs.Data.{Data, get}
 use Rattle.board.specs.declared.board.RecordFile.{RecordFile}
-use Rattle.net_plan.specs.declared.plan.Plan.{Plan}
-use Rattle.net_plan.specs.declared.certificate.Certificate.{Certificate}
-use Rattle.net_plan.specs.declared.nodes.Port.{Port}
-use Rattle.net_plan.specs.declared.nodes.Row.{Row}
+use Rattle.plan_values.specs.declared.plan.Plan.{Plan}
+use Rattle.plan_values.specs.declared.certificate.Certificate.{Certificate}
+use Rattle.plan_values.specs.declared.nodes.Port.{Port}
+use Rattle.plan_values.specs.declared.nodes.Row.{Row}
 use Rattle.net_tables.specs.Ownership.{IsOwnedBy}
 use Rattle.net_tables.specs.Routing.{Covers, IsBridge, ports_of, rows_of}
 use Rattle.net_rules.specs.Rules.{Accepts}

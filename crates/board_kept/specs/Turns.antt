@@ -1,7 +1,7 @@
 -- Where what is given for each node's endpoint ID leads.
 use Rattle.std.specs.Prelude.{◌≡◌, ℕ, List, Vec, Option, Some, slice_get}
 use Rattle.std.specs.declared.alloc.Global.{Global}
-use Rattle.net_plan.specs.declared.plan.Plan.{Plan}
+use Rattle.plan_values.specs.declared.plan.Plan.{Plan}
 use Rattle.net_tables.specs.Routing.{Holds}
 use Rattle.board_kept.specs.Ways.{TurnsTo}
 

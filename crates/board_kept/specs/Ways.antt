@@ -2,8 +2,8 @@
 use Rattle.std.specs.Prelude.{◌≡◌, ◌≢◌, ◌⊎◌, ℕ, zero, suc, ◌+◌, ◌<◌, List, Vec, length, Bool, true, Option, Some}
 use Rattle.std.specs.Prelude.{slice_get}
 use Rattle.std.specs.declared.alloc.Global.{Global}
-use Rattle.net_plan.specs.declared.plan.Plan.{Plan}
-use Rattle.net_plan.specs.declared.nodes.Port.{Port}
+use Rattle.plan_values.specs.declared.plan.Plan.{Plan}
+use Rattle.plan_values.specs.declared.nodes.Port.{Port}
 use Rattle.net_tables.specs.Routing.{Holds, IsBridge, ports_of}
 use Rattle.net_tables.specs.Rows.{IsOnBus}
 use Rattle.net_questions.specs.Ways.{ArrivesAfter}

@@ -8,8 +8,8 @@ ghost use Rattle.board_kept.specs.Made.{ListsName, Asks, AsksFor, ListsRow, IsRo
 use crate::texts::{node_name, row_text};
 use board_values::{has_item, is_left_out, is_text, item};
 use mctp_transport::Eid;
-use net_plan::{Plan, Row};
 use net_tables::lookup::{covers, eid_at, row_at, rows_at};
+use plan_values::{Plan, Row};
 use std::alloc::{AllocError, Global};
 use toml::Value;
 

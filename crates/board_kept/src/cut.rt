@@ -11,8 +11,8 @@ use crate::rowed::turns_to as turns_before;
 use crate::texts::node_name;
 use crate::ways::{first_reached, is_next, is_step, neighbours};
 use board_values::{is_left_out, item};
-use net_plan::Plan;
 use net_tables::lookup::is_bridge;
+use plan_values::Plan;
 use std::alloc::{AllocError, Global};
 use toml::Value;
 

@@ -6,8 +6,8 @@ ghost use Rattle.net_tables.specs.Ownership.{IsOwnedBy};
 ghost use Rattle.board_kept.specs.Made.{IsMadeBridge, IsKindAsSaid, AreKindsAsSaid};
 
 use board_values::{has_item, is_left_out, item};
-use net_plan::Plan;
 use net_tables::lookup::{is_bridge, owner_at};
+use plan_values::Plan;
 use toml::Value;
 
 /// Whether each node that the board makes a bridge is one.

@@ -10,8 +10,8 @@ ghost use Rattle.board_kept.specs.Fields.{word_of, NamesHolder, StandsForText, I
 ghost use Rattle.board_kept.specs.Kept.{AreFieldsKept};
 
 use mctp_transport::{Eid, Wire};
-use net_plan::{Node, Plan};
 use pdr_record::Record;
+use plan_values::{Node, Plan};
 use record_fields::{NamedField, is_type, named_fields, says};
 use std::alloc::{AllocError, Global};
 use toml::{Table, Value};

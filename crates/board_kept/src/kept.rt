@@ -10,7 +10,7 @@ use crate::nodes::keeps_node;
 use crate::texts::binding_word;
 use board::RecordFile;
 use board_values::{is_list_at, item, says_number, says_or, says_text};
-use net_plan::{Bus, Plan};
+use plan_values::{Bus, Plan};
 use std::alloc::{AllocError, Global};
 use toml::Value;
 

@@ -13,8 +13,8 @@ use board_values::{
     eids_text, has_item, is_left_out, is_list_at, is_text, item, says_none_or, says_number,
     says_text,
 };
-use net_plan::{Kind, Node, Plan, Pool, Port, Row};
 use net_tables::lookup::kind_word;
+use plan_values::{Kind, Node, Plan, Pool, Port, Row};
 use std::alloc::{AllocError, Global};
 use toml::Value;
 

@@ -9,7 +9,7 @@ use crate::fields::are_fields_given;
 use crate::keys::{Level, has_only_keys};
 use board::RecordFile;
 use board_values::{is_left_out, is_list_at, item, says_or, says_text};
-use net_plan::{Node, Plan, PlannedRecord, PlannedTerminus};
+use plan_values::{Node, Plan, PlannedRecord, PlannedTerminus};
 use std::alloc::{AllocError, Global};
 use toml::Value;
 

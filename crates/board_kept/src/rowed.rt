@@ -1,6 +1,6 @@
 //! Whether a checked plan is another one with rows.
 ghost use Rattle.std.specs.Prelude.{◌≡◌, ◌<◌, [], IfOk, IfSome, IsTrue, OnOk, length};
-ghost use Rattle.net_plan.specs.NodeValues.{row_value};
+ghost use Rattle.plan_values.specs.NodeValues.{row_value};
 ghost use Rattle.net_tables.specs.Routing.{Routes};
 ghost use Rattle.board_kept.specs.Ways.{AreLeast, AreNear, ReachesBy};
 ghost use Rattle.board_kept.specs.Turns.{AreTurns, AreTurnsTo, HaveTurns};
@@ -11,8 +11,8 @@ use crate::same::is_same_but_rows;
 use crate::unfit::Unfit;
 use mctp_transport::Eid;
 use net_check::Checked;
-use net_plan::{Plan, Row};
 use net_tables::lookup::{covers, eid_at, row_at, rows_at};
+use plan_values::{Plan, Row};
 use std::alloc::{AllocError, Global};
 
 /// That a checked plan is another one but for its rows, in which it has those of the other, and that all its nodes

@@ -2,8 +2,8 @@
 ghost use Rattle.std.specs.Prelude.{IsTrue};
 ghost use Rattle.board_kept.specs.Rowed.{IsSameButRows};
 
-use net_plan::Plan;
 use net_rules::{first_unlike_node, have_same_frame};
+use plan_values::Plan;
 
 /// Whether two plans are the same but for their rows.
 pub fn is_same_but_rows(before: &Plan, after: &Plan) -> bool

@@ -4,7 +4,7 @@ ghost use Rattle.net_tables.specs.Names.{name_of_bus, name_of_node};
 ghost use Rattle.board_kept.specs.Texts.{binding_word, port_text, row_text};
 
 use board_values::eids_text;
-use net_plan::{Plan, Port, Row};
+use plan_values::{Plan, Port, Row};
 use std::alloc::{AllocError, Global};
 
 /// The word of a physical transport binding identifier (DSP0239), where it has one.

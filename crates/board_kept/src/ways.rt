@@ -2,8 +2,8 @@
 ghost use Rattle.std.specs.Prelude.{◌≡◌, ◌≢◌, ◌+◌, ◌<◌, ◌⊎◌, ◌++◌, ◌∷◌, [], ℕ, Contains, IfOk, OnOk, IsTrue, length, slice_get, Some, true};
 ghost use Rattle.board_kept.specs.Ways.{IsPortOnBusOf, ShareBus, SendsOn, TurnsTo, AreNeighbours, AreNear, IsNearIn, IsStepIn, IsSender, AreSenders, HaveReached, AreLeast, IsRaised, IsRaisedAt};
 
-use net_plan::Plan;
 use net_tables::lookup::{is_bridge, is_on_bus, port_at, ports_at};
+use plan_values::Plan;
 use std::alloc::{AllocError, Global};
 
 /// For each node a number of hops, than which no fewer lead there from one node. `near` has which nodes share a bus,

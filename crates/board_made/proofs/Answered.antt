@@ -2,7 +2,7 @@
 use Rattle.std.proofs.Common.{◌≡◌, ◌≢◌, ℕ, List, ◌++◌, String, Global, Option, Some, None, Result, Ok, Err, subst, sym}
 use Rattle.std.specs.Prelude.{IfOk, IfSome, codes, string_bytes}
 use Rattle.toml.specs.Data.{Data}
-use Rattle.net_plan.specs.declared.plan.Plan.{Plan}
+use Rattle.plan_values.specs.declared.plan.Plan.{Plan}
 use Rattle.net_rules.specs.declared.certify_error.CertifyError.{CertifyError}
 use Rattle.net_rules.specs.declared.certify_error.CertifyError.TheVariants as error
 use Rattle.net_rules.specs.Certificates.{NamesObstacle, RulesOutCertificates}

@@ -2,14 +2,14 @@
 use Rattle.std.specs.Prelude.{◌≡◌, ℕ, List, ◌++◌, codes, string_bytes}
 use Rattle.toml.specs.Data.{Data}
 use Rattle.board.specs.declared.board.RecordFile.{RecordFile}
-use Rattle.net_plan.specs.declared.plan.Plan.{Plan}
-use Rattle.net_plan.specs.declared.certificate.Certificate.{Certificate}
-use Rattle.net_plan.specs.CertificateValues.{certificate_value}
-use Rattle.net_plan.specs.PlanValues.{node_names, plan_value}
-use Rattle.net_json.specs.CertificateJson.{certificate_text}
-use Rattle.net_json.specs.CertificateText.{IsCertificateOf}
-use Rattle.net_json.specs.PlanText.{IsPlanOf}
-use Rattle.net_json.specs.Texts.{IsJsonTextOf}
+use Rattle.plan_values.specs.declared.plan.Plan.{Plan}
+use Rattle.plan_values.specs.declared.certificate.Certificate.{Certificate}
+use Rattle.plan_values.specs.CertificateValues.{certificate_value}
+use Rattle.plan_values.specs.PlanValues.{node_names, plan_value}
+use Rattle.net_plan.specs.CertificateJson.{certificate_text}
+use Rattle.net_plan.specs.CertificateText.{IsCertificateOf}
+use Rattle.net_plan.specs.PlanText.{IsPlanOf}
+use Rattle.net_plan.specs.Texts.{IsJsonTextOf}
 use Rattle.net_rules.specs.Certificates.{IsExact}
 use Rattle.board_values.specs.Said.{IsTomlOf}
 use Rattle.board_kept.specs.Made.{IsFitFor}

@@ -1,7 +1,7 @@
 -- Why no plan is made of a board, or of a plan that is to have rows.
 use Rattle.std.specs.Prelude.{◌≡◌, ◌⊎◌, ℕ, List, ◌++◌, codes, Some}
 use Rattle.toml.specs.Data.{Data}
-use Rattle.net_plan.specs.declared.plan.Plan.{Plan}
+use Rattle.plan_values.specs.declared.plan.Plan.{Plan}
 use Rattle.net_rules.specs.declared.certify_error.CertifyError.{CertifyError}
 use Rattle.net_rules.specs.Certificates.{NamesObstacle, HasNoCertificate}
 use Rattle.explanation_texts.specs.Explanations.{IsObstacleTold}

@@ -1,10 +1,10 @@
 -- What is answered of a plan that is to have rows.
 use Rattle.std.specs.Prelude.{ℕ, List, string_bytes}
-use Rattle.net_plan.specs.declared.plan.Plan.{Plan}
-use Rattle.net_plan.specs.declared.certificate.Certificate.{Certificate}
-use Rattle.net_plan.specs.PlanValues.{plan_value}
-use Rattle.net_json.specs.PlanText.{IsPlanOf}
-use Rattle.net_json.specs.Texts.{IsJsonTextOf}
+use Rattle.plan_values.specs.declared.plan.Plan.{Plan}
+use Rattle.plan_values.specs.declared.certificate.Certificate.{Certificate}
+use Rattle.plan_values.specs.PlanValues.{plan_value}
+use Rattle.net_plan.specs.PlanText.{IsPlanOf}
+use Rattle.net_plan.specs.Texts.{IsJsonTextOf}
 use Rattle.board_kept.specs.Rowed.{IsRowedFrom}
 use Rattle.board_made.specs.declared.rowed.RowsAnswer.{RowsAnswer}
 use Rattle.board_made.specs.declared.rowed.RowsAnswer.TheVariants.{Made, NoPlan}

@@ -57,6 +57,7 @@ fn syntax_line(alloc: Global, text: &str, error: &toml::de::Error) -> Result<Str
     ensures { IfOk result (λ line. IsUnreadLine (string_bytes line)) }
 {
     let Some(span) = error.span() else {
+        // no memory: all other errors of `toml` have a span.
         return Err(AllocError);
     };
     let (line, column) = line_and_column(text, span.start);
@@ -96,6 +97,7 @@ fn answer_value(
 fn read_value(alloc: Global, text: &str, board: &Value) -> Result<Board, BoardError> {
     match board.as_table() {
         Some(table) => read_board(alloc, text, table),
+        // no memory: a text that is TOML is a table, so this can't be.
         None => Err(BoardError::OutOfMemory),
     }
 }

@@ -1,11 +1,11 @@
 //! A plan that was made, judged before it is answered.
 ghost use Rattle.std.specs.Prelude.{◌≡◌, IfOk, IfSome, None, string_bytes};
 ghost use Rattle.toml.specs.View.{view};
-ghost use Rattle.net_plan.specs.CertificateValues.{certificate_value};
-ghost use Rattle.net_plan.specs.PlanValues.{plan_value};
-ghost use Rattle.net_plan.specs.WellFormed.{IsWellFormed};
-ghost use Rattle.net_json.specs.PlanText.{IsPlanOf};
-ghost use Rattle.net_json.specs.Texts.{IsJsonTextOf};
+ghost use Rattle.plan_values.specs.CertificateValues.{certificate_value};
+ghost use Rattle.plan_values.specs.PlanValues.{plan_value};
+ghost use Rattle.plan_values.specs.WellFormed.{IsWellFormed};
+ghost use Rattle.net_plan.specs.PlanText.{IsPlanOf};
+ghost use Rattle.net_plan.specs.Texts.{IsJsonTextOf};
 ghost use Rattle.net_rules.specs.Certificates.{IsExact, NamesObstacle, RulesOutCertificates};
 ghost use Rattle.board_kept.specs.Made.{IsFitFor};
 ghost use Rattle.board_made.specs.Made.{IsAnswerFor, IsCertificateText};
@@ -16,8 +16,8 @@ use crate::reasons::{lacking, obstacle_reason, unfit_line, unfound, way_line};
 use board::{Cut, Made, RecordFile};
 use board_kept::{is_cut_off, judge, keeps};
 use net_check::{CertifyError, CheckError, certify, check};
-use net_json::{PlanError, plan_of_text, text_of_certificate};
-use net_plan::{Certificate, Plan};
+use net_plan::{PlanError, plan_of_text, text_of_certificate};
+use plan_values::{Certificate, Plan};
 use std::alloc::{AllocError, Global};
 use toml::Value;
 

@@ -10,8 +10,8 @@ use board_kept::{Unfit, node_name};
 use board_values::{lacking_words, lacks, node_text as told_node};
 use explanation_texts::obstacle_lines;
 use net_check::CertifyError;
-use net_plan::Plan;
 use plan_texts::obstacle_line;
+use plan_values::Plan;
 use std::alloc::{AllocError, Global};
 use toml::Value;
 
@@ -205,7 +205,7 @@ fn place_text(
     }
     let node = match obstacle {
         CertifyError::Fault(fault) => fault.node,
-        CertifyError::BadChain(node, _) => *node,
+        CertifyError::BadChain(node, ..) => *node,
         CertifyError::OwnerLoop(nodes) => nodes.first().copied().unwrap_or(0),
         CertifyError::Loop(_, nodes) => nodes.first().copied().unwrap_or(0),
         CertifyError::OutOfMemory => return Err(AllocError),

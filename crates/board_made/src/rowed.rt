@@ -1,8 +1,8 @@
 //! A plan with rows, judged before it is answered.
 ghost use Rattle.std.specs.Prelude.{◌≡◌, IfOk, IfSome, None, string_bytes};
-ghost use Rattle.net_plan.specs.PlanValues.{plan_value};
-ghost use Rattle.net_json.specs.PlanText.{IsPlanOf};
-ghost use Rattle.net_json.specs.Texts.{IsJsonTextOf};
+ghost use Rattle.plan_values.specs.PlanValues.{plan_value};
+ghost use Rattle.net_plan.specs.PlanText.{IsPlanOf};
+ghost use Rattle.net_plan.specs.Texts.{IsJsonTextOf};
 ghost use Rattle.net_rules.specs.Certificates.{NamesObstacle, RulesOutCertificates};
 ghost use Rattle.board_kept.specs.Rowed.{IsRowedFrom};
 ghost use Rattle.board_made.specs.Reasons.{IsCutToldOf, IsRowsReason, IsUnfound};
@@ -12,8 +12,8 @@ use crate::reasons::{lacking, no_rows_line, obstacle_reason, unfit_line, unfound
 use board::{Cut, Made, board_of_plan, made_plan};
 use board_kept::{is_cut_off_with, is_same_but_rows, judge_rows};
 use net_check::{CertifyError, CheckError, certify, check};
-use net_json::{PlanError, plan_of_text};
-use net_plan::{Certificate, Plan};
+use net_plan::{PlanError, plan_of_text};
+use plan_values::{Certificate, Plan};
 use std::alloc::{AllocError, Global};
 
 /// What is answered of a plan that is to have rows.

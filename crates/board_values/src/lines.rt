@@ -61,6 +61,7 @@ pub fn node_text(
 {
     match name_of(board, node) {
         Some(name) => named_text(alloc, name, line_of_node(text, node)),
+        // no memory: each node of a board that was read has a name, so this can't be.
         None => Err(AllocError),
     }
 }

@@ -1,8 +1,8 @@
 -- Buses that lines name.
 use Rattle.std.proofs.Common.{◌≡◌, ◌≢◌, ℕ, ◌<◌, List, [], length, Option, None, Some, Result, Ok, Err, IfOk, option_map, slice_get, string_bytes, refl, sym, subst}
 use Rattle.std.proofs.lemmas.Option.{slice_get_within}
-use Rattle.net_plan.specs.declared.nodes.Bus.{Bus}
-use Rattle.net_plan.specs.declared.plan.Plan.{Plan}
+use Rattle.plan_values.specs.declared.nodes.Bus.{Bus}
+use Rattle.plan_values.specs.declared.plan.Plan.{Plan}
 use Rattle.bus_captures.specs.Lines.{behind_word, uncommented, word}
 use Rattle.bus_commands.specs.PacketLines.{IsOtherText, IsPacketText, IsReadOver, NamesBus, Says, said_value}
 use Rattle.net_tables.specs.Names.{name_of_bus}

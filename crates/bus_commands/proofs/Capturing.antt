@@ -4,9 +4,9 @@ use Rattle.std.specs.Prelude.{IfOk}
 use Rattle.command_answers.specs.Answers.{Stream, AreGiven}
 use Rattle.command_answers.specs.Inputs.{GaveEvents}
 use Rattle.command_answers.specs.declared.refused.Refused.{Refused}
-use Rattle.net_plan.specs.declared.certificate.Certificate.{Certificate}
-use Rattle.net_plan.specs.declared.event.Event.{Event}
-use Rattle.net_plan.specs.declared.plan.Plan.{Plan}
+use Rattle.plan_values.specs.declared.certificate.Certificate.{Certificate}
+use Rattle.plan_values.specs.declared.event.Event.{Event}
+use Rattle.plan_values.specs.declared.plan.Plan.{Plan}
 use Rattle.net_sim.specs.Outcomes.{event_value}
 use Rattle.bus_commands.specs.Capturing.{AnswersCapture, AnswersRun}
 use Rattle.command_answers.specs.declared.bytes_answer.BytesAnswer.{BytesAnswer}

@@ -7,9 +7,9 @@ use Rattle.command_answers.specs.Naming.{IsFirstNamed}
 use Rattle.net_check.specs.Errors.{NamesFirstFault}
 use Rattle.net_check.specs.declared.check_error.CheckError.{CheckError}
 use Rattle.net_check.specs.declared.check_error.CheckError.TheVariants as check_error
-use Rattle.net_json.specs.Stream.{Account}
-use Rattle.net_plan.specs.declared.certificate.Certificate.{Certificate}
-use Rattle.net_plan.specs.declared.plan.Plan.{Plan}
+use Rattle.net_plan.specs.Stream.{Account}
+use Rattle.plan_values.specs.declared.certificate.Certificate.{Certificate}
+use Rattle.plan_values.specs.declared.plan.Plan.{Plan}
 use Rattle.net_rules.specs.Rules.{Accepts}
 use Rattle.command_answers.specs.Statuses.{status_of}
 use Rattle.command_answers.specs.declared.refused.Refused.{Refused}

@@ -11,11 +11,11 @@ use Rattle.bus_captures.specs.Written.{CarriedValue, header_fields, written_byte
 use Rattle.bus_captures.specs.declared.format.Order.TheVariants as order
 use Rattle.bus_captures.specs.declared.format.TimeUnit.TheVariants as unit
 use Rattle.bus_captures.specs.declared.link.Link.TheVariants as link
-use Rattle.net_plan.specs.declared.plan.Plan.{Plan}
+use Rattle.plan_values.specs.declared.plan.Plan.{Plan}
 use Rattle.net_runs.specs.WalkedRuns.{WalkedRunFrom, WalkedStep, WalkedTurn, walked_after}
 use Rattle.net_runs.specs.Walkers.{WalkedEvent, WalkedOutcome, WalkedState, walked_at_start}
-use Rattle.net_plan.specs.declared.certificate.Certificate.{Certificate}
-use Rattle.net_plan.specs.declared.event.Event.{Event}
+use Rattle.plan_values.specs.declared.certificate.Certificate.{Certificate}
+use Rattle.plan_values.specs.declared.event.Event.{Event}
 use Rattle.net_sim.specs.Outcomes.{event_value}
 use Rattle.bus_commands.specs.Capturing.{IsRunFile}
 use Rattle.net_sim.proofs.PlayedWalks.{run_joins}

@@ -11,8 +11,8 @@ use Rattle.command_answers.specs.declared.refused.Input.TheVariants as input
 use Rattle.command_answers.specs.declared.refused.Refused.{Refused}
 use Rattle.command_answers.specs.declared.refused.Refused.TheVariants as refused
 use Rattle.emulated_node.specs.Nodes.{NodeState, Setting}
-use Rattle.net_json.specs.Stream.{Account}
-use Rattle.net_json.specs.declared.error.PlanError.TheVariants as error
+use Rattle.net_plan.specs.Stream.{Account}
+use Rattle.net_plan.specs.declared.error.PlanError.TheVariants as error
 use Rattle.bus_commands.specs.Lines.{GaveLine, HasNoEnd}
 use Rattle.bus_commands.specs.Playing.{LineTurn, TakesTurns, lines_of, IsGivenLine, BreaksAt, KeepsRoom, PlaysLine, Writes, PlaysWhole, PlaysAll, BreaksOff}
 use Rattle.bus_commands.specs.Turns.{Takes}

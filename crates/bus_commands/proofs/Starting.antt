@@ -1,14 +1,14 @@
 -- What the rules of an accepted plan say of a node that is emulated.
 use Rattle.std.proofs.Common.{◌≡◌, ℕ, Bool, List, [], Some, None, Option, Result, Ok, Err, IfOk, option_map, refl, sym, ap, subst, ◌∙◌, arith}
-use Rattle.net_plan.specs.declared.certificate.Certificate.{Certificate}
-use Rattle.net_plan.specs.declared.nodes.Kind.TheVariants as kind
-use Rattle.net_plan.specs.declared.nodes.Node.{Node}
-use Rattle.net_plan.specs.declared.nodes.Pool.{Pool}
-use Rattle.net_plan.specs.declared.plan.Plan.{Plan}
+use Rattle.plan_values.specs.declared.certificate.Certificate.{Certificate}
+use Rattle.plan_values.specs.declared.nodes.Kind.TheVariants as kind
+use Rattle.plan_values.specs.declared.nodes.Node.{Node}
+use Rattle.plan_values.specs.declared.nodes.Pool.{Pool}
+use Rattle.plan_values.specs.declared.plan.Plan.{Plan}
 use Rattle.net_rules.specs.Pools.{IsPoolInRange, IsLawfulPool, HasLawfulPool}
 use Rattle.net_rules.specs.Rules.{Accepts}
 use Rattle.net_rules.specs.declared.rule.Rule.TheVariants.{C02, C04, C05, C06, C09}
-use Rattle.net_plan.specs.declared.terminus.PlannedTerminus.{PlannedTerminus}
+use Rattle.plan_values.specs.declared.terminus.PlannedTerminus.{PlannedTerminus}
 use Rattle.net_tables.specs.Ownership.{pool_of}
 use Rattle.net_tables.specs.Repositories.{records_by_place, terminus_of}
 use Rattle.net_tables.specs.Routing.{node_at, rows_of}
@@ -20,8 +20,8 @@ use Rattle.emulated_node.specs.Nodes.{NodeState, Setting, TerminusValue}
 use Rattle.emulated_node.specs.Standing.{HasNodeState, at_start, setting_of}
 use Rattle.emulated_node.specs.Termini.{terminus_value}
 use Rattle.emulated_node.specs.declared.emulated.Emulated.{Emulated}
-use Rattle.mctp_bridge.specs.declared.device_kind.DeviceKind.{DeviceKind}
-use Rattle.mctp_bridge.specs.declared.row.TableRow.{TableRow}
+use Rattle.mctp_transport.specs.declared.device_kind.DeviceKind.{DeviceKind}
+use Rattle.mctp_routing.specs.declared.row.TableRow.{TableRow}
 use Rattle.mctp_control.specs.Devices.{DeviceValue}
 use Rattle.mctp_control.specs.RouteEntries.{EntryValue}
 use Rattle.net_runs.specs.Termini.{TerminusState, terminus_at_start}

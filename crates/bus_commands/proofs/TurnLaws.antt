@@ -4,7 +4,7 @@ use Rattle.emulated_node.specs.Nodes.{NodeState, Setting}
 use Rattle.emulated_node.specs.ReceivedValues.{ReceivedValue}
 use Rattle.emulated_node.specs.Receiving.{Receives}
 use Rattle.mctp_transport.specs.PacketValues.{PacketValue, Spelled}
-use Rattle.net_plan.specs.declared.plan.Plan.{Plan}
+use Rattle.plan_values.specs.declared.plan.Plan.{Plan}
 use Rattle.bus_commands.specs.PacketLines as said
 use Rattle.bus_commands.specs.PacketLines.{Says}
 use Rattle.bus_commands.specs.Turns.{IsToldOf, Takes, TakesBytes}

@@ -4,8 +4,8 @@ use Rattle.bus_captures.specs.Written.{written_file}
 use Rattle.command_answers.specs.Answers.{IsFaultText, Stream}
 use Rattle.command_answers.specs.declared.status.Status.{Status}
 use Rattle.command_answers.specs.declared.status.Status.TheVariants as status
-use Rattle.net_plan.specs.declared.certificate.Certificate.{Certificate}
-use Rattle.net_plan.specs.declared.plan.Plan.{Plan}
+use Rattle.plan_values.specs.declared.certificate.Certificate.{Certificate}
+use Rattle.plan_values.specs.declared.plan.Plan.{Plan}
 use Rattle.net_rules.specs.Rules.{Accepts}
 use Rattle.net_runs.specs.WalkedRuns.{WalkedRun, WalkedTurn}
 use Rattle.net_runs.specs.Walkers.{WalkedEvent, walked_at_start}

@@ -8,9 +8,9 @@ use Rattle.command_answers.specs.declared.refused.Refused.TheVariants as refused
 use Rattle.command_answers.specs.declared.status.Status.{Status}
 use Rattle.command_answers.specs.declared.status.Status.TheVariants as status
 use Rattle.emulated_node.specs.Nodes.{NodeState, Setting}
-use Rattle.net_json.specs.Stream.{Account}
-use Rattle.net_plan.specs.declared.certificate.Certificate.{Certificate}
-use Rattle.net_plan.specs.declared.plan.Plan.{Plan}
+use Rattle.net_plan.specs.Stream.{Account}
+use Rattle.plan_values.specs.declared.certificate.Certificate.{Certificate}
+use Rattle.plan_values.specs.declared.plan.Plan.{Plan}
 use Rattle.net_rules.specs.Names.{name_of}
 use Rattle.net_rules.specs.Rules.{Accepts}
 use Rattle.bus_commands.specs.Playing.{IsUnwritten, PlaysLines}

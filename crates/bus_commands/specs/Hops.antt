@@ -4,9 +4,9 @@ use Rattle.std.specs.Prelude.{◌∷◌, ◌++◌, Option, Some, None, find, opt
 use Rattle.std.specs.Option.{option_and_then, option_to_list}
 use Rattle.bus_captures.specs.Written.{CarriedValue}
 use Rattle.mctp_transport.specs.PacketValues.{packet_value_bytes}
-use Rattle.net_plan.specs.declared.nodes.Port.{Port}
-use Rattle.net_plan.specs.declared.nodes.Row.{Row}
-use Rattle.net_plan.specs.declared.plan.Plan.{Plan}
+use Rattle.plan_values.specs.declared.nodes.Port.{Port}
+use Rattle.plan_values.specs.declared.nodes.Row.{Row}
+use Rattle.plan_values.specs.declared.plan.Plan.{Plan}
 use Rattle.net_runs.specs.Events.{Move, Moved, OutcomeValue}
 use Rattle.net_runs.specs.States.{Flight}
 use Rattle.net_runs.specs.WalkedRuns.{WalkedTurn}

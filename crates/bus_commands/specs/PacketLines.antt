@@ -9,7 +9,7 @@ use Rattle.bus_captures.specs.declared.capture.End.TheVariants as end
 use Rattle.bus_captures.specs.declared.capture.Kind.TheVariants as kind
 use Rattle.bus_commands.specs.declared.line.Said.{Said}
 use Rattle.bus_commands.specs.declared.line.Said.TheVariants as said
-use Rattle.net_plan.specs.declared.plan.Plan.{Plan}
+use Rattle.plan_values.specs.declared.plan.Plan.{Plan}
 use Rattle.net_tables.specs.Names.{name_of_bus}
 use Rattle.net_tables.specs.Rows.{IsOnBus}
 

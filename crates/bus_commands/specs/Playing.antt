@@ -7,11 +7,11 @@ use Rattle.command_answers.specs.Answers.{Fails, Stream}
 use Rattle.command_answers.specs.declared.refused.Input.TheVariants as input
 use Rattle.command_answers.specs.declared.refused.Refused.TheVariants as refused
 use Rattle.emulated_node.specs.Nodes.{NodeState, Setting}
-use Rattle.net_json.specs.Stream.{Account, AppendsBeginning, HasFailed}
-use Rattle.net_json.specs.TextFaults.{fault_count, text_error}
-use Rattle.net_json.specs.declared.error.PlanError.{PlanError}
-use Rattle.net_json.specs.declared.error.PlanError.TheVariants as error
-use Rattle.net_json.specs.declared.stream.TextFault.{TextFault}
+use Rattle.net_plan.specs.Stream.{Account, AppendsBeginning, HasFailed}
+use Rattle.net_plan.specs.TextFaults.{fault_count, text_error}
+use Rattle.net_plan.specs.declared.error.PlanError.{PlanError}
+use Rattle.net_plan.specs.declared.error.PlanError.TheVariants as error
+use Rattle.net_plan.specs.declared.stream.TextFault.{TextFault}
 use Rattle.bus_commands.specs.Lines.{GaveLine, GavePart, HasNoEnd}
 use Rattle.bus_commands.specs.Turns.{Takes}
 use Rattle.bus_commands.specs.declared.playing.Stop.{Stop}

@@ -5,11 +5,11 @@ use Rattle.emulated_node.specs.Standing.{at_start}
 use Rattle.mctp_control.specs.Devices.{DeviceValue}
 use Rattle.mctp_control.specs.Ranges.{IsAssignableRange}
 use Rattle.mctp_transport.specs.PacketValues.{IsAssignable}
-use Rattle.net_plan.specs.declared.certificate.Certificate.{Certificate}
-use Rattle.net_plan.specs.declared.nodes.Kind.TheVariants as kind
-use Rattle.net_plan.specs.declared.nodes.Node.{Node}
-use Rattle.net_plan.specs.declared.nodes.Pool.{Pool}
-use Rattle.net_plan.specs.declared.plan.Plan.{Plan}
+use Rattle.plan_values.specs.declared.certificate.Certificate.{Certificate}
+use Rattle.plan_values.specs.declared.nodes.Kind.TheVariants as kind
+use Rattle.plan_values.specs.declared.nodes.Node.{Node}
+use Rattle.plan_values.specs.declared.nodes.Pool.{Pool}
+use Rattle.plan_values.specs.declared.plan.Plan.{Plan}
 use Rattle.net_tables.specs.Names.{device_kind}
 use Rattle.net_sim.specs.AssignmentRuns.{holding, starting}
 use Rattle.net_tables.specs.Repositories.{records_by_place, terminus_of}

@@ -7,13 +7,13 @@ use Rattle.emulated_node.specs.ReceivedValues.{ReceivedValue, Sent, Held, Droppe
 use Rattle.emulated_node.specs.Receiving.{Receives}
 use Rattle.emulated_node.specs.declared.received.Reason.{Reason}
 use Rattle.emulated_node.specs.declared.received.Reason.TheVariants as reason
-use Rattle.mctp_bridge.specs.Decisions.{forward_fault_code}
+use Rattle.mctp_routing.specs.Decisions.{forward_fault_code}
 use Rattle.mctp_transport.specs.Causes.{cause_code}
 use Rattle.mctp_transport.specs.PacketValues.{PacketValue, Spelled}
 use Rattle.mctp_transport.specs.Refusals as refusals
 use Rattle.mctp_transport.specs.declared.packet_error.PacketError.{PacketError}
 use Rattle.mctp_transport.specs.declared.packet_error.PacketError.TheVariants as packet
-use Rattle.net_plan.specs.declared.plan.Plan.{Plan}
+use Rattle.plan_values.specs.declared.plan.Plan.{Plan}
 use Rattle.net_tables.specs.Names.{bus_name}
 use Rattle.bus_commands.specs.PacketLines as said
 use Rattle.bus_commands.specs.PacketLines.{SaidValue, Says}

@@ -1,9 +1,9 @@
 //! The command `capture`: the hops of a run as a capture file.
 ghost use Rattle.std.specs.Prelude.{◌≡◌, IfOk, IfErr, map};
-ghost use Rattle.command_answers.specs.Answers.{stream, IsWithoutPlan};
+ghost use Rattle.command_answers.specs.Answers.{stream, IsWithoutPlan, AreWithoutCertificate};
 ghost use Rattle.command_answers.specs.Told.{Concludes};
 ghost use Rattle.command_answers.specs.declared.refused.Refused.TheVariants as refused;
-ghost use Rattle.net_json.specs.Stream.{HasRoom};
+ghost use Rattle.net_plan.specs.Stream.{HasRoom};
 ghost use Rattle.net_sim.specs.Outcomes.{event_value};
 ghost use Rattle.play_commands.specs.Simulating.{AreUnreadAmong};
 ghost use Rattle.bus_commands.specs.Capturing.{AnswersCapture, AnswersRun, IsRunFile};
@@ -14,8 +14,8 @@ use command_answers::{
     BytesAnswer, Refused, Status, fault_text, planned_network, refuse, tell_bytes,
 };
 use net_check::{AcceptedNetwork, Checked, check};
-use net_json::{Sink, Source};
-use net_plan::{Certificate, Event, Plan};
+use net_plan::{Sink, Source};
+use plan_values::{Certificate, Event, Plan};
 use play_commands::read_run;
 use std::alloc::{AllocError, Global};
 
@@ -47,6 +47,8 @@ pub fn run_capture<P: Source, C: Source, V: Source, O: Sink, E: Sink>(
         (output.new ≡ output.old) (errors.new ≡ errors.old) }
     ensures in_order { IsWithoutPlan (stream P.account plan.old plan.new)
         → (certificate.new ≡ certificate.old) × (events.new ≡ events.old) }
+    ensures certified_in_order { AreWithoutCertificate (stream P.account plan.old plan.new) (stream C.account certificate.old certificate.new)
+        → events.new ≡ events.old }
 {
     match read_run(alloc, plan, certificate, events) {
         Ok((plan, certificate, events)) => {

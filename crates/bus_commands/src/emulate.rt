@@ -1,8 +1,8 @@
 //! The command `emulate`: a planned node on a line protocol.
 ghost use Rattle.std.specs.Prelude.{◌≡◌, ◌<◌, Ok, length};
-ghost use Rattle.command_answers.specs.Answers.{stream, IsWithoutPlan};
+ghost use Rattle.command_answers.specs.Answers.{stream, IsWithoutPlan, AreWithoutCertificate};
 ghost use Rattle.command_answers.specs.declared.status.Status.TheVariants.{Fault};
-ghost use Rattle.net_json.specs.Stream.{HasRoom};
+ghost use Rattle.net_plan.specs.Stream.{HasRoom};
 ghost use Rattle.bus_commands.specs.Emulating.{AnswersEmulation, AnswersNode, AnswersOn, EndsEmulation};
 ghost use Rattle.bus_commands.specs.Playing.{KeepsRoom};
 
@@ -11,8 +11,8 @@ use crate::start::start;
 use command_answers::{Refused, Status, fault_answer, first_named, give, read_inputs, refuse};
 use command_questions::Emulation;
 use net_check::{Checked, check};
-use net_json::{Sink, Source};
-use net_plan::{Certificate, Plan};
+use net_plan::{Sink, Source};
+use plan_values::{Certificate, Plan};
 use std::alloc::Global;
 
 /// Emulates a node of a plan where the certificate fits the plan, or tells the fault there.
@@ -43,6 +43,8 @@ pub fn run_emulate<P: Source, C: Source, I: Source, O: Sink, E: Sink>(
     ensures unread { result ≡ Fault → packets.new ≡ packets.old }
     ensures in_order { IsWithoutPlan (stream P.account plan.old plan.new)
         → (certificate.new ≡ certificate.old) × (packets.new ≡ packets.old) × (output.new ≡ output.old) }
+    ensures certified_in_order { AreWithoutCertificate (stream P.account plan.old plan.new) (stream C.account certificate.old certificate.new)
+        → (packets.new ≡ packets.old) × (output.new ≡ output.old) }
 {
     match answer_emulation(alloc, emulation, plan, certificate, packets, output, errors) {
         Ok(status) => status,
@@ -75,6 +77,8 @@ fn answer_emulation<P: Source, C: Source, I: Source, O: Sink, E: Sink>(
     ensures unread { result ≡ Ok Fault → packets.new ≡ packets.old }
     ensures in_order { IsWithoutPlan (stream P.account plan.old plan.new)
         → (certificate.new ≡ certificate.old) × (packets.new ≡ packets.old) × (output.new ≡ output.old) × (errors.new ≡ errors.old) }
+    ensures certified_in_order { AreWithoutCertificate (stream P.account plan.old plan.new) (stream C.account certificate.old certificate.new)
+        → (packets.new ≡ packets.old) × (output.new ≡ output.old) }
 {
     let (plan, certificate) = read_inputs(alloc, plan, certificate)?;
     answer_on(
@@ -159,6 +163,7 @@ fn emulate<I: Source, O: Sink, E: Sink>(
             output,
             errors,
         ),
+        // no memory: `start` has no other error.
         Err(_) => Err(Stop::Refused(Refused::NoMemory)),
     }
 }

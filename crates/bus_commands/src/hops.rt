@@ -14,10 +14,10 @@ ghost use Rattle.bus_commands.specs.Hops.{IsDeparture, address_of, arriving, car
 use crate::departure::Departure;
 use bus_captures::{CarriedPacket, add_packet};
 use mctp_transport::Eid;
-use net_plan::{Event, Plan, Port, Row};
 use net_sim::{Effect, Network, Outcome};
 use net_tables::lookup::{port_at, rows_at};
 use pdr_repository::Terminus;
+use plan_values::{Event, Plan, Port, Row};
 use std::alloc::{AllocError, Global};
 
 /// The packet that an event is to move, if there is one.

@@ -4,8 +4,8 @@ ghost use Rattle.bus_captures.specs.Values.{entry_value};
 ghost use Rattle.bus_commands.specs.PacketLines.{IsOnePacket, IsReadOver, NamesBus, Says, said_value};
 
 use bus_captures::{Capture, End, Kind, read_capture, split_word, uncommented};
-use net_plan::{Bus, Plan};
 use net_tables::lookup::is_on_bus;
+use plan_values::{Bus, Plan};
 use std::alloc::{AllocError, Global};
 
 /// What a line says.

@@ -1,11 +1,11 @@
 //! Lines of a source, one at a time: no more bytes are taken than those up to a line's end.
 ghost use Rattle.std.specs.Prelude.{◌≡◌, ◌∷◌, [], List, ℕ, IfOk, IfErr, OnErr, MatchOption};
 ghost use Rattle.std.specs.Io.KnownBytes.{Consumes, IsAtEnd, Keeps};
-ghost use Rattle.net_json.specs.Stream.{HasRoom, HasFailed, failure_count};
-ghost use Rattle.net_json.specs.TextFaults.{device_count};
+ghost use Rattle.net_plan.specs.Stream.{HasRoom, HasFailed, failure_count};
+ghost use Rattle.net_plan.specs.TextFaults.{device_count};
 ghost use Rattle.bus_commands.specs.Lines.{GaveLine, GavePart};
 
-use net_json::{Failed, Source, TextFault};
+use net_plan::{Failed, Source, TextFault};
 use std::alloc::Global;
 
 /// The most bytes of a line.
@@ -41,6 +41,7 @@ pub fn next_line<S: Source>(alloc: Global, source: &mut S) -> Result<GivenLine, 
             });
         }
         if text.push(byte).is_err() {
+            // no memory: the line could not grow.
             return Err(TextFault::OutOfMemory);
         }
     }

@@ -3,16 +3,16 @@ ghost use Rattle.std.specs.Prelude.{◌≡◌, OnOk, string_bytes};
 ghost use Rattle.command_answers.specs.Answers.{stream};
 ghost use Rattle.emulated_node.specs.Nodes.{NodeState};
 ghost use Rattle.emulated_node.specs.Standing.{HasNodeState, setting_of};
-ghost use Rattle.net_json.specs.Stream.{HasRoom};
+ghost use Rattle.net_plan.specs.Stream.{HasRoom};
 ghost use Rattle.bus_commands.specs.Playing.{KeepsRoom, PlaysLine, PlaysLines, Writes};
 
 use crate::lines::next_line;
 use crate::turn::{Turn, take_line};
 use command_answers::{Input, Refused};
 use emulated_node::Emulated;
-use net_json::{PlanError, Sink, Source, write_whole};
-use net_plan::Plan;
+use net_plan::{PlanError, Sink, Source, write_whole};
 use pdr_repository::Terminus;
+use plan_values::Plan;
 use std::alloc::Global;
 
 /// Why no more lines are taken.
@@ -100,6 +100,7 @@ fn play_line<T: Terminus, I: Source, O: Sink, E: Sink>(
             write_turn(&turn, output, errors)?;
             Ok(line.is_last)
         }
+        // no memory: `take_line` has no other error.
         Err(_) => Err(Stop::Refused(Refused::NoMemory)),
     }
 }

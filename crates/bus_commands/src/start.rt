@@ -12,10 +12,10 @@ use command_answers::planned_terminus;
 use emulated_node::Emulated;
 use mctp_control::{Device, EidRange};
 use net_check::Checked;
-use net_plan::{Kind, Node};
 use net_tables::lookup::device_kind;
 use pdr_repository::BlockTerminus;
 use plan_exports::{planned_entries, range_table};
+use plan_values::{Kind, Node};
 use std::alloc::{AllocError, Global};
 
 /// A node of a checked plan, with its rows and its terminus as they are planned. Its device holds its planned endpoint

@@ -9,9 +9,9 @@ ghost use Rattle.bus_commands.specs.Turns.{IsToldOf, Takes, TakesBytes, answer_l
 use crate::line::{Said, read_line};
 use emulated_node::{Emulated, Reason, Received};
 use mctp_transport::PacketView;
-use net_plan::Plan;
 use net_tables::lookup::bus_name;
 use pdr_repository::Terminus;
+use plan_values::Plan;
 use std::alloc::{AllocError, Global};
 
 /// What is written for a line: the lines that the node sends, and a note of what it dropped. Each may be empty.

@@ -6,7 +6,7 @@ use Rattle.bus_captures.specs.Values.{EntryValue}
 use Rattle.bus_captures.specs.declared.capture.End.{End}
 use Rattle.bus_captures.specs.declared.capture.End.TheVariants as end
 use Rattle.decoded_texts.specs.Decoding.{IsDecodedBy}
-use Rattle.net_plan.specs.declared.plan.Plan.{Plan}
+use Rattle.plan_values.specs.declared.plan.Plan.{Plan}
 use Rattle.byte_commands.specs.Decoding.{IsDecodedSo}
 use Rattle.command_answers.specs.declared.refused.Refused.TheVariants as refused
 use Rattle.command_answers.specs.declared.status.Status.{Status}

@@ -5,14 +5,14 @@ use Rattle.bus_captures.specs.Values.{EntryValue}
 use Rattle.bus_captures.specs.declared.capture.End.{End}
 use Rattle.bus_captures.specs.declared.capture.End.TheVariants as end
 use Rattle.decoded_texts.specs.Decoding.{IsDecodedBy}
-use Rattle.net_json.specs.Stream.{TakesMoreThan}
-use Rattle.net_json.specs.Texts.{Gave}
-use Rattle.net_json.specs.declared.stream.TextFault.{TextFault}
-use Rattle.net_json.specs.declared.stream.TextFault.TheVariants as fault
+use Rattle.net_plan.specs.Stream.{TakesMoreThan}
+use Rattle.net_plan.specs.Texts.{Gave}
+use Rattle.net_plan.specs.declared.stream.TextFault.{TextFault}
+use Rattle.net_plan.specs.declared.stream.TextFault.TheVariants as fault
 use Rattle.command_answers.specs.declared.status.Status.{Status}
 use Rattle.command_answers.specs.declared.status.Status.TheVariants as status
 use Rattle.command_answers.specs.Answers.{Stream, Fails, GavePlan}
-use Rattle.net_plan.specs.declared.plan.Plan.{Plan}
+use Rattle.plan_values.specs.declared.plan.Plan.{Plan}
 
 -- the text tells of the entries of the capture that the bytes are, with the names that a plan has, where reading them
 -- ends so

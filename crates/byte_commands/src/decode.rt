@@ -1,7 +1,7 @@
 //! The command `decode`: what became of each entry of a capture, and what its messages say.
 ghost use Rattle.std.specs.Prelude.{◌≡◌, ◌≢◌, IfOk, IfErr, string_bytes, Option, Some};
 ghost use Rattle.std.specs.Cow.{cow_str_bytes};
-ghost use Rattle.net_json.specs.Stream.{HasRoom};
+ghost use Rattle.net_plan.specs.Stream.{HasRoom};
 ghost use Rattle.command_answers.specs.declared.refused.Refused.TheVariants as refused;
 ghost use Rattle.command_answers.specs.declared.status.Status.TheVariants.{Yes, Unreadable};
 ghost use Rattle.command_answers.specs.Answers.{stream, IsPlanUnread, IsWithoutPlan};
@@ -11,8 +11,8 @@ ghost use Rattle.command_answers.specs.Told.{ConcludesOnBoth, ConcludesOnOutput}
 use bus_captures::{End, read_capture};
 use command_answers::{Answer, Refused, Status, given_plan, refuse, tell};
 use decoded_texts::{decoded_lines, named_lines};
-use net_json::{Sink, Source, TEXT_LIMIT, TextFault, read_within};
-use net_plan::Plan;
+use net_plan::{Sink, Source, TEXT_LIMIT, TextFault, read_within};
+use plan_values::Plan;
 use std::alloc::Global;
 
 /// Says on `output` what became of each entry of a capture, and what its messages say. A capture that can't be read to

@@ -1,7 +1,7 @@
 //! The command `show`: what bytes are, or why they are nothing.
 ghost use Rattle.std.specs.Prelude.{◌≡◌, IfOk, IfErr};
 ghost use Rattle.std.specs.Cow.{cow_str_bytes};
-ghost use Rattle.net_json.specs.Stream.{HasRoom};
+ghost use Rattle.net_plan.specs.Stream.{HasRoom};
 ghost use Rattle.command_answers.specs.Answers.{stream};
 ghost use Rattle.byte_commands.specs.Show.{IsDecoded, IsNotShown, IsShown, ShowsSo};
 ghost use Rattle.command_answers.specs.Told.{Concludes};
@@ -10,7 +10,7 @@ use command_answers::{Answer, Refused, Status, tell};
 use command_questions::ShownKind;
 use hex::FromHexError;
 use mctp_transport::{PacketView, Wire};
-use net_json::Sink;
+use net_plan::Sink;
 use pdr_record::Record;
 use plan_texts::{packet_text, record_text, refused_text};
 use std::alloc::{AllocError, Global};

@@ -1,7 +1,7 @@
 //! Commands that answer on words alone: `describe` and `record`.
 ghost use Rattle.std.specs.Prelude.{◌≡◌, IfOk, IfErr, map, string_bytes};
 ghost use Rattle.std.specs.Cow.{cow_str_bytes};
-ghost use Rattle.net_json.specs.Stream.{HasRoom};
+ghost use Rattle.net_plan.specs.Stream.{HasRoom};
 ghost use Rattle.command_answers.specs.Answers.{stream};
 ghost use Rattle.command_answers.specs.Told.{Concludes};
 ghost use Rattle.byte_commands.specs.Worded.{AnswersWords, IsUnansweredByWords};
@@ -13,7 +13,7 @@ mod record;
 use command_answers::{Answer, Refused, Status, tell};
 use command_questions::WordQuestion;
 use describe::described;
-use net_json::Sink;
+use net_plan::Sink;
 use record::recorded;
 use std::alloc::Global;
 

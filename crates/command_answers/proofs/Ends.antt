@@ -9,8 +9,8 @@ use Rattle.std.proofs.lemmas.Str.Parse.{IsNumeralModel, numerals_by_value, parse
 use Rattle.mctp_transport.specs.declared.address.Eid.{Eid}
 use Rattle.net_tables.specs.Routing.{eid_number, node_at, eid_of}
 use Rattle.net_rules.specs.Names.{name_of}
-use Rattle.net_plan.specs.declared.nodes.Node.{Node}
-use Rattle.net_plan.specs.declared.plan.Plan.{Plan}
+use Rattle.plan_values.specs.declared.nodes.Node.{Node}
+use Rattle.plan_values.specs.declared.plan.Plan.{Plan}
 use Rattle.command_answers.specs.Naming.{IsFirstNamed, IsEidWord, IsDestination, NameTheEnds}
 
 pub no_sender : (plan : Plan) (from to : List ℕ) → ((n : ℕ) → name_of plan n ≢ Some from) → ¬ NameTheEnds from to plan

@@ -1,15 +1,15 @@
 -- A plan that was given with its text, or was not.
 use Rattle.std.proofs.Common.{◌≤◌, List, length, ℕ, Result, Err, refl}
 use Rattle.std.specs.Io.KnownBytes.{Consumes, IsAtEnd}
-use Rattle.net_json.specs.declared.error.PlanError.{PlanError}
-use Rattle.net_json.specs.declared.error.PlanError.TheVariants as cause_of
-use Rattle.net_json.specs.PlanReading.{plan}
-use Rattle.net_json.specs.PlanText.{IsPlanOf}
-use Rattle.net_json.specs.Refusals.{IsRefused}
-use Rattle.net_json.specs.Unread.{GaveNoPlan}
-use Rattle.net_json.proofs.Refusing.{answer_given}
-use Rattle.net_plan.specs.declared.certificate.Certificate.{Certificate}
-use Rattle.net_plan.specs.declared.plan.Plan.{Plan}
+use Rattle.net_plan.specs.declared.error.PlanError.{PlanError}
+use Rattle.net_plan.specs.declared.error.PlanError.TheVariants as cause_of
+use Rattle.net_plan.specs.PlanReading.{plan}
+use Rattle.net_plan.specs.PlanText.{IsPlanOf}
+use Rattle.net_plan.specs.Refusals.{IsRefused}
+use Rattle.net_plan.specs.Unread.{GaveNoPlan}
+use Rattle.net_plan.proofs.Refusing.{answer_given}
+use Rattle.plan_values.specs.declared.certificate.Certificate.{Certificate}
+use Rattle.plan_values.specs.declared.plan.Plan.{Plan}
 use Rattle.command_answers.specs.declared.refused.Input.TheVariants as input
 use Rattle.command_answers.specs.declared.refused.Refused.{Refused}
 use Rattle.command_answers.specs.Answers.{Stream, GavePlan, GavePlanText, AreGiven, AreTextsGiven, IsPlanUnread, IsCertificateUnread, AreUnread}

@@ -1,7 +1,7 @@
 -- What the end of a move tells of the plans and the certificate that were given.
 use Rattle.std.proofs.Common.{inl, inr}
-use Rattle.net_plan.specs.declared.plan.Plan.{Plan}
-use Rattle.net_json.specs.declared.error.PlanError.{PlanError}
+use Rattle.plan_values.specs.declared.plan.Plan.{Plan}
+use Rattle.net_plan.specs.declared.error.PlanError.{PlanError}
 use Rattle.command_answers.specs.declared.refused.Input.{Input}
 use Rattle.command_answers.specs.declared.refused.Input.TheVariants as input
 use Rattle.command_answers.specs.declared.refused.Refused.{Refused}

@@ -1,7 +1,7 @@
 -- A name stands for its first node.
 use Rattle.std.proofs.Common.{◌≡◌, ◌<◌, ℕ, List, None, ap, ◌∙◌, arith}
 use Rattle.net_tables.specs.Repositories.{terminus_of}
-use Rattle.net_plan.specs.declared.plan.Plan.{Plan}
+use Rattle.plan_values.specs.declared.plan.Plan.{Plan}
 use Rattle.command_answers.specs.Naming.{IsFirstNamed, HasTerminusNamed}
 
 -- there is one first node of a name

@@ -1,12 +1,12 @@
 -- Why an input is not read, by the reader's error, and what a printed fault tells.
 use Rattle.std.proofs.Common.{ℕ, List, Option}
-use Rattle.net_plan.specs.declared.plan.Plan.{Plan}
-use Rattle.net_json.specs.declared.error.PlanError.{PlanError}
-use Rattle.net_json.specs.declared.error.PlanError.TheVariants as error
-use Rattle.net_plan.specs.PlanValues.{plan_value}
-use Rattle.net_json.specs.Stream.{HasFailed}
-use Rattle.net_json.specs.TextFaults.{error_count}
-use Rattle.net_json.specs.Unread.{GaveNoCertificate}
+use Rattle.plan_values.specs.declared.plan.Plan.{Plan}
+use Rattle.net_plan.specs.declared.error.PlanError.{PlanError}
+use Rattle.net_plan.specs.declared.error.PlanError.TheVariants as error
+use Rattle.plan_values.specs.PlanValues.{plan_value}
+use Rattle.net_plan.specs.Stream.{HasFailed}
+use Rattle.net_plan.specs.TextFaults.{error_count}
+use Rattle.net_plan.specs.Unread.{GaveNoCertificate}
 use Rattle.command_answers.specs.declared.refused.Input.{Input}
 use Rattle.command_answers.specs.declared.refused.Input.TheVariants as input
 use Rattle.command_answers.specs.declared.refused.Refused.{Refused}

@@ -3,7 +3,7 @@ use Rattle.std.proofs.Common.{◌≡◌, ◌≢◌, ◌⊎◌, ℕ, List, Result
 use Rattle.std.specs.Prelude.{IfOk, IfErr, OnErr}
 use Rattle.std.specs.Cow.{cow_str_bytes}
 use Rattle.std.specs.declared.alloc.AllocError.{AllocError}
-use Rattle.net_json.specs.declared.error.PlanError.{PlanError}
+use Rattle.net_plan.specs.declared.error.PlanError.{PlanError}
 use Rattle.command_answers.specs.declared.answer.Answer.{Answer}
 use Rattle.command_answers.specs.declared.bytes_answer.BytesAnswer.{BytesAnswer}
 use Rattle.command_answers.specs.declared.refused.Input.{Input}

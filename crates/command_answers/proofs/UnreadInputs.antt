@@ -3,7 +3,7 @@ use Rattle.std.proofs.Common.{◌≤◌, List, length, ℕ, Result, Ok, Err}
 use Rattle.std.specs.Prelude.{IfErr}
 use Rattle.std.specs.Io.KnownBytes.{Consumes, IsAtEnd}
 use Rattle.serde_json.specs.Data.{Data}
-use Rattle.net_json.specs.declared.error.ValueFault.{ValueFault}
+use Rattle.net_plan.specs.declared.error.ValueFault.{ValueFault}
 use Rattle.net_pointers.specs.Asks.{Sort}
 use Rattle.command_answers.specs.declared.inputs.Unread.{Unread}
 use Rattle.command_answers.specs.declared.inputs.Unread.TheVariants.{NoMemory, Failed, TooLong, Text}

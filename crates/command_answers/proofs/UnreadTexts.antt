@@ -3,19 +3,19 @@ use Rattle.std.proofs.Common.{◌≡◌, ◌≢◌, ◌≤◌, List, length, ℕ
 use Rattle.std.specs.Io.KnownBytes.{Consumes, IsAtEnd}
 use Rattle.std.specs.Cow.{cow_str_bytes}
 use Rattle.serde_json.specs.Data.{Data}
-use Rattle.net_json.specs.CertificateReading.{certificate}
-use Rattle.net_json.specs.CertificateText.{IsCertificateOf}
-use Rattle.net_json.specs.EventReading.{events}
-use Rattle.net_json.specs.EventText.{AreEventsOf}
-use Rattle.net_json.specs.PlanReading.{plan}
-use Rattle.net_json.specs.PlanText.{IsPlanOf}
-use Rattle.net_json.specs.declared.error.PlanError.{PlanError}
-use Rattle.net_json.specs.declared.error.PlanError.TheVariants as error_of
-use Rattle.net_json.specs.declared.error.ValueFault.{ValueFault}
-use Rattle.net_json.specs.Refusals.{IsRefused, GaveNone}
-use Rattle.net_json.proofs.Refusing.{answer_given}
-use Rattle.net_plan.specs.declared.plan.Plan.{Plan}
-use Rattle.net_plan.specs.PlanValues.{plan_value, node_names}
+use Rattle.net_plan.specs.CertificateReading.{certificate}
+use Rattle.net_plan.specs.CertificateText.{IsCertificateOf}
+use Rattle.net_plan.specs.EventReading.{events}
+use Rattle.net_plan.specs.EventText.{AreEventsOf}
+use Rattle.net_plan.specs.PlanReading.{plan}
+use Rattle.net_plan.specs.PlanText.{IsPlanOf}
+use Rattle.net_plan.specs.declared.error.PlanError.{PlanError}
+use Rattle.net_plan.specs.declared.error.PlanError.TheVariants as error_of
+use Rattle.net_plan.specs.declared.error.ValueFault.{ValueFault}
+use Rattle.net_plan.specs.Refusals.{IsRefused, GaveNone}
+use Rattle.net_plan.proofs.Refusing.{answer_given}
+use Rattle.plan_values.specs.declared.plan.Plan.{Plan}
+use Rattle.plan_values.specs.PlanValues.{plan_value, node_names}
 use Rattle.net_pointers.specs.Asks.{Sort, plan_text, certificate_text, events_text}
 use Rattle.net_pointers.specs.TextTroubles.{cause_of}
 use Rattle.command_answers.specs.declared.answer.Answer.{Answer}

@@ -4,7 +4,7 @@ use Rattle.std.proofs.Math.Seq.{take-append-add}
 use Rattle.std.specs.Prelude.{OnOk, OnErr}
 use Rattle.std.specs.Io.KnownBytes.{Appends}
 use Rattle.std.proofs.KnownBytes.{Appends-trans}
-use Rattle.net_json.specs.Stream.{AppendsBeginning}
+use Rattle.net_plan.specs.Stream.{AppendsBeginning}
 use Rattle.command_answers.specs.Gathering.{AppendsAllBut}
 
 -- what comes after some bytes, after what came before them

@@ -4,18 +4,18 @@ use Rattle.std.specs.Io.KnownBytes.{Appends}
 use Rattle.net_check.specs.declared.check_error.CheckError.{CheckError}
 use Rattle.net_check.specs.declared.check_error.CheckError.TheVariants as check_error
 use Rattle.net_rules.specs.declared.fault.Fault.{Fault}
-use Rattle.net_plan.specs.declared.plan.Plan.{Plan}
-use Rattle.net_plan.specs.declared.certificate.Certificate.{Certificate}
-use Rattle.net_json.specs.declared.error.PlanError.{PlanError}
-use Rattle.net_json.specs.declared.error.PlanError.TheVariants as error
-use Rattle.net_json.specs.CertificateText.{IsCertificateOf}
-use Rattle.net_plan.specs.CertificateValues.{certificate_value}
+use Rattle.plan_values.specs.declared.plan.Plan.{Plan}
+use Rattle.plan_values.specs.declared.certificate.Certificate.{Certificate}
+use Rattle.net_plan.specs.declared.error.PlanError.{PlanError}
+use Rattle.net_plan.specs.declared.error.PlanError.TheVariants as error
+use Rattle.net_plan.specs.CertificateText.{IsCertificateOf}
+use Rattle.plan_values.specs.CertificateValues.{certificate_value}
 use Rattle.net_rules.specs.Faults.{IsFirstFault, site_of}
-use Rattle.net_json.specs.PlanText.{IsPlanOf}
-use Rattle.net_json.specs.Stream.{Account, HasFailed, AppendsBeginning}
-use Rattle.net_plan.specs.PlanValues.{plan_value}
-use Rattle.net_json.specs.Unread.{GaveNoPlan, GaveNoCertificate}
-use Rattle.net_json.specs.Texts.{Gave, IsJsonTextOf}
+use Rattle.net_plan.specs.PlanText.{IsPlanOf}
+use Rattle.net_plan.specs.Stream.{Account, HasFailed, AppendsBeginning}
+use Rattle.plan_values.specs.PlanValues.{plan_value}
+use Rattle.net_plan.specs.Unread.{GaveNoPlan, GaveNoCertificate}
+use Rattle.net_plan.specs.Texts.{Gave, IsJsonTextOf}
 use Rattle.command_answers.specs.declared.refused.Input.{Input}
 use Rattle.command_answers.specs.declared.refused.Input.TheVariants as input
 use Rattle.command_answers.specs.declared.refused.Refused.{Refused}
@@ -97,6 +97,11 @@ pub record AreTextsGiven (plans certificates : Stream) (text : List ℕ) (plan :
     (certificate : Certificate) : Type 0 where
   pub plan_text : GavePlanText plans text plan
   pub certificate_text : GaveCertificate plan certificates certificate
+
+-- the sources gave no plan with a certificate of it
+abbrev pub AreWithoutCertificate : Stream → Stream → Type 0
+AreWithoutCertificate plans certificates =
+    (plan : Plan) (certificate : Certificate) → ¬ AreGiven plans certificates plan certificate
 
 -- the text is the line of the first fault of the plan and the certificate
 abbrev pub IsFaultText : Plan → Certificate → List ℕ → Type 0

@@ -1,13 +1,13 @@
 -- What `certify` prints of a plan.
 use Rattle.std.specs.Prelude.{◌≡◌, ◌≤◌, ◌-◌, ℕ, List, length, Some}
-use Rattle.net_plan.specs.declared.plan.Plan.{Plan}
-use Rattle.net_plan.specs.declared.certificate.Certificate.{Certificate}
-use Rattle.net_json.specs.CertificateJson.{certificate_text}
-use Rattle.net_json.specs.CertificateText.{IsCertificateOf}
-use Rattle.net_plan.specs.CertificateValues.{certificate_value}
-use Rattle.net_plan.specs.PlanValues.{node_names, plan_value}
-use Rattle.net_json.specs.Texts.{IsJsonTextOf}
-use Rattle.net_plan.specs.WellFormed.{IsWellFormed}
+use Rattle.plan_values.specs.declared.plan.Plan.{Plan}
+use Rattle.plan_values.specs.declared.certificate.Certificate.{Certificate}
+use Rattle.net_plan.specs.CertificateJson.{certificate_text}
+use Rattle.net_plan.specs.CertificateText.{IsCertificateOf}
+use Rattle.plan_values.specs.CertificateValues.{certificate_value}
+use Rattle.plan_values.specs.PlanValues.{node_names, plan_value}
+use Rattle.net_plan.specs.Texts.{IsJsonTextOf}
+use Rattle.plan_values.specs.WellFormed.{IsWellFormed}
 use Rattle.net_rules.specs.declared.certify_error.CertifyError.{CertifyError}
 use Rattle.net_rules.specs.declared.certify_error.CertifyError.TheVariants as error
 use Rattle.net_rules.specs.Certificates.{IsExact, NamesObstacle, HasNoCertificate}

@@ -1,21 +1,21 @@
 -- Events and lines that sources gave, or why they gave none.
 use Rattle.std.specs.Prelude.{◌≡◌, ℕ, List, map, IsUtf8}
-use Rattle.net_plan.specs.declared.plan.Plan.{Plan}
-use Rattle.net_plan.specs.declared.certificate.Certificate.{Certificate}
-use Rattle.net_json.specs.declared.error.PlanError.{PlanError}
-use Rattle.net_plan.specs.declared.event.Event.{Event}
-use Rattle.net_json.specs.EventText.{AreEventsOf}
-use Rattle.net_plan.specs.EventValues.{event_entry}
-use Rattle.net_plan.specs.PlanValues.{plan_value}
-use Rattle.net_json.specs.Texts.{Gave, IsJsonTextOf}
-use Rattle.net_json.specs.Unread.{GaveNoEvents}
+use Rattle.plan_values.specs.declared.plan.Plan.{Plan}
+use Rattle.plan_values.specs.declared.certificate.Certificate.{Certificate}
+use Rattle.net_plan.specs.declared.error.PlanError.{PlanError}
+use Rattle.plan_values.specs.declared.event.Event.{Event}
+use Rattle.net_plan.specs.EventText.{AreEventsOf}
+use Rattle.plan_values.specs.EventValues.{event_entry}
+use Rattle.plan_values.specs.PlanValues.{plan_value}
+use Rattle.net_plan.specs.Texts.{Gave, IsJsonTextOf}
+use Rattle.net_plan.specs.Unread.{GaveNoEvents}
 use Rattle.command_answers.specs.declared.refused.Input.{Input}
 use Rattle.command_answers.specs.declared.refused.Input.TheVariants as input
 use Rattle.command_answers.specs.declared.refused.Refused.{Refused}
 use Rattle.command_answers.specs.Answers.{Stream, GaveNothing, Fails}
 use Rattle.command_answers.specs.Statuses.{HasCause}
-use Rattle.net_json.specs.declared.error.PlanError.TheVariants as error
-use Rattle.net_json.specs.Stream.{TakesMoreThan}
+use Rattle.net_plan.specs.declared.error.PlanError.TheVariants as error
+use Rattle.net_plan.specs.Stream.{TakesMoreThan}
 
 -- the source gave the events at the nodes of the plan
 abbrev pub GaveEvents : Plan → Stream → List Event → Type 0

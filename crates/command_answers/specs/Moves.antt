@@ -2,18 +2,18 @@
 use Rattle.std.specs.Prelude.{◌≡◌, ◌⊎◌, ℕ, List, Some}
 use Rattle.net_rules.specs.declared.move_error.MoveError.{MoveError}
 use Rattle.net_rules.specs.MoveFaults.{NamesFirstMoveFault}
-use Rattle.net_plan.specs.declared.plan.Plan.{Plan}
-use Rattle.net_plan.specs.declared.certificate.Certificate.{Certificate}
-use Rattle.net_json.specs.declared.error.PlanError.{PlanError}
-use Rattle.net_plan.specs.PlanValues.{plan_value}
-use Rattle.net_json.specs.Unread.{GaveNoPlan, GaveNoCertificate}
+use Rattle.plan_values.specs.declared.plan.Plan.{Plan}
+use Rattle.plan_values.specs.declared.certificate.Certificate.{Certificate}
+use Rattle.net_plan.specs.declared.error.PlanError.{PlanError}
+use Rattle.plan_values.specs.PlanValues.{plan_value}
+use Rattle.net_plan.specs.Unread.{GaveNoPlan, GaveNoCertificate}
 use Rattle.command_answers.specs.declared.refused.Input.{Input}
 use Rattle.command_answers.specs.declared.refused.Input.TheVariants as input
 use Rattle.command_answers.specs.declared.refused.Refused.{Refused}
 use Rattle.command_answers.specs.Answers.{Stream, GavePlan, GaveCertificate, GaveNothing}
 use Rattle.command_answers.specs.Statuses.{HasCause}
 use Rattle.plan_texts.specs.MoveLines.{move_error_text}
-use Rattle.net_json.specs.CertificateJson.{certificate_text}
+use Rattle.net_plan.specs.CertificateJson.{certificate_text}
 
 -- one source gave the plan before, one the plan after, and one the certificate, which is read for the plan before
 pub record IsMoveGiven (befores afters certificates : Stream) (before after : Plan)
@@ -21,6 +21,11 @@ pub record IsMoveGiven (befores afters certificates : Stream) (before after : Pl
   pub before_text : GavePlan befores before
   pub after_text : GavePlan afters after
   pub certificate_text : GaveCertificate before certificates certificate
+
+-- the sources gave no two plans with a certificate of the one before
+abbrev pub AreWithoutMoveCertificate : Stream → Stream → Stream → Type 0
+AreWithoutMoveCertificate befores afters certificates = (before after : Plan) (certificate : Certificate)
+    → ¬ IsMoveGiven befores afters certificates before after certificate
 
 -- the text is the line of the first fault of the move
 abbrev pub IsMoveFaultText : Plan → Plan → Certificate → List ℕ → Type 0

@@ -1,7 +1,7 @@
 -- How an answer is told, and what the end of a run says of it.
 use Rattle.std.specs.Prelude.{◌≡◌, ◌⊎◌, ℕ, List}
 use Rattle.std.specs.Io.KnownBytes.{Appends}
-use Rattle.net_json.specs.Stream.{AppendsBeginning}
+use Rattle.net_plan.specs.Stream.{AppendsBeginning}
 use Rattle.command_answers.specs.declared.refused.Refused.{Refused}
 use Rattle.command_answers.specs.declared.refused.Refused.TheVariants as refused
 use Rattle.command_answers.specs.declared.status.Status.{Status}

@@ -1,19 +1,19 @@
 -- What is known of a source that gave no plan, no certificate or no events.
 use Rattle.std.specs.Prelude.{◌≡◌, ℕ, List, ⊤, Result}
 use Rattle.serde_json.specs.Data.{Data}
-use Rattle.net_json.specs.CertificateReading.{certificate}
-use Rattle.net_json.specs.CertificateText.{IsCertificateOf}
-use Rattle.net_json.specs.EventReading.{events}
-use Rattle.net_json.specs.EventText.{AreEventsOf}
-use Rattle.net_json.specs.declared.error.ValueFault.{ValueFault}
-use Rattle.net_plan.specs.declared.plan.Plan.{Plan}
-use Rattle.net_json.specs.declared.stream.TextFault.{TextFault}
-use Rattle.net_json.specs.declared.stream.TextFault.TheVariants as text_fault
-use Rattle.net_json.specs.PlanReading.{plan}
-use Rattle.net_json.specs.PlanText.{IsPlanOf}
-use Rattle.net_plan.specs.PlanValues.{plan_value, node_names}
-use Rattle.net_json.specs.Stream.{TakesMoreThan}
-use Rattle.net_json.specs.Texts.{Gave, IsJsonTextOf}
+use Rattle.net_plan.specs.CertificateReading.{certificate}
+use Rattle.net_plan.specs.CertificateText.{IsCertificateOf}
+use Rattle.net_plan.specs.EventReading.{events}
+use Rattle.net_plan.specs.EventText.{AreEventsOf}
+use Rattle.net_plan.specs.declared.error.ValueFault.{ValueFault}
+use Rattle.plan_values.specs.declared.plan.Plan.{Plan}
+use Rattle.net_plan.specs.declared.stream.TextFault.{TextFault}
+use Rattle.net_plan.specs.declared.stream.TextFault.TheVariants as text_fault
+use Rattle.net_plan.specs.PlanReading.{plan}
+use Rattle.net_plan.specs.PlanText.{IsPlanOf}
+use Rattle.plan_values.specs.PlanValues.{plan_value, node_names}
+use Rattle.net_plan.specs.Stream.{TakesMoreThan}
+use Rattle.net_plan.specs.Texts.{Gave, IsJsonTextOf}
 use Rattle.command_answers.specs.declared.inputs.Unread.{Unread}
 use Rattle.command_answers.specs.declared.inputs.Unread.TheVariants.{NoMemory, Failed, TooLong, Text}
 use Rattle.net_pointers.specs.Asks.{Sort, plan_text, certificate_text, events_text}

@@ -1,12 +1,12 @@
 -- What is explained where a file can't be read.
 use Rattle.std.specs.Prelude.{◌≡◌, ◌⊎◌, ℕ, List, ◌++◌, codes, Option, string_bytes}
-use Rattle.net_json.specs.declared.error.PlanError.{PlanError}
-use Rattle.net_json.specs.declared.error.PlanError.TheVariants as error_of
-use Rattle.net_plan.specs.declared.plan.Plan.{Plan}
-use Rattle.net_plan.specs.PlanValues.{plan_value, node_names}
-use Rattle.net_json.specs.Stream.{TakesMoreThan}
-use Rattle.net_json.specs.Texts.{Gave}
-use Rattle.net_json.specs.Unread.{GaveNoPlan, GaveNoCertificate, GaveNoEvents}
+use Rattle.net_plan.specs.declared.error.PlanError.{PlanError}
+use Rattle.net_plan.specs.declared.error.PlanError.TheVariants as error_of
+use Rattle.plan_values.specs.declared.plan.Plan.{Plan}
+use Rattle.plan_values.specs.PlanValues.{plan_value, node_names}
+use Rattle.net_plan.specs.Stream.{TakesMoreThan}
+use Rattle.net_plan.specs.Texts.{Gave}
+use Rattle.net_plan.specs.Unread.{GaveNoPlan, GaveNoCertificate, GaveNoEvents}
 use Rattle.net_pointers.specs.Asks.{plan_text, certificate_text, events_text}
 use Rattle.net_pointers.specs.TextTroubles.{cause_of}
 use Rattle.command_answers.specs.declared.inputs.Unread.{Unread}

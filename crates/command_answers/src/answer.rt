@@ -2,7 +2,7 @@
 ghost use Rattle.std.specs.Prelude.{◌≡◌, ◌≢◌, ◌⊎◌, IfOk, IfErr, OnOk, OnErr, string_bytes};
 ghost use Rattle.std.specs.Cow.{cow_str_bytes};
 ghost use Rattle.std.specs.Io.KnownBytes.{Appends};
-ghost use Rattle.net_json.specs.Stream.{HasRoom, HasFailed, AppendsBeginning};
+ghost use Rattle.net_plan.specs.Stream.{HasRoom, HasFailed, AppendsBeginning};
 ghost use Rattle.command_answers.specs.declared.refused.Refused.TheVariants.{Unwritten};
 ghost use Rattle.command_answers.specs.declared.status.Status.TheVariants.{Yes, Fault, Unreadable, NoMemory};
 ghost use Rattle.command_answers.specs.Answers.{stream, BreaksOff, Refuses};
@@ -11,7 +11,7 @@ ghost use Rattle.command_answers.specs.Told.{IsTold};
 
 use crate::refused::{NO_MEMORY, Refused, refusal_line};
 use crate::status::Status;
-use net_json::{Sink, write_whole};
+use net_plan::{Sink, write_whole};
 use std::alloc::{AllocError, Global};
 use std::borrow::CowStr;
 

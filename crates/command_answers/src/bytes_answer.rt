@@ -3,12 +3,12 @@ ghost use Rattle.std.specs.Prelude.{◌≡◌, ◌≢◌, ◌⊎◌, IfOk, IfErr
 ghost use Rattle.command_answers.specs.Answers.{stream, Refuses};
 ghost use Rattle.command_answers.specs.Told.{IsTold};
 ghost use Rattle.command_answers.specs.declared.status.Status.TheVariants.{Yes, Fault, NoMemory};
-ghost use Rattle.net_json.specs.Stream.{HasRoom};
+ghost use Rattle.net_plan.specs.Stream.{HasRoom};
 
 use crate::answer::refuse;
 use crate::refused::Refused;
 use crate::status::Status;
-use net_json::{Sink, write_whole};
+use net_plan::{Sink, write_whole};
 use std::alloc::Global;
 
 /// The bytes of an answer, and how a run ends that tells it.

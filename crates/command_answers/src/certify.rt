@@ -2,12 +2,13 @@
 ghost use Rattle.std.specs.Prelude.{◌≡◌, IfOk};
 ghost use Rattle.std.specs.Cow.{cow_str_bytes};
 ghost use Rattle.command_answers.specs.Certifying.{Certifies, others_of};
+ghost use Rattle.net_rules.specs.Rules.{Accepts};
 
 use crate::answer::Answer;
-use net_check::{CertifyError, Checked, certify, check};
-use net_json::text_of_certificate;
-use net_plan::{Certificate, Plan};
+use net_check::{CertifyError, CheckError, Checked, certify, check};
+use net_plan::text_of_certificate;
 use plan_texts::obstacle_line;
+use plan_values::{Certificate, Plan};
 use std::alloc::{AllocError, Global};
 
 /// The certificate of a plan, or the line of what rules certificates of it out.
@@ -26,9 +27,14 @@ pub fn accepted<'a>(
     plan: &'a Plan,
     certificate: &'a Certificate,
 ) -> Result<Checked<'a>, AllocError>
+    requires { Accepts plan.now certificate.now }
     ensures { IfOk result (λ checked. checked ≡ (plan.now, certificate.now)) }
 {
-    check(alloc, plan, certificate).map_err(|_| AllocError)
+    match check(alloc, plan, certificate) {
+        Ok(checked) => Ok(checked),
+        Err(CheckError::OutOfMemory) => Err(AllocError),
+        Err(CheckError::Fault(_)) => unreachable!(),
+    }
 }
 
 /// How many of so many lines of faults are there beside what is told.
@@ -39,7 +45,7 @@ pub fn others_of(obstacle: &CertifyError, count: usize) -> usize
         CertifyError::Fault(_) => count.saturating_sub(1),
         CertifyError::OwnerLoop(_)
         | CertifyError::Loop(_, _)
-        | CertifyError::BadChain(_, _)
+        | CertifyError::BadChain(..)
         | CertifyError::OutOfMemory => count,
     }
 }

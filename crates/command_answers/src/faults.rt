@@ -8,8 +8,8 @@ ghost use Rattle.command_answers.specs.Moves.{IsMoveErrorText};
 use crate::answer::Answer;
 use crate::refused::Refused;
 use net_check::{CheckError, MoveError};
-use net_plan::Plan;
 use plan_texts::{fault_line, move_error_line};
+use plan_values::Plan;
 use std::alloc::{AllocError, Global};
 
 /// The answer where a plan and its certificate are not accepted.

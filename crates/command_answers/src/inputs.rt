@@ -1,22 +1,22 @@
 //! The files that commands read.
 ghost use Rattle.std.specs.Prelude.{◌≡◌, IfOk, IfErr, string_bytes};
-ghost use Rattle.net_json.specs.Stream.{HasRoom};
+ghost use Rattle.net_plan.specs.Stream.{HasRoom};
 ghost use Rattle.command_answers.specs.Answers.{stream, IsWithoutPlan, GavePlan, GavePlanText, GaveCertificate, IsPlanUnread, IsCertificateUnread, AreGiven, AreTextsGiven, AreUnread};
-ghost use Rattle.net_json.specs.CertificateText.{IsCertificateOf};
-ghost use Rattle.net_plan.specs.CertificateValues.{certificate_value};
-ghost use Rattle.net_json.specs.PlanText.{IsPlanOf};
-ghost use Rattle.net_plan.specs.PlanValues.{plan_value};
-ghost use Rattle.net_json.specs.Texts.{IsJsonTextOf};
+ghost use Rattle.net_plan.specs.CertificateText.{IsCertificateOf};
+ghost use Rattle.plan_values.specs.CertificateValues.{certificate_value};
+ghost use Rattle.net_plan.specs.PlanText.{IsPlanOf};
+ghost use Rattle.plan_values.specs.PlanValues.{plan_value};
+ghost use Rattle.net_plan.specs.Texts.{IsJsonTextOf};
 ghost use Rattle.command_answers.specs.UnreadInputs.{IsNoPlanIn, IsNoPlanBy, IsNoCertificateIn, IsNoCertificateBy, IsTextOf, unread_of};
 ghost use Rattle.command_answers.specs.Moves.{IsMoveGiven, IsMoveUnread, ArePlansUnread};
 ghost use Rattle.command_answers.specs.Inputs.{GaveLines, AreLinesUnread, GaveEvents, AreEventsUnread};
 
 use crate::refused::{Input, Refused};
-use net_json::{
+use net_plan::{
     PlanError, Source, TEXT_LIMIT, TextFault as NoText, plan_of_text, read_certificate,
     read_events, read_plan, read_within,
 };
-use net_plan::{Certificate, Event, Plan};
+use plan_values::{Certificate, Event, Plan};
 use reading_texts::{TextError, TextFault, certificate_or_fault, plan_or_fault};
 use std::alloc::Global;
 

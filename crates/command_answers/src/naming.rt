@@ -6,7 +6,7 @@ ghost use Rattle.command_answers.specs.Naming.{IsFirstNamed};
 pub mod ends;
 pub mod terminus;
 
-use net_plan::{Node, Plan};
+use plan_values::{Node, Plan};
 
 /// The index of the first node of the name.
 pub fn first_named(plan: &Plan, name: &str) -> Option<usize>

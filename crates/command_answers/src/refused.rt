@@ -4,7 +4,7 @@ ghost use Rattle.std.specs.Cow.{cow_str_bytes};
 ghost use Rattle.command_answers.specs.Statuses.{refusal_text, IsReportedFor};
 
 use crate::status::Status;
-use net_json::PlanError;
+use net_plan::PlanError;
 use reading_texts::unread_line;
 use std::alloc::{AllocError, Global};
 use std::borrow::CowStr;

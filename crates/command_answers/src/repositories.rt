@@ -5,8 +5,8 @@ ghost use Rattle.pdr_repository.specs.Records.{entries};
 ghost use Rattle.net_tables.specs.Repositories.{entry_of, records_by_place};
 ghost use Rattle.command_answers.specs.Ordering.{AreFirstAt};
 
-use net_plan::{Certificate, Plan, PlannedRecord, RecordPlace};
 use net_tables::lookup::{places_at, records_at};
+use plan_values::{Certificate, Plan, PlannedRecord, RecordPlace};
 use std::alloc::{AllocError, Global};
 
 /// The records of a node's terminus by place, as handles and bytes; none where it has no terminus.

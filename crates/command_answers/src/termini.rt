@@ -12,10 +12,10 @@ ghost use Rattle.net_sim.specs.WalkedStanding.{StandsForWalked};
 
 use crate::repositories::records_by_place;
 use net_check::AcceptedNetwork;
-use net_plan::{Certificate, Plan};
 use net_sim::Network;
 use net_tables::lookup::terminus_at;
 use pdr_repository::BlockTerminus;
+use plan_values::{Certificate, Plan};
 use pldm_message::Tid;
 use std::alloc::{AllocError, Global};
 

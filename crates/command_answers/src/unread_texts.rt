@@ -9,7 +9,7 @@ ghost use Rattle.reading_texts.specs.ReadingLines.{unread_line};
 use crate::answer::Answer;
 use crate::inputs::Unread;
 use crate::refused::{Input, Refused};
-use net_json::PlanError;
+use net_plan::PlanError;
 use reading_texts::unread_line;
 use std::alloc::{AllocError, Global};
 

@@ -4,11 +4,11 @@ ghost use Rattle.std.specs.Io.KnownBytes.{ReadConsumes};
 ghost use Rattle.std.specs.Option.{option_and_then};
 ghost use Rattle.std.specs.Prelude.{◌≡◌, None, ⊤};
 ghost use Rattle.either.specs.Either.{either};
-ghost use Rattle.net_json.specs.Stream.{HasRoom};
+ghost use Rattle.net_plan.specs.Stream.{HasRoom};
 
 use command_questions::RecordFiles;
 use either::Either;
-use net_json::{Counted, Failed, Sink, TextFault, read_within, write_whole};
+use net_plan::{Counted, Failed, Sink, TextFault, read_within, write_whole};
 use std::alloc::{AllocError, Global};
 use std::fs::File;
 use std::io::{self, Input, Read, Write};

@@ -1,13 +1,13 @@
 //! What a person at a terminal is told beside the line of a refusal. Want of memory for it and a sink that fails are
 //! passed over.
-ghost use Rattle.net_json.specs.Stream.{HasRoom};
+ghost use Rattle.net_plan.specs.Stream.{HasRoom};
 
 use crate::subcommand::{command_names, form_of, part_size_of};
 use command_answers::{eid_of_word, first_named, named_terminus};
 use command_questions::Question;
-use net_json::{Sink, Source, read_plan, write_whole};
-use net_plan::Plan;
+use net_plan::{Sink, Source, read_plan, write_whole};
 use net_pointers::nearest_name;
+use plan_values::Plan;
 use program_texts::{guide_to, text_of};
 use record_fields::made_record;
 use std::alloc::{AllocError, Global};

@@ -8,4 +8,4 @@ mod subcommand;
 pub use files::{FileAtPath, FileToWrite, FilesAtPaths, FilesBeside};
 pub use hints::{hint_node, hint_nodes, hint_record, hint_words};
 pub use program_texts::{GUIDE, VERSION};
-pub use subcommand::{Subcommand, links_of_words, parse_command};
+pub use subcommand::{Subcommand, links_of_words, parse_command, words};

@@ -1,13 +1,13 @@
 //! The program's command line.
 use clap::error::ErrorKind;
 use clap::{Arg, ArgAction, ArgMatches};
-use command_answers::{Refused, eid_of_word};
+use command_answers::{Refused, Status, eid_of_word};
 use command_questions::{
     CertifiedJson, DrawnRows, Emulation, Export, ExportKind, Flights, Form, PartSize, PlanJson,
     PlanQuestion, Question, ShownKind, WalkScript, WordQuestion,
 };
 use plan_exports::Link;
-use program_texts::{GUIDE, VERSION, guide_to, schema_of, text_of};
+use program_texts::{GUIDE, guide_to, schema_of, text_of};
 use std::alloc::{AllocError, Global};
 
 /// A command with its arguments. Files stand by their paths.
@@ -112,10 +112,12 @@ pub enum Subcommand<'a> {
         certificate: &'a str,
         words: &'a [String],
     },
-    /// A text of the program itself: what a code means, a schema, a guide or the version.
+    /// A text of the program itself: what a code means, a schema or a guide.
     Known {
         text: &'static str,
     },
+    /// Which version is this, and which kit proved it?
+    Version,
     /// A question that words answer.
     Worded {
         question: WordQuestion,
@@ -181,6 +183,11 @@ pub fn parse_command<'a>(alloc: Global, list: &'a [String]) -> Result<Subcommand
     Ok(command)
 }
 
+/// The command that a list of words stands for, or the status that a run of such words ends with: 2 or 3.
+pub fn words<'a>(alloc: Global, list: &'a [String]) -> Result<Subcommand<'a>, Status> {
+    parse_command(alloc, list).map_err(Refused::status)
+}
+
 fn matches_of<'a>(alloc: Global, list: &'a [String]) -> Result<ArgMatches<'a>, Refused> {
     grammar(alloc, list.get(1))?
         .try_get_matches_from(list)
@@ -206,6 +213,7 @@ fn add_link<'a>(links: &mut Vec<Link<'a>>, link: Link<'a>) -> Result<(), Refused
     }
     match links.push(link) {
         Ok(()) => Ok(()),
+        // no memory: the list of links could not grow.
         Err(_) => Err(Refused::NoMemory),
     }
 }
@@ -426,7 +434,7 @@ fn chosen<'a>(matches: &ArgMatches<'a>, list: &'a [String]) -> Option<Subcommand
         "code" => known(text_of(arguments.get_str("code")?)),
         "schema" => known(schema_of(arguments.get_str("kind")?)),
         "guide" => guiding(arguments),
-        "version" => known(Some(VERSION)),
+        "version" => Some(Subcommand::Version),
         _ => None,
     }
 }

@@ -1,7 +1,7 @@
 //! Where the files of a board are read.
 ghost use Rattle.std.specs.Prelude.{ℕ, List, IfOk};
 
-use net_json::TextFault;
+use net_plan::TextFault;
 use std::alloc::Global;
 
 /// Files that the records of a board name.

@@ -12,7 +12,7 @@ use Rattle.heard_captures.specs.Seen.{Seen, Fed, Told}
 use Rattle.heard_captures.specs.Stations.{AreGiven}
 use Rattle.heard_captures.specs.Steps.{HaveSeen, Sees}
 use Rattle.heard_captures.proofs.SeenLaws as heard
-use Rattle.net_plan.specs.declared.plan.Plan.{Plan}
+use Rattle.plan_values.specs.declared.plan.Plan.{Plan}
 use Rattle.decoded_texts.specs.Decoding.{AreTold, None, More, unit_by}
 use Rattle.decoded_texts.specs.Messages.{IsSaid}
 use Rattle.decoded_texts.specs.Seen.{IsToldAs, IsSaidOf, told_line, fed_line}

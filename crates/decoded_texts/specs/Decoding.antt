@@ -8,7 +8,7 @@ use Rattle.bus_captures.specs.declared.capture.CaptureFault.TheVariants as fault
 use Rattle.bus_captures.specs.declared.capture.End.{End}
 use Rattle.bus_captures.specs.declared.capture.End.TheVariants as end
 use Rattle.heard_captures.specs.Seen.{Seen, AreSeen}
-use Rattle.net_plan.specs.declared.plan.Plan.{Plan}
+use Rattle.plan_values.specs.declared.plan.Plan.{Plan}
 use Rattle.decoded_texts.specs.Seen.{IsToldAs}
 
 -- These are the lines of what was seen, one after the other, with the names that a plan has. Entries are numbered

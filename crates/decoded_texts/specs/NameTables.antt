@@ -1,7 +1,7 @@
 -- How the code looks names up.
 use Rattle.std.specs.Prelude.{◌≡◌, ℕ, ◌<◌, List, length, codes, string_bytes}
 use Rattle.std.specs.Prelude.{slice_index_or, String}
-use Rattle.net_plan.specs.declared.plan.Plan.{Plan}
+use Rattle.plan_values.specs.declared.plan.Plan.{Plan}
 use Rattle.decoded_texts.specs.Names.{end_words}
 
 -- for each endpoint ID the words of those who hold it

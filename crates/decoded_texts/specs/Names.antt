@@ -3,9 +3,9 @@ use Rattle.std.specs.Prelude.{ℕ, ◌==◌, List, [], ◌++◌, codes, Option, 
 use Rattle.std.specs.Prelude.{if◌then◌else◌}
 use Rattle.std.specs.List.{flat_map}
 use Rattle.mctp_transport.specs.PacketValues.{PacketValue}
-use Rattle.net_plan.specs.NodeValues.{name_bytes}
-use Rattle.net_plan.specs.declared.nodes.Node.{Node}
-use Rattle.net_plan.specs.declared.plan.Plan.{Plan}
+use Rattle.plan_values.specs.NodeValues.{name_bytes}
+use Rattle.plan_values.specs.declared.nodes.Node.{Node}
+use Rattle.plan_values.specs.declared.plan.Plan.{Plan}
 
 -- behind these words the name of a node that holds the endpoint ID
 abbrev pub holder_words : List ℕ → ℕ → Node → List ℕ

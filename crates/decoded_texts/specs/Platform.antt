@@ -10,7 +10,7 @@ use Rattle.pldm_message.specs.declared.kind.MessageKind.TheVariants as kind
 use Rattle.pldm_message.specs.Headers.{HeaderValue, BeginsWith}
 use Rattle.pldm_message.specs.Messages.{RequestMessage, ResponseMessage}
 use Rattle.pldm_message.specs.Pdrs.{PartRequest, IsGetPdrRequest, get_pdr_request_bytes}
-use Rattle.pldm_message.specs.Pdrs.{Part, IsGetPdrResponse, get_pdr_response_bytes}
+use Rattle.pldm_message.specs.Pdrs.{Part, IsGetPdrResponse, get_pdr_answer_bytes}
 
 -- where a part of a record is asked for
 abbrev pub place_words : PartRequest → List ℕ
@@ -62,7 +62,7 @@ IsPartRequestText message text =
 
 abbrev pub IsPartAnswerText : List ℕ → List ℕ → Type 0
 IsPartAnswerText message text =
-    (m : ResponseMessage Part) × Spells IsGetPdrResponse get_pdr_response_bytes m message
+    (m : ResponseMessage Part) × Spells IsGetPdrResponse get_pdr_answer_bytes m message
     × IsOutcomeText m.head.instance m.outcome text
 
 -- the bytes are neither
@@ -70,7 +70,7 @@ abbrev pub IsNoPartRequest : List ℕ → Type 0
 IsNoPartRequest message = (m : RequestMessage PartRequest) → ¬ Spells IsGetPdrRequest get_pdr_request_bytes m message
 
 abbrev pub IsNoPartAnswer : List ℕ → Type 0
-IsNoPartAnswer message = (m : ResponseMessage Part) → ¬ Spells IsGetPdrResponse get_pdr_response_bytes m message
+IsNoPartAnswer message = (m : ResponseMessage Part) → ¬ Spells IsGetPdrResponse get_pdr_answer_bytes m message
 
 abbrev pub kind_word : MessageKind → List ℕ
 kind_word kind.Request = codes "request"

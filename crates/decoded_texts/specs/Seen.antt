@@ -9,7 +9,7 @@ use Rattle.mctp_transport.specs.PacketValues.{PacketValue}
 use Rattle.mctp_transport.specs.Hearing.{Answer, Whole, Held, Dropped}
 use Rattle.mctp_transport.specs.Refusals as refusals
 use Rattle.heard_captures.specs.Seen.{Seen, Fed, NoPacket, Told, Other}
-use Rattle.net_plan.specs.declared.plan.Plan.{Plan}
+use Rattle.plan_values.specs.declared.plan.Plan.{Plan}
 use Rattle.plan_texts.specs.Shown.{address_words_of, position_words_of, tag_words_of, refused_bytes}
 use Rattle.decoded_texts.specs.Messages.{IsSaid}
 use Rattle.decoded_texts.specs.Names.{names_of}

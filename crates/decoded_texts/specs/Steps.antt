@@ -4,7 +4,7 @@ use Rattle.bus_captures.specs.Values.{EntryValue}
 use Rattle.mctp_transport.specs.declared.assembler.Assembler.{Assembler}
 use Rattle.heard_captures.specs.Seen.{Seen}
 use Rattle.heard_captures.specs.Steps.{Sees}
-use Rattle.net_plan.specs.declared.plan.Plan.{Plan}
+use Rattle.plan_values.specs.declared.plan.Plan.{Plan}
 use Rattle.decoded_texts.specs.Decoding.{unit_by}
 use Rattle.decoded_texts.specs.Seen.{IsToldAs}
 

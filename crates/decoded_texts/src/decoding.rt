@@ -7,7 +7,7 @@ use crate::entries::push_entry;
 use crate::names::Names;
 use bus_captures::{Capture, CaptureFault, End};
 use heard_captures::idle_assemblers;
-use net_plan::Plan;
+use plan_values::Plan;
 use std::alloc::{AllocError, Global};
 
 /// For each entry of a capture a line with its number and what became of it, and behind it what its message says; and

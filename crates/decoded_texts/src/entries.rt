@@ -120,7 +120,7 @@ fn push_position(text: &mut String, packet: &PacketView) -> Result<(), AllocErro
 {
     let som = u8::from(packet.header.som);
     let eom = u8::from(packet.header.eom);
-    let number = packet.header.sequence.value;
+    let number = packet.header.number.value;
     write!(text, " som {som} eom {eom} number {number}")
 }
 

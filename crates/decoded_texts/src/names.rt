@@ -3,13 +3,13 @@ ghost use Rattle.std.specs.Prelude.{◌≡◌, ◌++◌, IfOk, OnOk, length, opt
 ghost use Rattle.std.specs.List.{flat_map};
 ghost use Rattle.mctp_transport.specs.PacketValues.{IsUnit};
 ghost use Rattle.mctp_transport.specs.Packets.{packet_value_of};
-ghost use Rattle.net_plan.specs.NodeValues.{name_bytes};
+ghost use Rattle.plan_values.specs.NodeValues.{name_bytes};
 ghost use Rattle.decoded_texts.specs.Decoding.{unit_by};
 ghost use Rattle.decoded_texts.specs.Names.{holder_words, end_words, names_of};
 ghost use Rattle.decoded_texts.specs.NameTables.{AreEndWords, AreNames};
 
 use mctp_transport::{BASELINE_UNIT, PacketView};
-use net_plan::{Node, Plan};
+use plan_values::{Node, Plan};
 use std::alloc::{AllocError, Global};
 
 /// Who holds which endpoint ID by a plan, in words.

@@ -1,15 +1,13 @@
 //! The lines of PLDM messages.
 ghost use Rattle.std.specs.Prelude.{◌≡◌, ◌≤◌, IfOk, MatchOption, string_bytes, length, drop};
 ghost use Rattle.pldm_message.specs.HeaderValues.{header_value};
-ghost use Rattle.pldm_message.specs.PdrValues.{get_pdr_request, part_request, get_pdr_response, part};
+ghost use Rattle.pldm_message.specs.PdrValues.{get_pdr_request, part_request, get_pdr_answer, part};
 ghost use Rattle.decoded_texts.specs.Platform.{part_request_line, place_words, part_line, part_words, failed_line, header_line, kind_word, IsRecordOrNothing, IsPartText, IsOutcomeText, IsPartRequestText, IsPartAnswerText, IsNoPartRequest, IsNoPartAnswer, IsHeaderText, IsNoHeader};
 
 use mctp_transport::Wire;
 use pdr_record::Record;
 use plan_texts::record_text;
-use pldm_message::{
-    GetPdrRequest, GetPdrResponse, HEADER_LENGTH, MessageKind, PdrPart, PldmHeader,
-};
+use pldm_message::{GetPdrAnswer, GetPdrRequest, HEADER_LENGTH, MessageKind, PdrPart, PldmHeader};
 use std::alloc::{AllocError, Global};
 
 /// The line of the request for a part of a record that the bytes are. None where they are none.
@@ -49,14 +47,14 @@ pub fn part_answer_text(alloc: Global, message: &[u8]) -> Result<Option<String>,
     ensures { IfOk result (λ found. MatchOption found (IsNoPartAnswer message.now)
         (λ text. IsPartAnswerText message.now (string_bytes text))) }
 {
-    match GetPdrResponse::read(message) {
+    match GetPdrAnswer::read(message) {
         Ok(answer) => Ok(Some(answer_text(alloc, &answer)?)),
         Err(_) => Ok(None),
     }
 }
 
-fn answer_text(alloc: Global, answer: &GetPdrResponse) -> Result<String, AllocError>
-    ensures { IfOk result (λ text. IsOutcomeText (get_pdr_response answer.now).head.instance (get_pdr_response answer.now).outcome (string_bytes text)) }
+fn answer_text(alloc: Global, answer: &GetPdrAnswer) -> Result<String, AllocError>
+    ensures { IfOk result (λ text. IsOutcomeText (get_pdr_answer answer.now).head.instance (get_pdr_answer answer.now).outcome (string_bytes text)) }
 {
     let instance = answer.head.instance.value;
     match &answer.outcome {

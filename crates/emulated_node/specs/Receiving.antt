@@ -1,10 +1,9 @@
 -- What a node does with a packet that comes over a bus.
-use Rattle.std.specs.Prelude.{◌≡◌, ◌⊎◌, ℕ, List, [], ◌∷◌, Option, None, Some}
-use Rattle.mctp_bridge.specs.declared.decision.Decision.{Decision}
-use Rattle.mctp_bridge.specs.declared.decision.Decision.TheVariants as decision
-use Rattle.mctp_bridge.specs.declared.row.Hop.{Hop}
-use Rattle.mctp_bridge.specs.declared.decision.Progress.TheVariants.{Transit}
-use Rattle.mctp_bridge.specs.Decisions.{IsDecided}
+use Rattle.std.specs.Prelude.{◌≡◌, ◌⊎◌, ℕ, false, List, [], ◌∷◌, Option, None, Some}
+use Rattle.mctp_routing.specs.declared.decision.Decision.{Decision}
+use Rattle.mctp_routing.specs.declared.decision.Decision.TheVariants as decision
+use Rattle.mctp_routing.specs.declared.row.Hop.{Hop}
+use Rattle.mctp_routing.specs.Decisions.{IsDecided}
 use Rattle.mctp_control.specs.Devices.{DeviceValue, present_eid}
 use Rattle.mctp_transport.specs.PacketValues.{PacketValue, packet_value_bytes, key_of}
 use Rattle.mctp_transport.specs.Hearing.{Answer, Hears}
@@ -20,11 +19,11 @@ use Rattle.emulated_node.specs.Replying.{RepliesTo}
 -- that came over a bus
 abbrev pub DecidesOn : Setting → NodeState → PacketValue → Decision → Type 0
 DecidesOn set s p decided =
-    IsDecided (present_eid s.device.eid) set.kind set.rows Transit p.destination decided
+    IsDecided (present_eid s.device.eid) set.kind set.rows false p.destination decided
 
 -- a packet for the endpoint ID 0 is for the node that it reaches (DSP0236, null endpoint ID)
 abbrev pub IsForNode : Setting → NodeState → PacketValue → Type 0
-IsForNode set s p = (p.destination ≡ 0) ⊎ DecidesOn set s p decision.Deliver
+IsForNode set s p = (p.destination ≡ 0) ⊎ DecidesOn set s p decision.Here
 
 -- the packet is for another node, and this is decided on it
 abbrev pub IsForOther : Setting → NodeState → PacketValue → Decision → Type 0

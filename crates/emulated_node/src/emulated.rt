@@ -7,12 +7,12 @@ use crate::hearing::hear_over;
 use crate::received::{Reason, Received};
 use crate::replying::reply;
 use crate::sending::packet_bytes;
-use mctp_bridge::{Decision, DeviceKind, Hop, RangeTable};
 use mctp_control::{Device, RouteEntry};
+use mctp_routing::{Decision, DeviceKind, Hop, RangeTable};
 use mctp_transport::{Assembler, Heard, PacketView, idle_assemblers};
-use net_plan::Plan;
 use net_tables::lookup::bus_at;
 use pdr_repository::Terminus;
+use plan_values::Plan;
 use std::alloc::{AllocError, Global};
 
 /// A node of a plan as a device that answers: it takes packets in, one after another.
@@ -89,7 +89,7 @@ impl<'a, T: Terminus> Emulated<'a, T> {
             × HasNodeState T.tid T.records self.new next) }
     {
         match decide_on(&self.device, self.kind, &self.table, &packet.header) {
-            Decision::Deliver => self.take_in(bus, packet),
+            Decision::Here => self.take_in(bus, packet),
             Decision::Forward(hop) => {
                 let received = self.send_on(hop, packet)?;
                 Ok(received)

@@ -1,5 +1,5 @@
 //! What becomes of a packet.
-use mctp_bridge::ForwardFault;
+use mctp_routing::ForwardFault;
 use mctp_transport::DropCause;
 
 /// Why nothing is sent for a packet.

@@ -3,11 +3,11 @@ use Rattle.std.proofs.Common.{◌≡◌, ◌≢◌, ℕ, ◌<◌, ◌≤◌, Lis
 use Rattle.std.specs.Prelude.{option_map}
 use Rattle.std.proofs.lemmas.Bool.{cases_lt}
 use Rattle.std.proofs.lemmas.Option.{slice_get_read}
-use Rattle.net_plan.proofs.SameItems.{same_beyond, same_here}
-use Rattle.net_plan.specs.NodeValues.{bus_value, but_rows, node_value}
-use Rattle.net_plan.specs.declared.nodes.Bus.{Bus}
-use Rattle.net_plan.specs.declared.nodes.Node.{Node}
-use Rattle.net_plan.specs.declared.plan.Plan.{Plan}
+use Rattle.plan_values.proofs.SameItems.{same_beyond, same_here}
+use Rattle.plan_values.specs.NodeValues.{bus_value, but_rows, node_value}
+use Rattle.plan_values.specs.declared.nodes.Bus.{Bus}
+use Rattle.plan_values.specs.declared.nodes.Node.{Node}
+use Rattle.plan_values.specs.declared.plan.Plan.{Plan}
 use Rattle.net_rules.specs.MoveRules.{HaveSameFrame, IsSameNode}
 use Rattle.explain_commands.specs.MoveDifferences.{IsUnlikeBus, IsUnlikeNode, IsUnlikePart}
 use Rattle.explain_commands.specs.declared.explain.moved.differences.NodePart.{NodePart}

@@ -1,7 +1,7 @@
 -- The texts of a move, from their parts.
 use Rattle.std.proofs.Common.{◌≡◌, ◌++◌, List, ℕ, Option, None, Result, Ok, Err, length, inl, sym, subst}
 use Rattle.std.specs.Prelude.{IfOk, codes}
-use Rattle.net_plan.specs.declared.certificate.Certificate.{Certificate}
+use Rattle.plan_values.specs.declared.certificate.Certificate.{Certificate}
 use Rattle.net_rules.specs.declared.mixed_loop.MixedLoop.{MixedLoop}
 use Rattle.net_rules.specs.declared.mixed_loop.Side.{Side}
 use Rattle.net_rules.specs.declared.move_fault.MoveFault.{MoveFault}

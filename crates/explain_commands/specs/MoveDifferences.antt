@@ -2,10 +2,10 @@
 use Rattle.std.specs.Prelude.{◌≡◌, ◌≢◌, ℕ, List, [], ◌∷◌, ◌++◌, codes, length, slice_get}
 use Rattle.std.specs.Prelude.{Option, Some, None, option_map}
 use Rattle.std.specs.Fmt.{decimal}
-use Rattle.net_json.specs.Finding.{Step, key, index}
-use Rattle.net_plan.specs.NodeValues.{BusValue, NodeValue, bus_value, node_value}
-use Rattle.net_plan.specs.declared.nodes.Bus.{Bus}
-use Rattle.net_plan.specs.declared.plan.Plan.{Plan}
+use Rattle.net_plan.specs.Finding.{Step, key, index}
+use Rattle.plan_values.specs.NodeValues.{BusValue, NodeValue, bus_value, node_value}
+use Rattle.plan_values.specs.declared.nodes.Bus.{Bus}
+use Rattle.plan_values.specs.declared.plan.Plan.{Plan}
 use Rattle.explain_commands.specs.declared.explain.moved.differences.NodePart.{NodePart}
 use Rattle.explain_commands.specs.declared.explain.moved.differences.NodePart.TheVariants as part
 use Rattle.explain_commands.specs.declared.explain.moved.differences.Unlike.{Unlike}

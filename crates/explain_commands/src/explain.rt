@@ -2,7 +2,7 @@
 ghost use Rattle.std.specs.Prelude.{◌≡◌, ◌≢◌, IfOk, IfErr, option_map, string_bytes};
 ghost use Rattle.std.specs.Cow.{cow_str_bytes};
 ghost use Rattle.net_rules.specs.Certificates.{NamesObstacle, RulesOutCertificates};
-ghost use Rattle.net_json.specs.Stream.{HasRoom};
+ghost use Rattle.net_plan.specs.Stream.{HasRoom};
 ghost use Rattle.command_answers.specs.declared.status.Status.TheVariants.{NoMemory};
 ghost use Rattle.command_answers.specs.declared.refused.Refused.TheVariants as refused;
 ghost use Rattle.command_answers.specs.Answers.{stream};
@@ -21,9 +21,9 @@ use explanation_texts::{edit_lines, obstacle_lines, summary_lines};
 use fault_texts::{more_line, obstacle_place};
 use net_check::{CertifyError, certify, faults};
 use net_explained::{most_hops, tried_edits};
-use net_json::{Sink, Source};
-use net_plan::{Certificate, Plan};
+use net_plan::{Sink, Source};
 use plan_texts::obstacle_line;
+use plan_values::{Certificate, Plan};
 use std::alloc::{AllocError, Global};
 
 /// Says on `output` what `certify` says of a plan, `yes` in place of the certificate, and explains it. Where the plan

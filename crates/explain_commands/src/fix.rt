@@ -1,7 +1,7 @@
 //! The command `fix`: a plan's text with edits made, until a certificate fits the plan.
 ghost use Rattle.std.specs.Prelude.{◌≡◌, IfOk, IfErr, IsUtf8, string_bytes};
 ghost use Rattle.std.specs.Cow.{cow_str_bytes};
-ghost use Rattle.net_json.specs.Stream.{HasRoom};
+ghost use Rattle.net_plan.specs.Stream.{HasRoom};
 ghost use Rattle.command_answers.specs.declared.refused.Refused.TheVariants as refused;
 ghost use Rattle.command_answers.specs.declared.status.Status.TheVariants.{NoMemory};
 ghost use Rattle.command_answers.specs.Answers.{stream};
@@ -12,11 +12,11 @@ ghost use Rattle.command_answers.specs.UnreadInputs.{IsTextOf};
 use command_answers::{
     Answer, Input, PlanText, Refused, Status, plan_or_text, refuse, tell, unread_answer,
 };
-use net_json::{Sink, Source, write_whole};
-use net_plan::Plan;
+use net_plan::{Sink, Source, write_whole};
 use net_rules::CertifyError;
 use plan_fixes::{Draft, Fixed, fix};
 use plan_texts::obstacle_line;
+use plan_values::Plan;
 use std::alloc::{AllocError, Global};
 
 /// What is answered, and the lines of the edits that were made.

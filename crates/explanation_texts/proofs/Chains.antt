@@ -5,7 +5,7 @@ use Rattle.net_rules.specs.Certificates.{CanBeMetBefore}
 use Rattle.net_rules.specs.Faults.{order_of}
 use Rattle.net_rules.specs.RecordChains.{HaveNewHandles}
 use Rattle.net_tables.specs.Repositories.{records_of}
-use Rattle.net_plan.specs.declared.plan.Plan.{Plan}
+use Rattle.plan_values.specs.declared.plan.Plan.{Plan}
 
 -- what comes before chains in the order of the rules is met
 pub chain_handles : (plan : Plan) (n : ℕ) → CanBeMetBefore plan (order_of C14) → HaveNewHandles (records_of plan n)

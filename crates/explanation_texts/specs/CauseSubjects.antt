@@ -5,7 +5,7 @@ use Rattle.net_tables.specs.Routing.{eid_number}
 use Rattle.net_tables.specs.Ownership.{owner_of}
 use Rattle.net_explained.specs.declared.cause.Cause.{Cause}
 use Rattle.net_explained.specs.declared.cause.Cause.TheVariants as cause
-use Rattle.net_plan.specs.declared.plan.Plan.{Plan}
+use Rattle.plan_values.specs.declared.plan.Plan.{Plan}
 use Rattle.pdr_record.specs.declared.record_error.RecordError.{RecordError}
 use Rattle.pdr_record.specs.declared.record_error.RecordError.TheVariants.{Short, Length}
 use Rattle.explanation_texts.specs.Pieces.{entry_at}

@@ -7,8 +7,8 @@ use Rattle.net_tables.specs.Routing.{eid_number}
 use Rattle.net_tables.specs.Ownership.{owner_of, given_level, level}
 use Rattle.net_tables.specs.Ranks.{rank}
 use Rattle.net_tables.specs.Repositories.{places_of, records_of}
-use Rattle.net_plan.specs.declared.certificate.Certificate.{Certificate}
-use Rattle.net_plan.specs.declared.plan.Plan.{Plan}
+use Rattle.plan_values.specs.declared.certificate.Certificate.{Certificate}
+use Rattle.plan_values.specs.declared.plan.Plan.{Plan}
 use Rattle.explanation_texts.specs.CauseSubjects.{entry_of}
 use Rattle.explanation_texts.specs.Pieces.{row_of}
 use Rattle.explanation_texts.specs.declared.pieces.Entry.{Entry}

@@ -7,10 +7,10 @@ use Rattle.net_explained.specs.declared.edit.Change.{Change}
 use Rattle.net_explained.specs.declared.edit.Change.TheVariants as change
 use Rattle.net_explained.specs.declared.edit.Edit.{Edit}
 use Rattle.net_explained.specs.declared.trial.Tried.{Tried}
-use Rattle.net_plan.specs.NodeValues.{name_bytes}
-use Rattle.net_plan.specs.declared.nodes.Pool.{Pool}
-use Rattle.net_plan.specs.declared.nodes.Row.{Row}
-use Rattle.net_plan.specs.declared.plan.Plan.{Plan}
+use Rattle.plan_values.specs.NodeValues.{name_bytes}
+use Rattle.plan_values.specs.declared.nodes.Pool.{Pool}
+use Rattle.plan_values.specs.declared.nodes.Row.{Row}
+use Rattle.plan_values.specs.declared.plan.Plan.{Plan}
 use Rattle.net_rules.specs.declared.certify_error.CertifyError.{CertifyError}
 use Rattle.net_tables.specs.Names.{kind_word, node_name}
 use Rattle.net_tables.specs.Routing.{rows_of}

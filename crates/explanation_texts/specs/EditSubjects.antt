@@ -7,10 +7,10 @@ use Rattle.net_tables.specs.Ownership.{pool_of}
 use Rattle.net_explained.specs.declared.cause.Cause.{Cause}
 use Rattle.net_explained.specs.declared.cause.Cause.TheVariants as cause
 use Rattle.net_explained.specs.declared.rest.Stretch.{Stretch}
-use Rattle.net_plan.specs.declared.nodes.Node.{Node}
-use Rattle.net_plan.specs.declared.nodes.Pool.{Pool}
-use Rattle.net_plan.specs.declared.plan.Plan.{Plan}
-use Rattle.net_plan.specs.declared.terminus.PlannedTerminus.{PlannedTerminus}
+use Rattle.plan_values.specs.declared.nodes.Node.{Node}
+use Rattle.plan_values.specs.declared.nodes.Pool.{Pool}
+use Rattle.plan_values.specs.declared.plan.Plan.{Plan}
+use Rattle.plan_values.specs.declared.terminus.PlannedTerminus.{PlannedTerminus}
 use Rattle.explanation_texts.specs.CauseSubjects.{entry_of}
 use Rattle.explanation_texts.specs.Pieces.{entry_at, tid_of}
 use Rattle.explanation_texts.specs.declared.pieces.Entry.{Entry}

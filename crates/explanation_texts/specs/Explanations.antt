@@ -15,8 +15,8 @@ use Rattle.net_rules.specs.declared.certifying.chains.ChainFault.TheVariants.{Mi
 use Rattle.net_rules.specs.declared.fault.Fault.{Fault}
 use Rattle.net_explained.specs.declared.cause.Cause.{Cause}
 use Rattle.net_explained.specs.Causes.{IsCauseAt}
-use Rattle.net_plan.specs.declared.nodes.Row.{Row}
-use Rattle.net_plan.specs.declared.plan.Plan.{Plan}
+use Rattle.plan_values.specs.declared.nodes.Row.{Row}
+use Rattle.plan_values.specs.declared.plan.Plan.{Plan}
 use Rattle.explanation_texts.specs.CauseSubjects.{cause_subjects}
 use Rattle.explanation_texts.specs.EditSubjects.{edit_subjects, has_eid}
 use Rattle.explanation_texts.specs.Pieces.{Tells, entry_at, handle_of, record_of}
@@ -123,10 +123,10 @@ IsNamedOfCircle plan n j named = (circle : List ℕ)
     × IsLoopFrom (IsFollowedBy (records_of plan n)) j circle × (named ≡ circle_subjects plan n j circle)
 
 -- that is named where a bad chain is told
-abbrev pub IsNamedOfChain : Plan → ℕ → ChainFault → List Piece → Type 0
-IsNamedOfChain plan n (Missing j) named = named ≡ missing_subjects n j
-IsNamedOfChain plan n (Doubled j) named = named ≡ doubled_subjects plan n j
-IsNamedOfChain plan n (Circle j) named = IsNamedOfCircle plan n j named
+abbrev pub IsNamedOfChain : Plan → ℕ → ChainFault → ℕ → List Piece → Type 0
+IsNamedOfChain plan n Missing j named = named ≡ missing_subjects n j
+IsNamedOfChain plan n Doubled j named = named ≡ doubled_subjects plan n j
+IsNamedOfChain plan n Circle j named = IsNamedOfCircle plan n j named
 
 -- ---- all of them
 
@@ -135,7 +135,7 @@ abbrev pub IsNamedOf : Plan → CertifyError → List Piece → Type 0
 IsNamedOf plan (error.Fault fault) named = IsNamedOfFault plan fault named
 IsNamedOf plan (error.OwnerLoop nodes) named = named ≡ owner_loop_subjects plan nodes.items
 IsNamedOf plan (error.Loop eid nodes) named = named ≡ loop_subjects plan eid.value nodes.items
-IsNamedOf plan (error.BadChain node fault) named = IsNamedOfChain plan node fault named
+IsNamedOf plan (error.BadChain node kind entry) named = IsNamedOfChain plan node kind entry named
 IsNamedOf plan error.OutOfMemory named = ⊥
 
 -- the text explains what rules certificates of the plan out

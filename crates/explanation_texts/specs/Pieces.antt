@@ -9,10 +9,10 @@ use Rattle.net_tables.specs.Ownership.{owner_of, pool_of}
 use Rattle.net_tables.specs.Repositories.{records_of, terminus_of}
 use Rattle.net_tables.specs.Routing.{eid_of, ports_of, rows_of}
 use Rattle.net_tables.specs.Rows.{bus_of}
-use Rattle.net_plan.specs.declared.nodes.Pool.{Pool}
-use Rattle.net_plan.specs.declared.nodes.Row.{Row}
-use Rattle.net_plan.specs.declared.plan.Plan.{Plan}
-use Rattle.net_plan.specs.declared.terminus.PlannedRecord.{PlannedRecord}
+use Rattle.plan_values.specs.declared.nodes.Pool.{Pool}
+use Rattle.plan_values.specs.declared.nodes.Row.{Row}
+use Rattle.plan_values.specs.declared.plan.Plan.{Plan}
+use Rattle.plan_values.specs.declared.terminus.PlannedRecord.{PlannedRecord}
 use Rattle.pdr_record.specs.Codes.{code_of}
 use Rattle.net_tables.specs.Names.{address_on, node_name}
 use Rattle.plan_texts.specs.Lines.{number_or_dash}

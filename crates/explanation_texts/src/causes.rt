@@ -14,10 +14,10 @@ use crate::pieces::Piece::{
 use crate::pieces::{Entry, Piece, byte, entry_at, followed_by, told};
 use mctp_transport::Eid;
 use net_explained::Cause;
-use net_plan::Plan;
 use net_rules::Fault;
 use net_tables::lookup::owner_at;
 use pdr_record::RecordError;
+use plan_values::Plan;
 use std::alloc::{AllocError, Global};
 
 /// The sentences that tell the cause of a fault in the plan's own names and numbers.

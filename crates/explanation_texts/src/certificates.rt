@@ -12,9 +12,9 @@ use crate::pieces::Piece::{At, Given, Name, Number, OwnerName, RowNext};
 use crate::pieces::{Entry, Piece, render, told};
 use mctp_transport::Eid;
 use net_explained::rank_of;
-use net_plan::{Certificate, Plan};
 use net_rules::{Fault, Rule};
 use net_tables::lookup::{given_level_of, holds, level_of, owner_at, places_at, records_at};
+use plan_values::{Certificate, Plan};
 use std::alloc::{AllocError, Global};
 
 /// Tells what the certificate gives by which it breaks the rule of a fault.

@@ -15,9 +15,9 @@ use crate::pieces::Piece::{
 };
 use crate::pieces::{Entry, Piece, byte, entry_at, followed_by, told};
 use net_explained::{Cause, Stretch};
-use net_plan::{Node, Plan, Pool};
 use net_rules::Fault;
 use net_tables::lookup::pool_at;
+use plan_values::{Node, Plan, Pool};
 use std::alloc::{AllocError, Global};
 
 /// One or two edits, each of which takes a fault of this cause away.

@@ -25,9 +25,9 @@ use crate::pieces::Piece::{
 use crate::pieces::{Entry, Piece, entry_at, followed_by, render, told};
 use mctp_transport::Eid;
 use net_explained::{Cause, circle_from, find_cause};
-use net_plan::{Plan, PlannedRecord, Row};
 use net_rules::{CertifyError, ChainFault, Fault};
 use net_tables::lookup::{owner_at, pool_at, records_at, rows_at};
+use plan_values::{Plan, PlannedRecord, Row};
 use std::alloc::{AllocError, Global};
 
 /// Explains what rules certificates of a plan out.
@@ -55,7 +55,9 @@ fn obstacle_pieces(
         CertifyError::Fault(fault) => fault_pieces(alloc, plan, fault),
         CertifyError::OwnerLoop(nodes) => owner_loop_pieces(alloc, plan, nodes),
         CertifyError::Loop(eid, nodes) => loop_pieces(alloc, plan, *eid, nodes),
-        CertifyError::BadChain(node, fault) => chain_pieces(alloc, plan, *node, *fault),
+        CertifyError::BadChain(node, kind, entry) => {
+            chain_pieces(alloc, plan, *node, *kind, *entry)
+        }
         CertifyError::OutOfMemory => Err(AllocError),
     }
 }
@@ -251,16 +253,17 @@ fn chain_pieces(
     alloc: Global,
     plan: &Plan,
     node: usize,
-    fault: ChainFault,
+    kind: ChainFault,
+    index: usize,
 ) -> Result<Vec<Piece>, AllocError>
     requires handles { HaveNewHandles (records_of plan.now node) }
-    requires bad { IsBadChain (records_of plan.now node) fault }
-    ensures { IfOk result (λ pieces. IsNamedOfChain plan.now node fault (subjects pieces.items)) }
+    requires bad { IsBadChain (records_of plan.now node) kind index }
+    ensures { IfOk result (λ pieces. IsNamedOfChain plan.now node kind index (subjects pieces.items)) }
 {
-    match fault {
-        ChainFault::Missing(index) => missing_pieces(alloc, node, index),
-        ChainFault::Doubled(index) => doubled_pieces(alloc, plan, node, index),
-        ChainFault::Circle(index) => circle_pieces(alloc, plan, node, index),
+    match kind {
+        ChainFault::Missing => missing_pieces(alloc, node, index),
+        ChainFault::Doubled => doubled_pieces(alloc, plan, node, index),
+        ChainFault::Circle => circle_pieces(alloc, plan, node, index),
     }
 }
 

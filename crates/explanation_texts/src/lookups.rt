@@ -6,9 +6,9 @@ ghost use Rattle.plan_texts.specs.Lines.{number_or_dash};
 ghost use Rattle.explanation_texts.specs.Pieces.{row_of, bus_of_row, record_of, handle_of, tid_of, data_length, row_span, pool_span, owner_name, ports_text, address_to, byte_text, handle_bytes};
 
 use crate::pieces::Entry;
-use net_plan::{Plan, PlannedRecord, Pool, Row};
 use net_tables::lookup::{address_on, bus_at, node_name, record_at, row_at, terminus_at};
 use plan_texts::{address_text, number_text, span_text};
+use plan_values::{Plan, PlannedRecord, Pool, Row};
 use std::alloc::{AllocError, Global};
 
 /// The row, if there is one.

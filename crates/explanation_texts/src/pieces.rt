@@ -8,10 +8,10 @@ use crate::lookups::{
     address_to, at_text, bus_of_row, byte_text, data_length_of, eid_of, handle_bytes, handle_of,
     owner_name, pool_span, ports_text, record_of, row_of, row_span, tid_of,
 };
-use net_plan::Plan;
 use net_tables::lookup::{node_name, owner_at, pool_at, ports_at};
 use pdr_record::{HEADER_LENGTH, RecordError};
 use plan_texts::{bus_text, from_to, name_or_none, number_text};
+use plan_values::Plan;
 use std::alloc::{AllocError, Global};
 
 /// A row or a record: the index of its node, and its own in the node's list, if it is given.

@@ -4,10 +4,10 @@ ghost use Rattle.std.specs.List.{flat_map};
 ghost use Rattle.explanation_texts.specs.EditLines.{edit_text, edits_text, left_text, owner_value, place_text, pool_value, quoted, row_value, tried_text, value_text, verb_of, word_of};
 
 use net_explained::{Change, Edit, Tried};
-use net_plan::{Plan, Pool, Row};
 use net_rules::CertifyError;
 use net_tables::lookup::{kind_word, node_name, rows_at};
 use plan_texts::obstacle_line;
+use plan_values::{Plan, Pool, Row};
 use std::alloc::{AllocError, Global};
 
 /// The lines of edits that were tried, in their order.

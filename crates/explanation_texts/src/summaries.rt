@@ -3,8 +3,8 @@ ghost use Rattle.std.specs.Prelude.{◌≡◌, ◌≤◌, IfOk, length, string_b
 ghost use Rattle.explanation_texts.specs.SummaryLines.{record_count, rows_in_all, records_in_all, counts_line, hops_line, summary_text};
 
 use net_explained::MostHops;
-use net_plan::{Node, Plan};
 use net_tables::lookup::node_name;
+use plan_values::{Node, Plan};
 use std::alloc::{AllocError, Global};
 
 /// How many nodes, buses, rows and records a plan has, and between which of its nodes its certificate allows most hops.

@@ -4,8 +4,8 @@ use Rattle.std.specs.Prelude.{IfOk, IfErr}
 use Rattle.net_check.specs.declared.check_error.CheckError.{CheckError}
 use Rattle.net_check.specs.declared.check_error.CheckError.TheVariants as check_error
 use Rattle.net_check.specs.Errors.{NamesFirstFault}
-use Rattle.net_plan.specs.declared.certificate.Certificate.{Certificate}
-use Rattle.net_plan.specs.declared.plan.Plan.{Plan}
+use Rattle.plan_values.specs.declared.certificate.Certificate.{Certificate}
+use Rattle.plan_values.specs.declared.plan.Plan.{Plan}
 use Rattle.command_answers.specs.Answers.{IsErrorText, IsFaultText}
 use Rattle.command_answers.specs.declared.refused.Refused.{Refused}
 use Rattle.command_answers.specs.declared.refused.Refused.TheVariants as refused

@@ -1,8 +1,8 @@
 -- What the rules of an accepted plan say of the rows and the endpoint ID of a node.
 use Rattle.std.proofs.Common.{◌≡◌, ℕ, Some, None}
 use Rattle.mctp_transport.specs.PacketValues.{IsAssignable}
-use Rattle.net_plan.specs.declared.certificate.Certificate.{Certificate}
-use Rattle.net_plan.specs.declared.plan.Plan.{Plan}
+use Rattle.plan_values.specs.declared.certificate.Certificate.{Certificate}
+use Rattle.plan_values.specs.declared.plan.Plan.{Plan}
 use Rattle.net_rules.specs.declared.rule.Rule.TheVariants.{C02, C04, C05, C06}
 use Rattle.net_rules.specs.Rules.{Accepts}
 use Rattle.net_tables.specs.Routing.{eid_of, rows_of}

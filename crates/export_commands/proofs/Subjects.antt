@@ -1,7 +1,7 @@
 -- The node that an export names.
 use Rattle.std.proofs.Common.{◌≡◌, ◌≢◌, ◌<◌, ℕ, List, Some, subst, arith}
 use Rattle.std.specs.Prelude.{All}
-use Rattle.net_plan.specs.declared.plan.Plan.{Plan}
+use Rattle.plan_values.specs.declared.plan.Plan.{Plan}
 use Rattle.net_rules.specs.Names.{name_of}
 use Rattle.command_answers.specs.Naming.{IsFirstNamed}
 use Rattle.command_questions.specs.declared.exports.Export.{Export}

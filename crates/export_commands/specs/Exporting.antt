@@ -9,8 +9,8 @@ use Rattle.command_answers.specs.declared.status.Status.TheVariants as status
 use Rattle.command_questions.specs.declared.exports.Export.{Export}
 use Rattle.command_questions.specs.declared.exports.ExportKind.{ExportKind}
 use Rattle.command_questions.specs.declared.exports.ExportKind.TheVariants as kind
-use Rattle.net_plan.specs.declared.certificate.Certificate.{Certificate}
-use Rattle.net_plan.specs.declared.plan.Plan.{Plan}
+use Rattle.plan_values.specs.declared.certificate.Certificate.{Certificate}
+use Rattle.plan_values.specs.declared.plan.Plan.{Plan}
 use Rattle.net_rules.specs.Rules.{Accepts}
 use Rattle.net_tables.specs.Names.{name_of_bus}
 use Rattle.net_tables.specs.Repositories.{records_by_place, terminus_of}

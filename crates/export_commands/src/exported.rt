@@ -11,9 +11,9 @@ ghost use Rattle.plan_exports.specs.TableAnswers.{AreEntryLines};
 use command_answers::records_by_place;
 use command_questions::ExportKind;
 use net_check::Checked;
-use net_plan::Plan;
 use net_tables::lookup::{bus_named, eid_at, terminus_at};
 use plan_exports::{CTerminus, Link, c_source, entry_lines, joined_records, linux_script};
+use plan_values::Plan;
 use std::alloc::{AllocError, Global};
 
 /// The bytes of a node in a form.

@@ -4,7 +4,7 @@ ghost use Rattle.command_answers.specs.Answers.{stream, IsWithoutPlan};
 ghost use Rattle.command_answers.specs.Told.{Concludes};
 ghost use Rattle.command_answers.specs.declared.refused.Refused.TheVariants as refused;
 ghost use Rattle.export_commands.specs.Exporting.{AnswersAt, AnswersExportOn, AnswersExportSo, HasForm, IsNamedIn, IsSubject, IsUnexportedOn, IsUnexportedFor};
-ghost use Rattle.net_json.specs.Stream.{HasRoom};
+ghost use Rattle.net_plan.specs.Stream.{HasRoom};
 
 use crate::exported::{exported, knows_buses};
 use command_answers::{
@@ -12,10 +12,10 @@ use command_answers::{
 };
 use command_questions::{Export, ExportKind};
 use net_check::check;
-use net_json::{Sink, Source};
-use net_plan::{Certificate, Plan};
+use net_plan::{Sink, Source};
 use net_tables::lookup::{is_bridge, terminus_at};
 use plan_exports::Link;
+use plan_values::{Certificate, Plan};
 use std::alloc::Global;
 
 /// Writes what a node of a plan is in a form on `output`, where the certificate fits the plan, or tells the fault

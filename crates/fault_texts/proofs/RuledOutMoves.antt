@@ -1,6 +1,6 @@
 -- What rules certificates of a move out.
 use Rattle.std.proofs.Common.{◌≡◌, ◌≢◌, ℕ, List, Some, subst}
-use Rattle.net_plan.specs.declared.plan.Plan.{Plan}
+use Rattle.plan_values.specs.declared.plan.Plan.{Plan}
 use Rattle.net_rules.specs.declared.move_obstacle.MoveObstacle.{MoveObstacle}
 use Rattle.net_rules.specs.declared.move_obstacle.MoveObstacle.TheVariants as obstacle
 use Rattle.plan_texts.specs.MoveLines.{move_obstacle_text}

@@ -3,12 +3,11 @@ use Rattle.std.specs.Prelude.{◌≡◌, ℕ, ◌+◌, List, [], ◌∷◌, ◌+
 use Rattle.std.specs.Prelude.{Option, Some, None}
 use Rattle.std.specs.Fmt.{decimal}
 use Rattle.json.specs.Json.{Json}
-use Rattle.net_json.specs.Finding.{Step, key, index}
-use Rattle.net_json.specs.Texts.{IsTree}
-use Rattle.net_json.specs.Trees.{data_of}
-use Rattle.net_plan.specs.declared.plan.Plan.{Plan}
+use Rattle.net_plan.specs.Finding.{Step, key, index}
+use Rattle.net_plan.specs.Texts.{IsTree}
+use Rattle.net_plan.specs.Trees.{data_of}
+use Rattle.plan_values.specs.declared.plan.Plan.{Plan}
 use Rattle.net_pointers.specs.Positions.{is_line_feed, begins_character, last_line}
-use Rattle.net_rules.specs.RecordChains.{chain_entry_of}
 use Rattle.net_rules.specs.declared.certify_error.CertifyError.{CertifyError}
 use Rattle.net_rules.specs.declared.certify_error.CertifyError.TheVariants as error
 use Rattle.net_rules.specs.declared.rule.Rule.{Rule}
@@ -93,7 +92,7 @@ obstacle_pointer plan (error.Fault fault) = site_pointer fault.rule fault.node f
 obstacle_pointer plan (error.OwnerLoop nodes) = part_pointer (first_of nodes.items) (codes "owner")
 obstacle_pointer plan (error.Loop eid nodes) =
     way_pointer (first_of nodes.items) (row_for plan eid.value (first_of nodes.items)).index
-obstacle_pointer plan (error.BadChain node fault) = record_pointer node (chain_entry_of fault)
+obstacle_pointer plan (error.BadChain node kind entry) = record_pointer node entry
 obstacle_pointer plan error.OutOfMemory = []
 
 -- ---- places

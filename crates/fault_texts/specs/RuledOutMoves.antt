@@ -1,6 +1,6 @@
 -- The line of what rules certificates of a move out.
 use Rattle.std.specs.Prelude.{◌≡◌, ℕ, List, Some}
-use Rattle.net_plan.specs.declared.plan.Plan.{Plan}
+use Rattle.plan_values.specs.declared.plan.Plan.{Plan}
 use Rattle.net_rules.specs.declared.move_obstacle.MoveObstacle.{MoveObstacle}
 use Rattle.net_rules.specs.MoveObstacles.{NamesMoveObstacle, HasNoMoveCertificate}
 use Rattle.plan_texts.specs.MoveLines.{move_obstacle_text}

@@ -6,11 +6,11 @@ ghost use Rattle.fault_texts.specs.FaultListLines.{AreRunLines, IsFaultsText, Is
 
 use crate::places::{at_in, obstacle_pointer, pointer_at, site_pointer};
 use json::{Scratch, Value};
-use net_json::json_of;
-use net_plan::Plan;
+use net_plan::json_of;
 use net_rules::{CertifyError, EidSpan, FaultRun};
 use net_tables::lookup::node_name;
 use plan_texts::{number_text, obstacle_words};
+use plan_values::Plan;
 use std::alloc::{AllocError, Global};
 
 /// The faults of the plan in a text, each run in a line of its own, and how many lines these are. The text has a name,
@@ -69,6 +69,7 @@ fn listed_lines(
     let mut scratch = Scratch::new(alloc);
     match json_of(alloc, text, &mut scratch) {
         Ok(tree) => run_lines(alloc, name, text, &tree, plan, runs),
+        // no memory: the text was read before, so `json_of` has no other error.
         Err(_) => Err(AllocError),
     }
 }

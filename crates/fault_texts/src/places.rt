@@ -1,18 +1,18 @@
 //! Where in the text of a plan a fault stands.
 ghost use Rattle.std.specs.Prelude.{◌≡◌, ◌≤◌, IfOk, IfSome, length, map, string_bytes};
 ghost use Rattle.json.specs.Value.{value_view};
-ghost use Rattle.net_json.specs.Finding.{step_value};
-ghost use Rattle.net_json.specs.Trees.{view};
+ghost use Rattle.net_plan.specs.Finding.{step_value};
+ghost use Rattle.net_plan.specs.Trees.{view};
 ghost use Rattle.net_pointers.specs.Offsets.{IsTextOf};
 ghost use Rattle.fault_texts.specs.Places.{IsAtTold, IsPlaceTold, at_text, entry_pointer, first_of, node_pointer, obstacle_pointer, own_pointer, part_pointer, place_line, place_text, record_pointer, row_pointer, site_pointer, way_pointer};
 ghost use Rattle.reading_texts.specs.TroubleLines.{IsOffsetOf};
 
 use explanation_texts::index_for;
 use json::{Scratch, Value};
-use net_json::{PointerStep, json_of};
-use net_plan::Plan;
+use net_plan::{PointerStep, json_of};
 use net_pointers::{offset_of_pointer, position_of};
 use net_rules::{CertifyError, Rule};
+use plan_values::Plan;
 use reading_texts::pointer_text;
 use std::alloc::{AllocError, Global};
 
@@ -43,6 +43,7 @@ pub fn pointer_place(
     let mut scratch = Scratch::new(alloc);
     match json_of(alloc, text, &mut scratch) {
         Ok(tree) => place_in(alloc, name, text, &tree, pointer),
+        // no memory: the text was read before, so `json_of` has no other error.
         Err(_) => Err(AllocError),
     }
 }
@@ -73,6 +74,7 @@ pub fn pointer_at(
     let mut scratch = Scratch::new(alloc);
     match json_of(alloc, text, &mut scratch) {
         Ok(tree) => at_in(alloc, name, text, &tree, pointer),
+        // no memory: the text was read before, so `json_of` has no other error.
         Err(_) => Err(AllocError),
     }
 }
@@ -174,7 +176,7 @@ pub fn obstacle_pointer(
             let node = first_of(nodes);
             way_pointer(alloc, node, index_for(plan, *eid, node))
         }
-        CertifyError::BadChain(node, fault) => record_pointer(alloc, *node, fault.entry()),
+        CertifyError::BadChain(node, _, entry) => record_pointer(alloc, *node, *entry),
         CertifyError::OutOfMemory => Err(AllocError),
     }
 }

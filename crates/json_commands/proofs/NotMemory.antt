@@ -1,6 +1,6 @@
 -- Want of memory is explained by nothing.
 use Rattle.std.proofs.Common.{◌≢◌, List, ℕ, subst}
-use Rattle.net_plan.specs.declared.plan.Plan.{Plan}
+use Rattle.plan_values.specs.declared.plan.Plan.{Plan}
 use Rattle.net_rules.specs.declared.certify_error.CertifyError.{CertifyError}
 use Rattle.net_rules.specs.declared.certify_error.CertifyError.TheVariants as error
 use Rattle.explanation_texts.specs.Explanations.{IsObstacleTold}

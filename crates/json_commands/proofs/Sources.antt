@@ -2,7 +2,7 @@
 use Rattle.std.proofs.Common.{List, ℕ, Result, Ok, Err, inl}
 use Rattle.std.specs.Prelude.{IfOk}
 use Rattle.serde_json.specs.View.{view}
-use Rattle.net_plan.specs.declared.plan.Plan.{Plan}
+use Rattle.plan_values.specs.declared.plan.Plan.{Plan}
 use Rattle.command_answers.specs.Answers.{Stream, GavePlanText}
 use Rattle.command_questions.specs.declared.certified.CertifiedJson.{CertifiedJson}
 use Rattle.json_commands.specs.declared.said.Said.{Said}

@@ -1,7 +1,7 @@
 -- What is said of a source that gave nothing.
 use Rattle.std.proofs.Common.{◌≡◌, List, ℕ, subst}
 use Rattle.serde_json.specs.Data.{Data}
-use Rattle.net_plan.specs.declared.plan.Plan.{Plan}
+use Rattle.plan_values.specs.declared.plan.Plan.{Plan}
 use Rattle.command_answers.specs.declared.inputs.Unread.{Unread}
 use Rattle.command_answers.specs.declared.refused.Input.TheVariants as input
 use Rattle.command_answers.specs.Answers.{Stream}

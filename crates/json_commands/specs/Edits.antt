@@ -2,14 +2,14 @@
 use Rattle.std.specs.Prelude.{ℕ, List, [], ◌∷◌, ◌++◌, codes, length, Option, Some, None, unwrap_or}
 use Rattle.hex.specs.Hex.{encode_lower}
 use Rattle.serde_json.specs.Data.{Data, null, string, object, member, no_members}
-use Rattle.net_json.specs.Finding.{Step, key}
+use Rattle.net_plan.specs.Finding.{Step, key}
 use Rattle.net_explained.specs.declared.edit.Change.{Change}
 use Rattle.net_explained.specs.declared.edit.Change.TheVariants as change
 use Rattle.net_explained.specs.declared.trial.Tried.{Tried}
-use Rattle.net_plan.specs.NodeValues.{name_bytes}
-use Rattle.net_plan.specs.declared.nodes.Pool.{Pool}
-use Rattle.net_plan.specs.declared.nodes.Row.{Row}
-use Rattle.net_plan.specs.declared.plan.Plan.{Plan}
+use Rattle.plan_values.specs.NodeValues.{name_bytes}
+use Rattle.plan_values.specs.declared.nodes.Pool.{Pool}
+use Rattle.plan_values.specs.declared.nodes.Row.{Row}
+use Rattle.plan_values.specs.declared.plan.Plan.{Plan}
 use Rattle.net_rules.specs.declared.certify_error.CertifyError.{CertifyError}
 use Rattle.net_tables.specs.Routing.{rows_of}
 use Rattle.fault_texts.specs.Places.{part_pointer, record_pointer, row_pointer}

@@ -8,9 +8,9 @@ use Rattle.net_explained.specs.declared.trial.Tried.{Tried}
 use Rattle.net_explained.specs.Causes.{IsCauseAt}
 use Rattle.net_explained.specs.Hops.{IsMostHops}
 use Rattle.net_explained.specs.Obstacles.{IsTried}
-use Rattle.net_plan.specs.declared.certificate.Certificate.{Certificate}
-use Rattle.net_plan.specs.declared.plan.Plan.{Plan}
-use Rattle.net_plan.specs.PlanValues.{plan_value}
+use Rattle.plan_values.specs.declared.certificate.Certificate.{Certificate}
+use Rattle.plan_values.specs.declared.plan.Plan.{Plan}
+use Rattle.plan_values.specs.PlanValues.{plan_value}
 use Rattle.net_rules.specs.declared.certify_error.CertifyError.{CertifyError}
 use Rattle.net_rules.specs.declared.certify_error.CertifyError.TheVariants as error
 use Rattle.net_rules.specs.declared.fault.Fault.{Fault}

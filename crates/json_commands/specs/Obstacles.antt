@@ -2,18 +2,17 @@
 use Rattle.std.specs.Prelude.{◌≡◌, ℕ, List, [], ◌∷◌, codes, Option, Some, None, option_map}
 use Rattle.mctp_transport.specs.declared.address.Eid.{Eid}
 use Rattle.serde_json.specs.Data.{Data}
-use Rattle.net_json.specs.Finding.{Step, key, index}
+use Rattle.net_plan.specs.Finding.{Step, key, index}
 use Rattle.net_explained.specs.declared.cause.Cause.{Cause}
 use Rattle.net_explained.specs.declared.cause.Cause.TheVariants as cause
 use Rattle.net_explained.specs.Causes.{IsCauseAt}
-use Rattle.net_plan.specs.declared.plan.Plan.{Plan}
+use Rattle.plan_values.specs.declared.plan.Plan.{Plan}
 use Rattle.net_rules.specs.declared.certify_error.CertifyError.{CertifyError}
 use Rattle.net_rules.specs.declared.certify_error.CertifyError.TheVariants as error
 use Rattle.net_rules.specs.declared.fault.Fault.{Fault}
 use Rattle.net_rules.specs.declared.fault_run.EidSpan.{EidSpan}
 use Rattle.net_rules.specs.declared.fault_run.FaultRun.{FaultRun}
 use Rattle.net_rules.specs.Faults.{site_of}
-use Rattle.net_rules.specs.RecordChains.{chain_entry_of}
 use Rattle.net_rules.specs.Rules.{code_of}
 use Rattle.explanation_texts.specs.Explanations.{around, row_for}
 use Rattle.plan_texts.specs.Lines.{obstacle_text}
@@ -31,7 +30,7 @@ abbrev pub kind_of : CertifyError → List ℕ
 kind_of (error.Fault fault) = codes "fault"
 kind_of (error.OwnerLoop nodes) = codes "owner loop"
 kind_of (error.Loop eid nodes) = codes "loop"
-kind_of (error.BadChain node fault) = codes "chain"
+kind_of (error.BadChain node kind entry) = codes "chain"
 kind_of error.OutOfMemory = codes "no memory"
 
 -- the code of the rule that is broken, or for which no certificate can be made: levels (C07), ranks (C10), places (C14)
@@ -39,14 +38,14 @@ abbrev pub rule_of : CertifyError → List ℕ
 rule_of (error.Fault fault) = code_of fault.rule
 rule_of (error.OwnerLoop nodes) = codes "C07"
 rule_of (error.Loop eid nodes) = codes "C10"
-rule_of (error.BadChain node fault) = codes "C14"
+rule_of (error.BadChain node kind entry) = codes "C14"
 rule_of error.OutOfMemory = codes "no memory"
 
 abbrev pub eids_of : CertifyError → Option (Eid × Eid)
 eids_of (error.Fault fault) = option_map (λ eid. (eid, eid)) fault.eid
 eids_of (error.OwnerLoop nodes) = None
 eids_of (error.Loop eid nodes) = Some (eid, eid)
-eids_of (error.BadChain node fault) = None
+eids_of (error.BadChain node kind entry) = None
 eids_of error.OutOfMemory = None
 
 -- the row or the record
@@ -54,7 +53,7 @@ abbrev pub entry_of : CertifyError → Option ℕ
 entry_of (error.Fault fault) = fault.entry
 entry_of (error.OwnerLoop nodes) = None
 entry_of (error.Loop eid nodes) = None
-entry_of (error.BadChain node fault) = Some (chain_entry_of fault)
+entry_of (error.BadChain node kind entry) = Some entry
 entry_of error.OutOfMemory = None
 
 -- the nodes; those of a loop each once
@@ -62,7 +61,7 @@ abbrev pub nodes_of : CertifyError → List ℕ
 nodes_of (error.Fault fault) = fault.node ∷ []
 nodes_of (error.OwnerLoop nodes) = around nodes.items
 nodes_of (error.Loop eid nodes) = around nodes.items
-nodes_of (error.BadChain node fault) = node ∷ []
+nodes_of (error.BadChain node kind entry) = node ∷ []
 nodes_of error.OutOfMemory = []
 
 abbrev pub subject_of : CertifyError → SubjectValue
@@ -133,7 +132,7 @@ AreRelated form name text plan (error.OwnerLoop nodes) d =
     IsListTold (IsHopPlaced form name text plan None) (around nodes.items) d
 AreRelated form name text plan (error.Loop eid nodes) d =
     IsListTold (IsHopPlaced form name text plan (Some eid)) (around nodes.items) d
-AreRelated form name text plan (error.BadChain node fault) d = d ≡ empty_data
+AreRelated form name text plan (error.BadChain node kind entry) d = d ≡ empty_data
 AreRelated form name text plan error.OutOfMemory d = ⊥
 
 -- ---- notes

@@ -5,7 +5,7 @@ use Rattle.std.specs.List.{flat_map}
 use Rattle.percent_encoding.specs.declared.ascii_set.AsciiSet.{AsciiSet}
 use Rattle.percent_encoding.specs.Percent.{percent_encode}
 use Rattle.serde_json.specs.Data.{Data, null, number, unsigned, string, object, member, no_members}
-use Rattle.net_json.specs.Finding.{Step}
+use Rattle.net_plan.specs.Finding.{Step}
 use Rattle.net_pointers.specs.declared.position.Position.{Position}
 use Rattle.net_pointers.specs.Positions.{is_line_feed, begins_character, last_line}
 use Rattle.fault_texts.specs.Places.{IsPlaceIn}

@@ -1,8 +1,8 @@
 -- What `reach` answers.
 use Rattle.std.specs.Prelude.{◌≡◌, ℕ, List, codes}
 use Rattle.serde_json.specs.Data.{Data, string, object, member, no_members}
-use Rattle.net_plan.specs.declared.certificate.Certificate.{Certificate}
-use Rattle.net_plan.specs.declared.plan.Plan.{Plan}
+use Rattle.plan_values.specs.declared.certificate.Certificate.{Certificate}
+use Rattle.plan_values.specs.declared.plan.Plan.{Plan}
 use Rattle.net_questions.specs.declared.pair.Pair.{Pair}
 use Rattle.net_questions.specs.Reaching.{ArePairs}
 use Rattle.json_commands.specs.Lists.{IsListTold, empty_data}

@@ -1,10 +1,10 @@
 -- What `trace` answers.
 use Rattle.std.specs.Prelude.{◌≡◌, ◌≤◌, ℕ, List, codes, length, Some}
-use Rattle.mctp_bridge.specs.Decisions.{forward_fault_code}
+use Rattle.mctp_routing.specs.Decisions.{forward_fault_code}
 use Rattle.mctp_transport.specs.declared.address.Eid.{Eid}
 use Rattle.serde_json.specs.Data.{Data, null, string, object, member, no_members}
-use Rattle.net_plan.specs.declared.certificate.Certificate.{Certificate}
-use Rattle.net_plan.specs.declared.plan.Plan.{Plan}
+use Rattle.plan_values.specs.declared.certificate.Certificate.{Certificate}
+use Rattle.plan_values.specs.declared.plan.Plan.{Plan}
 use Rattle.net_questions.specs.declared.step.WayStep.{WayStep}
 use Rattle.net_questions.specs.declared.way.End.{End}
 use Rattle.net_questions.specs.declared.way.End.TheVariants.{Arrives, Stops}

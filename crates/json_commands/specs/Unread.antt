@@ -1,8 +1,8 @@
 -- What is told where there is no plan or no certificate, or where nothing has a name.
 use Rattle.std.specs.Prelude.{◌≡◌, ℕ, ◌+◌, List, [], ◌∷◌, codes, Option, Some, None}
 use Rattle.serde_json.specs.Data.{Data}
-use Rattle.net_json.specs.Finding.{Step, key, index, located}
-use Rattle.net_plan.specs.declared.plan.Plan.{Plan}
+use Rattle.net_plan.specs.Finding.{Step, key, index, located}
+use Rattle.plan_values.specs.declared.plan.Plan.{Plan}
 use Rattle.net_pointers.specs.Asks.{list_key, name_key}
 use Rattle.net_pointers.specs.Offsets.{LeadsToKey}
 use Rattle.net_pointers.specs.TextTroubles.{cause_of}

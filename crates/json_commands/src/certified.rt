@@ -3,7 +3,7 @@ ghost use Rattle.std.specs.Prelude.{◌≡◌, ◌≢◌, true, false, IfOk, IfE
 ghost use Rattle.std.specs.Cow.{cow_str_bytes};
 ghost use Rattle.serde_json.specs.View.{view};
 ghost use Rattle.net_check.specs.Errors.{NamesFirstFault};
-ghost use Rattle.net_json.specs.Stream.{HasRoom};
+ghost use Rattle.net_plan.specs.Stream.{HasRoom};
 ghost use Rattle.command_answers.specs.declared.refused.Refused.TheVariants as refused;
 ghost use Rattle.command_answers.specs.declared.status.Status.TheVariants as status;
 ghost use Rattle.command_answers.specs.Answers.{stream, IsWithoutPlan};
@@ -25,8 +25,8 @@ use command_answers::{
 };
 use command_questions::{CertifiedJson, Form};
 use net_check::{CertifyError, CheckError, Checked, Fault, check};
-use net_json::{Sink, Source};
-use net_plan::{Certificate, Plan};
+use net_plan::{Sink, Source};
+use plan_values::{Certificate, Plan};
 use std::alloc::{AllocError, Global};
 
 /// Answers in JSON what is asked of a plan and its certificate, on `output`: one value, in one line. Where a file can't
@@ -221,6 +221,7 @@ fn way_between(
             let text = given.text.as_slice();
             Ok(traced(alloc, name, text, checked, sender, destination)?)
         }
+        // no memory: both names were found before, so this can't be.
         None => Err(AllocError),
     }
 }

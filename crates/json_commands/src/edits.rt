@@ -1,6 +1,6 @@
 //! Edits that were tried, as operations of a JSON patch (RFC 6902).
 ghost use Rattle.std.specs.Prelude.{◌≡◌, IfOk, map, string_bytes, ⊤};
-ghost use Rattle.net_json.specs.Finding.{step_value};
+ghost use Rattle.net_plan.specs.Finding.{step_value};
 ghost use Rattle.explanation_texts.specs.EditLines.{edit_text};
 ghost use Rattle.serde_json.specs.View.{view};
 ghost use Rattle.json_commands.specs.Edits.{changed_data, edit_data, edit_pointer, left_data, op_of, owner_data, part_of_record, pool_data, row_data};
@@ -15,11 +15,11 @@ use explanation_texts::edit_line;
 use fault_texts::{part_pointer, record_pointer, row_pointer};
 use mctp_transport::Eid;
 use net_explained::{Change, Edit, Tried};
-use net_json::PointerStep;
-use net_plan::{Plan, Pool, Row};
+use net_plan::PointerStep;
 use net_rules::CertifyError;
 use net_tables::lookup::{kind_word, node_name, rows_at};
 use plan_texts::obstacle_words;
+use plan_values::{Plan, Pool, Row};
 use serde_json::{Value, json};
 use std::alloc::{AllocError, Global};
 

@@ -18,7 +18,7 @@ use command_questions::Form;
 use explanation_texts::{cause_lines, certificate_fault_lines, obstacle_lines, summary_lines};
 use net_check::{CertifyError, Fault, certify, faults};
 use net_explained::{Cause, find_cause, most_hops, tried_edits};
-use net_plan::{Certificate, Plan};
+use plan_values::{Certificate, Plan};
 use serde_json::{Value, json};
 use std::alloc::{AllocError, Global};
 

@@ -19,9 +19,9 @@ use command_answers::{PlanText, Status};
 use command_questions::Form;
 use json::{Scratch, Value as Tree};
 use net_check::{CertifyError, certify, faults};
-use net_json::json_of;
-use net_plan::{Certificate, Plan};
+use net_plan::json_of;
 use net_rules::FaultRun;
+use plan_values::{Certificate, Plan};
 use serde_json::Value;
 use std::alloc::{AllocError, Global};
 
@@ -91,6 +91,7 @@ fn run_results(
     let mut scratch = Scratch::new(alloc);
     match json_of(alloc, text, &mut scratch) {
         Ok(tree) => runs_in(alloc, form, name, text, &tree, &given.plan, runs),
+        // no memory: the text was read before, so `json_of` has no other error.
         Err(_) => Err(AllocError),
     }
 }
@@ -130,6 +131,7 @@ pub fn obstacle_results(
     let mut scratch = Scratch::new(alloc);
     match json_of(alloc, text, &mut scratch) {
         Ok(tree) => obstacle_in(alloc, form, name, text, &tree, &given.plan, obstacle),
+        // no memory: the text was read before, so `json_of` has no other error.
         Err(_) => Err(AllocError),
     }
 }

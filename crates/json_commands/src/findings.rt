@@ -1,7 +1,7 @@
 //! Notes of what `lint` finds.
 ghost use Rattle.std.specs.Prelude.{◌≡◌, IfOk, map, option_map};
 ghost use Rattle.json.specs.Value.{value_view};
-ghost use Rattle.net_json.specs.Finding.{step_value};
+ghost use Rattle.net_plan.specs.Finding.{step_value};
 ghost use Rattle.net_pointers.specs.Offsets.{IsTextOf};
 ghost use Rattle.serde_json.specs.View.{view};
 ghost use Rattle.json_commands.specs.Findings.{IsFindingNote, address_pointer, code_of, eids_of, entry_of, finding_pointer, nodes_of, other_pointer, port_pointer, subject_of};
@@ -15,9 +15,9 @@ use crate::obstacles::{bus_pointer, places_of};
 use crate::places::{Placing, place_of};
 use fault_texts::{part_pointer, record_pointer, row_pointer};
 use mctp_transport::Eid;
-use net_json::PointerStep;
-use net_plan::Plan;
+use net_plan::PointerStep;
 use net_questions::Finding;
+use plan_values::Plan;
 use question_texts::lint_lines;
 use serde_json::Value;
 use std::alloc::{AllocError, Global};

@@ -14,9 +14,9 @@ use crate::said::Said;
 use command_answers::{PlanText, Status};
 use command_questions::Form;
 use json::{Scratch, Value as Tree};
-use net_json::json_of;
-use net_plan::Plan;
+use net_plan::json_of;
 use net_questions::{Finding, lint};
+use plan_values::Plan;
 use serde_json::Value;
 use std::alloc::{AllocError, Global};
 
@@ -53,6 +53,7 @@ fn finding_results(
     let mut scratch = Scratch::new(alloc);
     match json_of(alloc, text, &mut scratch) {
         Ok(tree) => findings_in(alloc, name, text, &tree, &given.plan, findings),
+        // no memory: the text was read before, so `json_of` has no other error.
         Err(_) => Err(AllocError),
     }
 }

@@ -8,8 +8,8 @@ use crate::sentences::{lines_value, message_of};
 use crate::spots::number_or_null;
 use command_questions::Form;
 use mctp_transport::Eid;
-use net_plan::Plan;
 use net_tables::lookup::node_name;
+use plan_values::Plan;
 use serde_json::{Value, json};
 use std::alloc::{AllocError, Global};
 

@@ -1,7 +1,7 @@
 //! Notes of what rules certificates out, and of runs of faults.
 ghost use Rattle.std.specs.Prelude.{◌≡◌, IfOk, None, Some, map, option_map};
 ghost use Rattle.json.specs.Value.{value_view};
-ghost use Rattle.net_json.specs.Finding.{step_value};
+ghost use Rattle.net_plan.specs.Finding.{step_value};
 ghost use Rattle.net_pointers.specs.Offsets.{IsTextOf};
 ghost use Rattle.explanation_texts.specs.Explanations.{around};
 ghost use Rattle.serde_json.specs.View.{view};
@@ -20,10 +20,10 @@ use fault_texts::{
 };
 use mctp_transport::Eid;
 use net_explained::{Cause, find_cause};
-use net_json::PointerStep;
-use net_plan::Plan;
+use net_plan::PointerStep;
 use net_rules::{CertifyError, Fault, FaultRun};
 use plan_texts::obstacle_line;
+use plan_values::Plan;
 use serde_json::Value;
 use std::alloc::{AllocError, Global};
 
@@ -66,7 +66,7 @@ fn kind_of(obstacle: &CertifyError) -> &'static str
         CertifyError::Fault(_) => "fault",
         CertifyError::OwnerLoop(_) => "owner loop",
         CertifyError::Loop(_, _) => "loop",
-        CertifyError::BadChain(_, _) => "chain",
+        CertifyError::BadChain(..) => "chain",
         CertifyError::OutOfMemory => "no memory",
     }
 }
@@ -79,7 +79,7 @@ fn code_of(obstacle: &CertifyError) -> &'static str
         CertifyError::Fault(fault) => fault.rule.code(),
         CertifyError::OwnerLoop(_) => "C07",
         CertifyError::Loop(_, _) => "C10",
-        CertifyError::BadChain(_, _) => "C14",
+        CertifyError::BadChain(..) => "C14",
         CertifyError::OutOfMemory => "no memory",
     }
 }
@@ -94,8 +94,7 @@ fn eids_of(obstacle: &CertifyError) -> Option<(Eid, Eid)>
             Some((eid, eid))
         }
         CertifyError::Loop(eid, _) => Some((*eid, *eid)),
-        CertifyError::OwnerLoop(_) | CertifyError::BadChain(_, _) | CertifyError::OutOfMemory =>
-            None,
+        CertifyError::OwnerLoop(_) | CertifyError::BadChain(..) | CertifyError::OutOfMemory => None,
     }
 }
 
@@ -105,7 +104,7 @@ fn entry_of(obstacle: &CertifyError) -> Option<usize>
 {
     match obstacle {
         CertifyError::Fault(fault) => fault.entry,
-        CertifyError::BadChain(_, fault) => Some(fault.entry()),
+        CertifyError::BadChain(_, _, entry) => Some(*entry),
         CertifyError::OwnerLoop(_) | CertifyError::Loop(_, _) | CertifyError::OutOfMemory => None,
     }
 }
@@ -126,7 +125,7 @@ fn nodes_of(alloc: Global, obstacle: &CertifyError) -> Result<Vec<usize>, AllocE
         CertifyError::Fault(fault) => [fault.node].to_vec(alloc),
         CertifyError::OwnerLoop(nodes) => around(nodes).to_vec(alloc),
         CertifyError::Loop(_, nodes) => around(nodes).to_vec(alloc),
-        CertifyError::BadChain(node, _) => [*node].to_vec(alloc),
+        CertifyError::BadChain(node, ..) => [*node].to_vec(alloc),
         CertifyError::OutOfMemory => Ok(Vec::new(alloc)),
     }
 }
@@ -147,7 +146,7 @@ fn related_to<'a, 't>(
         CertifyError::Loop(eid, nodes) => {
             hop_places(alloc, placing, plan, Some(*eid), around(nodes))
         }
-        CertifyError::BadChain(_, _) => Ok(empty_list(alloc)),
+        CertifyError::BadChain(..) => Ok(empty_list(alloc)),
         CertifyError::OutOfMemory => Err(AllocError),
     }
 }

@@ -1,7 +1,7 @@
 //! Places in texts.
 ghost use Rattle.std.specs.Prelude.{◌≡◌, IfOk, map, string_bytes};
 ghost use Rattle.json.specs.Value.{value_view};
-ghost use Rattle.net_json.specs.Finding.{step_value};
+ghost use Rattle.net_plan.specs.Finding.{step_value};
 ghost use Rattle.net_pointers.specs.Offsets.{IsTextOf};
 ghost use Rattle.serde_json.specs.View.{view};
 ghost use Rattle.json_commands.specs.Places.{IsPlaceTold, json_pointer};
@@ -10,7 +10,7 @@ use crate::spots::spot_of;
 use command_questions::Form;
 use fault_texts::offset_in;
 use json::Value as Tree;
-use net_json::PointerStep;
+use net_plan::PointerStep;
 use reading_texts::pointer_text;
 use serde_json::Value;
 use std::alloc::{AllocError, Global};

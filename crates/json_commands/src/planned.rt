@@ -2,7 +2,7 @@
 ghost use Rattle.std.specs.Prelude.{◌≡◌, ◌≢◌, IfOk, IfErr};
 ghost use Rattle.std.specs.Cow.{cow_str_bytes};
 ghost use Rattle.serde_json.specs.View.{view};
-ghost use Rattle.net_json.specs.Stream.{HasRoom};
+ghost use Rattle.net_plan.specs.Stream.{HasRoom};
 ghost use Rattle.command_answers.specs.declared.refused.Refused.TheVariants as refused;
 ghost use Rattle.command_answers.specs.declared.status.Status.TheVariants as status;
 ghost use Rattle.command_answers.specs.Answers.{stream};
@@ -17,7 +17,7 @@ use crate::said::{Said, answer_of};
 use crate::unread::unread_input;
 use command_answers::{Answer, Input, PlanText, Refused, Status, plan_or_text, tell};
 use command_questions::{Form, PlanJson};
-use net_json::{Sink, Source};
+use net_plan::{Sink, Source};
 use std::alloc::{AllocError, Global};
 
 /// Answers in JSON what is asked of a plan, on `output`: one value, in one line. Where the plan can't be read, the

@@ -11,8 +11,8 @@ use crate::said::Said;
 use crate::spots::number_or_null;
 use command_answers::Status;
 use net_check::Checked;
-use net_plan::Plan;
 use net_questions::{Pair, reach};
+use plan_values::Plan;
 use serde_json::{Value, json};
 use std::alloc::{AllocError, Global};
 

@@ -18,9 +18,9 @@ use command_questions::Form;
 use json::{Scratch, Value as Tree};
 use mctp_transport::Eid;
 use net_check::Checked;
-use net_json::json_of;
-use net_plan::Plan;
+use net_plan::json_of;
 use net_questions::{Way, WayStep, follow};
+use plan_values::Plan;
 use serde_json::Value;
 use std::alloc::{AllocError, Global};
 
@@ -73,6 +73,7 @@ fn steps_value(
     let mut scratch = Scratch::new(alloc);
     match json_of(alloc, text, &mut scratch) {
         Ok(tree) => steps_in(alloc, name, text, &tree, plan, eid, steps),
+        // no memory: the text was read before, so `json_of` has no other error.
         Err(_) => Err(AllocError),
     }
 }

@@ -1,7 +1,7 @@
 //! What is told where there is no plan or no certificate, or where nothing has a name.
 ghost use Rattle.std.specs.Prelude.{◌≡◌, ◌+◌, IfOk, IsUtf8, Some, map, option_map};
 ghost use Rattle.json.specs.Value.{value_view};
-ghost use Rattle.net_json.specs.Finding.{step_value};
+ghost use Rattle.net_plan.specs.Finding.{step_value};
 ghost use Rattle.net_pointers.specs.Offsets.{IsTextOf};
 ghost use Rattle.serde_json.specs.View.{view};
 ghost use Rattle.command_answers.specs.declared.status.Status.TheVariants as status;
@@ -16,7 +16,7 @@ use crate::spots::spot_of;
 use command_answers::{Input, Status, Unread, unread_text};
 use command_questions::Form;
 use json::{Scratch, Value as Tree};
-use net_json::{PointerStep, json_of};
+use net_plan::{PointerStep, json_of};
 use net_pointers::{
     DoubledKey, JsonFault, NameList, Overlap, TextTrouble, Trouble, TwoIndices, list_key, name_key,
     offset_of_key,
@@ -217,6 +217,7 @@ fn overlap_places(
     ensures { IfOk result (λ places. ArePointersPlaced form name.now text.now (range_pointer overlap.entry (overlap.range + 1)) (Some (range_pointer overlap.entry overlap.range)) (view places.place) (view places.related)) }
 {
     if overlap.range == usize::MAX {
+        // no memory: no list is so long.
         return Err(AllocError);
     }
     let next = overlap.range + 1;
@@ -254,6 +255,7 @@ fn pointer_places(
     let mut scratch = Scratch::new(alloc);
     match json_of(alloc, text, &mut scratch) {
         Ok(tree) => pointers_in(alloc, form, name, text, &tree, pointer, other),
+        // no memory: the text was read before, so `json_of` has no other error.
         Err(_) => Err(AllocError),
     }
 }
@@ -297,6 +299,7 @@ fn key_places(
     let mut scratch = Scratch::new(alloc);
     match json_of(alloc, text, &mut scratch) {
         Ok(_tree) => keys_in(alloc, form, name, text, doubled),
+        // no memory: the text was read before, so `json_of` has no other error.
         Err(_) => Err(AllocError),
     }
 }
@@ -320,6 +323,7 @@ fn keys_in(
             let related = list_of_one(alloc, other)?;
             Ok(Places { place, related })
         }
+        // no memory: both keys were found before, so this can't be.
         _ => Err(AllocError),
     }
 }

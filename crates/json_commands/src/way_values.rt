@@ -6,8 +6,8 @@ ghost use Rattle.json_commands.specs.Traced.{step_data, stop_data, traced_data, 
 use crate::lists::empty_list;
 use crate::notes::node_value;
 use mctp_transport::Eid;
-use net_plan::Plan;
 use net_questions::{End, WayStep};
+use plan_values::Plan;
 use serde_json::{Value, json};
 use std::alloc::{AllocError, Global};
 

@@ -1,8 +1,4 @@
-pub mod Apart
-mod Halving
-mod Fronts
-mod PieceSteps
-mod PieceChains
-mod PieceWholes
-pub mod PieceLoops
-mod OnePieces
+mod EntryRows
+pub mod Readings
+mod ReaderLaws
+pub mod Replying

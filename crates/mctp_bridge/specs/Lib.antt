@@ -1,5 +1,5 @@
-pub mod Rows
-pub mod Pieces
-pub mod PiecesLeft
-pub mod RowFaults
-pub mod Decisions
+pub mod Entries
+pub mod ReadFaults
+pub mod Parts
+pub mod Readers
+pub mod Reads

@@ -1,20 +1,18 @@
-//! What an MCTP bridge decides by (DSP0236, bridging): its routing table, and where it sends a packet. Sections are
-//! those of DSP0236 1.3.
+//! What bridges do (DSP0236, bridging): tables over ranges of endpoint IDs, what a node does with a packet, and how a
+//! bridge tells its routing table and another reads it. Sections are those of DSP0236 1.3.
 #![tactic(auto)]
 
-mod decision;
-mod device_kind;
+mod entry_reader;
 mod laws;
-mod pieces;
-mod range_table;
-mod row;
-mod row_faults;
-mod table_fault;
+mod read_fault;
+mod routing_entries;
+mod table_part;
 
-pub use decision::{Decision, ForwardFault, ForwardingNode, Progress, decide};
-pub use device_kind::DeviceKind;
-pub use laws::one_list_of_pieces;
-pub use pieces::{Piece, Pieces};
-pub use range_table::RangeTable;
-pub use row::{Hop, TableRow};
-pub use table_fault::TableFault;
+pub use entry_reader::{EntryReader, MAX_READ, MAX_TAKEN, NO_MORE};
+pub use laws::{asks_what_is_due, every_reply_is_taken, readings_collect_all};
+pub use mctp_routing::{
+    Decision, DeviceKind, ForwardFault, ForwardingNode, Hop, Piece, Pieces, RangeTable, TableFault,
+    TableRow, decide, one_list_of_pieces,
+};
+pub use read_fault::ReadFault;
+pub use routing_entries::{Neighbor, route_entries};

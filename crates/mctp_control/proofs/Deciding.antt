@@ -5,8 +5,8 @@ use Rattle.mctp_transport.specs.PacketValues.{IsAssignable}
 use Rattle.mctp_control.specs.Refusals.{IsUnknown}
 use Rattle.mctp_control.specs.Devices.{EidHeld, PoolHeld, MayGiveEid, MayGivePool}
 use Rattle.mctp_control.specs.Replies.{Supports}
-use Rattle.mctp_bridge.specs.declared.device_kind.DeviceKind.{DeviceKind}
-use Rattle.mctp_bridge.specs.declared.device_kind.DeviceKind.TheVariants as kind
+use Rattle.mctp_transport.specs.declared.device_kind.DeviceKind.{DeviceKind}
+use Rattle.mctp_transport.specs.declared.device_kind.DeviceKind.TheVariants as kind
 
 -- both, either, the opposite of what is decided
 pub dec_both : {P Q : Type 0} → Dec P → Dec Q → Dec (P × Q)

@@ -7,7 +7,3 @@ mod EntryFitting
 mod Deciding
 mod OneReply
 mod Asked
-mod EntryRows
-pub mod Readings
-mod ReaderLaws
-pub mod Replying

@@ -17,8 +17,3 @@ pub mod ResponseLaws
 pub mod Devices
 pub mod Replies
 pub mod Outcomes
-pub mod Entries
-pub mod ReadFaults
-pub mod Parts
-pub mod Readers
-pub mod Reads

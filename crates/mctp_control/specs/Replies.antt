@@ -11,8 +11,8 @@ use Rattle.mctp_control.specs.Requests.{GetsEntries, RequestValue, SpellsRequest
 use Rattle.mctp_control.specs.Refusals.{IsUnknown, HasRequestLength}
 use Rattle.mctp_control.specs.Devices.{DeviceValue, present_eid, present_size, present_first, MayGiveEid}
 use Rattle.mctp_control.specs.Devices.{MayGivePool, endpoint_type, allocation_of, pool_wanted}
-use Rattle.mctp_bridge.specs.declared.device_kind.DeviceKind.{DeviceKind}
-use Rattle.mctp_bridge.specs.declared.device_kind.DeviceKind.TheVariants as kind
+use Rattle.mctp_transport.specs.declared.device_kind.DeviceKind.{DeviceKind}
+use Rattle.mctp_transport.specs.declared.device_kind.DeviceKind.TheVariants as kind
 
 -- The device answers with this completion code and these bytes after it, and holds this afterwards.
 abbrev pub Outcome : Type 0

@@ -16,8 +16,7 @@ use crate::statuses::{
     Acceptance, Allocation, EidType, EndpointStatus, EndpointType, PoolStatus, SetStatus,
 };
 use arrayvec::ArrayVec;
-use mctp_bridge::DeviceKind;
-use mctp_transport::{Eid, Wire};
+use mctp_transport::{DeviceKind, Eid, Wire};
 
 /// An EID that is held, and the bus that gave it; None where the device was configured with it.
 #[derive(Clone, Copy, Debug, PartialEq, Eq)]

@@ -1,28 +1,11 @@
-//! Laws of all devices and of all readings of routing tables. The functions do nothing: their contracts are the laws.
+//! A law of all devices. The function does nothing: its contract is the law.
 ghost use Rattle.std.specs.Prelude.{ℕ, List};
 ghost use Rattle.mctp_control.specs.RouteEntries.{EntryValue};
 ghost use Rattle.mctp_control.specs.Devices.{DeviceValue};
 ghost use Rattle.mctp_control.specs.Replies.{IsBytes, HasOneReply};
-ghost use Rattle.mctp_control.specs.Reads.{EveryReadingCollects, AsksWhatIsDue, EveryReplyIsTaken};
 
 /// What a device replies to a body, and what it holds afterwards, is fixed by what it holds, the bus, its routing table
 /// and the body.
 pub fn one_reply()
     ensures { (d : DeviceValue) (bus : ℕ) (table : List EntryValue) (body : List ℕ) → IsBytes body → HasOneReply d bus table body }
-{}
-
-/// What a reading has collected is a beginning of the bridge's table, and once it is finished it is the table.
-pub fn readings_collect_all()
-    ensures { EveryReadingCollects }
-{}
-
-/// An entry reader asks for what is due, and for nothing once all is read.
-pub fn asks_what_is_due()
-    ensures { AsksWhatIsDue }
-{}
-
-/// A bridge replies to each request of an entry reader. The reader takes the reply without a fault, and has the whole
-/// table with the last.
-pub fn every_reply_is_taken()
-    ensures { EveryReplyIsTaken }
 {}

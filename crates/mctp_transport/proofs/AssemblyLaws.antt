@@ -154,7 +154,7 @@ fresh_stands a empty = record { table = nothing_stands (assembler_slots a) (asse
 -- a message at a slot, as the table holds it
 pub record IsHeldAs (a : Assembler) (i : ℕ) (m : OpenMessage) (q : Partial) : Type 0 where
   pub key : q.key ≡ key_value m.key
-  pub sequence : q.sequence ≡ m.sequence.value
+  pub number : q.number ≡ m.number.value
   pub unit : q.unit ≡ m.unit
   pub bytes : q.bytes ≡ take m.len (part a.limit a.block.items i)
   pub len : length q.bytes ≡ m.len
@@ -174,17 +174,17 @@ held_as a i o m q is within at held =
     let long = part_length a.limit (length a.slots.items) a.block.items i within a.sized in
     record {
       key = ap (λ (x : Partial). x.key) (sym e);
-      sequence = ap (λ (x : Partial). x.sequence) (sym e);
+      number = ap (λ (x : Partial). x.number) (sym e);
       unit = ap (λ (x : Partial). x.unit) (sym e);
       bytes = bytes;
       len = ap length bytes ∙ length-take-le m.len (part a.limit a.block.items i) (omega arith);
     }
 
 same_fault : (a : Assembler) (i : ℕ) (m : OpenMessage) (q : Partial) (p : PacketValue) (fault : Option DropCause) → IsHeldAs a i m q
-    → fault_of a.limit m.sequence.value m.unit m.len p ≡ fault → fault_at a.limit q p ≡ fault
+    → fault_of a.limit m.number.value m.unit m.len p ≡ fault → fault_at a.limit q p ≡ fault
 same_fault a i m q p fault h e =
-    ap (λ n. fault_of a.limit n q.unit (length q.bytes) p) h.sequence ∙ ap (λ n. fault_of a.limit m.sequence.value n (length q.bytes) p) h.unit
-    ∙ ap (λ n. fault_of a.limit m.sequence.value m.unit n p) h.len ∙ e
+    ap (λ n. fault_of a.limit n q.unit (length q.bytes) p) h.number ∙ ap (λ n. fault_of a.limit m.number.value n (length q.bytes) p) h.unit
+    ∙ ap (λ n. fault_of a.limit m.number.value m.unit n p) h.len ∙ e
 
 -- a message at a slot, and whether a packet goes on from it
 pub record IsHeldWith (a : Assembler) (i : ℕ) (m : OpenMessage) (q : Partial) (p : PacketValue) (fault : Option DropCause) : Type 0 where
@@ -192,7 +192,7 @@ pub record IsHeldWith (a : Assembler) (i : ℕ) (m : OpenMessage) (q : Partial) 
   pub fault_is : fault_at a.limit q p ≡ fault
 
 pub held_with : (a : Assembler) (i : ℕ) (o : Option OpenMessage) (m : OpenMessage) (q : Partial) (p : PacketValue) (fault : Option DropCause) → o ≡ Some m → i < length a.slots.items
-    → o ≡ get_or a.slots.items i o → fault_of a.limit m.sequence.value m.unit m.len p ≡ fault → slice_get (table_of a) i ≡ Some (Some q) → IsHeldWith a i m q p fault
+    → o ≡ get_or a.slots.items i o → fault_of a.limit m.number.value m.unit m.len p ≡ fault → slice_get (table_of a) i ≡ Some (Some q) → IsHeldWith a i m q p fault
 held_with a i o m q p fault is within at e held =
     let h = held_as a i o m q is within at held in
     record { held = h; fault_is = same_fault a i m q p fault h e }
@@ -216,14 +216,14 @@ pub leaves_more : (limit : ℕ) (q : Partial) (p : PacketValue) → fault_at lim
 leaves_more limit q p f e = let l = leaves (fault_at limit q p) None p.eom false q p f e in record { rest_is = l.0; answer_is = l.1 }
 
 -- the message after a packet that goes on
-pub next_is : (a : Assembler) (i : ℕ) (m n : OpenMessage) (q : Partial) (p : PacketValue) (new : List ℕ) → IsHeldAs a i m q → n.key ≡ m.key → n.sequence.value ≡ p.sequence → n.unit ≡ m.unit
+pub next_is : (a : Assembler) (i : ℕ) (m n : OpenMessage) (q : Partial) (p : PacketValue) (new : List ℕ) → IsHeldAs a i m q → n.key ≡ m.key → n.number.value ≡ p.number → n.unit ≡ m.unit
     → n.len ≡ m.len + length p.payload → take (m.len + length p.payload) (part a.limit new i) ≡ take m.len (part a.limit a.block.items i) ++ p.payload
     → partial_of (Some n) (part a.limit new i) ≡ Some (extended q p)
 next_is a i m n q p new h key number unit len bytes =
     let k : key_value n.key ≡ q.key = ap key_value key ∙ sym h.key in
     let u : n.unit ≡ q.unit = unit ∙ sym h.unit in
     let b : take n.len (part a.limit new i) ≡ q.bytes ++ p.payload = ap (λ x. take x (part a.limit new i)) len ∙ bytes ∙ ap (λ xs. xs ++ p.payload) (sym h.bytes) in
-    λ j. Some (record { key = k j; sequence = number j; unit = u j; bytes = b j })
+    λ j. Some (record { key = k j; number = number j; unit = u j; bytes = b j })
 
 -- the whole message lies at the front of its part
 pub whole_is : (a : Assembler) (i : ℕ) (m n : OpenMessage) (q : Partial) (p : PacketValue) (new : List ℕ) (limit : ℕ) → IsHeldAs a i m q → limit ≡ a.limit → n.len ≤ a.limit

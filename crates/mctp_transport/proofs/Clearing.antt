@@ -61,7 +61,7 @@ holds_other history i q n h = record {
   are = subst (λ xs. ArePackets xs h.packets) (sym (last-other history i q.key n)) h.are;
   bytes = h.bytes;
   unit = h.unit;
-  sequence = h.sequence;
+  number = h.number;
 }
 
 other_key : (a b : KeyValue) → b ≢ a → same_key a b ≡ false

@@ -20,13 +20,13 @@ Means limit ps p (Some drop_cause.Limit) = NumberFollows ps p × LengthFits ps p
 Means limit ps p (Some drop_cause.NotOpen) = ⊥
 Means limit ps p (Some drop_cause.Full) = ⊥
 
-number_yes : (history : History) (q : Partial) (h : HoldsLast history q) (p : PacketValue) → nat_eq p.sequence ((q.sequence + 1) % 4) ≡ true → NumberFollows h.packets p
-number_yes history q h p e = λ i r at a. eqb-true p.sequence ((q.sequence + 1) % 4) e ∙ ap (λ n. (n + 1) % 4) (h.sequence i r at a)
+number_yes : (history : History) (q : Partial) (h : HoldsLast history q) (p : PacketValue) → nat_eq p.number ((q.number + 1) % 4) ≡ true → NumberFollows h.packets p
+number_yes history q h p e = λ i r at a. eqb-true p.number ((q.number + 1) % 4) e ∙ ap (λ n. (n + 1) % 4) (h.number i r at a)
 
-number_no : (history : History) (q : Partial) (h : HoldsLast history q) (p : PacketValue) → 0 < length h.packets → nat_eq p.sequence ((q.sequence + 1) % 4) ≡ false → ¬ NumberFollows h.packets p
+number_no : (history : History) (q : Partial) (h : HoldsLast history q) (p : PacketValue) → 0 < length h.packets → nat_eq p.number ((q.number + 1) % 4) ≡ false → ¬ NumberFollows h.packets p
 number_no history q h p some e follows =
     let l = get_end h.packets some in
-    eqb-false p.sequence ((q.sequence + 1) % 4) e (follows l.0 l.1 l.2 l.3 ∙ sym (ap (λ n. (n + 1) % 4) (h.sequence l.0 l.1 l.2 l.3)))
+    eqb-false p.number ((q.number + 1) % 4) e (follows l.0 l.1 l.2 l.3 ∙ sym (ap (λ n. (n + 1) % 4) (h.number l.0 l.1 l.2 l.3)))
 
 length_yes : (history : History) (q : Partial) (h : HoldsLast history q) (p : PacketValue)
     → (nat_lt q.unit (length p.payload) || (not p.eom && nat_lt (length p.payload) q.unit)) ≡ false → LengthFits h.packets p
@@ -54,7 +54,7 @@ length_no history q h p some e fits =
     ]
 
 pub means : (limit : ℕ) (history : History) (q : Partial) (h : HoldsLast history q) (p : PacketValue) → 0 < length h.packets → Means limit h.packets p (fault_at limit q p)
-means limit history q h p some = elim (cases_Bool (nat_eq p.sequence ((q.sequence + 1) % 4))) [
+means limit history q h p some = elim (cases_Bool (nat_eq p.number ((q.number + 1) % 4))) [
   | inr n ↦ rw n (number_no history q h p some n)
   | inl y ↦ elim (cases_Bool (nat_lt q.unit (length p.payload) || (not p.eom && nat_lt (length p.payload) q.unit))) [
     | inl z ↦ rw (y, z) (number_yes history q h p y, length_no history q h p some z)

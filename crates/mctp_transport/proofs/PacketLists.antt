@@ -22,7 +22,7 @@ record SameHeader (f g : PacketValue) : Type 0 where
   key : key_of f ≡ key_of g
   som : f.som ≡ g.som
   eom : f.eom ≡ g.eom
-  sequence : f.sequence ≡ g.sequence
+  number : f.number ≡ g.number
 
 same_frame : (f g : PacketValue) → f.payload ≡ g.payload → SameHeader f g → f ≡ g
 same_frame f g p h =
@@ -31,8 +31,8 @@ same_frame f g p h =
     let k = h.key in
     let a = h.som in
     let b = h.eom in
-    let n = h.sequence in
-    λ i. record { reserved = r i; destination = d i; source = (k i).source; som = a i; eom = b i; sequence = n i; owner = (k i).owner; tag = (k i).tag; payload = p i }
+    let n = h.number in
+    λ i. record { reserved = r i; destination = d i; source = (k i).source; som = a i; eom = b i; number = n i; owner = (k i).owner; tag = (k i).tag; payload = p i }
 
 same_frames : (fs gs : List PacketValue) → payloads fs ≡ payloads gs
     → ((i : ℕ) (f g : PacketValue) → slice_get fs i ≡ Some f → slice_get gs i ≡ Some g → SameHeader f g) → fs ≡ gs
@@ -60,7 +60,7 @@ same_packets unit message destination key start fs gs x y =
       key = x.of_key i f a ∙ sym (y.of_key i g b);
       som = x.som i f a ∙ sym (y.som i g b);
       eom = x.eom i f a ∙ ap (λ n. nat_eq (i + 1) n) long ∙ sym (y.eom i g b);
-      sequence = x.numbers i f a ∙ sym (y.numbers i g b);
+      number = x.numbers i f a ∙ sym (y.numbers i g b);
     })
 
 pub payload_at : (fs : List PacketValue) (i : ℕ) (f : PacketValue) → slice_get fs i ≡ Some f → slice_get (payloads fs) i ≡ Some f.payload
@@ -115,7 +115,7 @@ record AreLeft (unit : ℕ) (f : PacketValue) (fs : List PacketValue) : Type 0 w
   pub cut : IsCut unit f.payload (payloads fs)
   pub addressed : EachPacket fs (λ i g. g.destination ≡ f.destination)
   pub of_key : EachPacket fs (λ i g. key_of g ≡ key_of f)
-  pub numbers : EachPacket fs (λ i g. g.sequence ≡ (f.sequence + i) % 4)
+  pub numbers : EachPacket fs (λ i g. g.number ≡ (f.number + i) % 4)
   pub som : EachPacket fs (λ i g. g.som ≡ cond (nat_eq i 0) f.som false)
   pub eom : EachPacket fs (λ i g. g.eom ≡ nat_eq (i + 1) (length fs))
   pub reserved : EachPacket fs (λ i g. g.reserved ≡ f.reserved)
@@ -162,7 +162,7 @@ later_end : (i n : ℕ) → nat_eq (i + 1) n ≡ nat_eq (suc i + 1) (suc n)
 later_end i n = grind (arith, nat_tests)
 
 -- one more packet, which begins with the bytes that are left
-left_more : (unit : ℕ) (f : PacketValue) (fs : List PacketValue) → 0 < unit → f.sequence < 4 → 0 < length f.payload → AreLeft unit (later_of unit f) fs
+left_more : (unit : ℕ) (f : PacketValue) (fs : List PacketValue) → 0 < unit → f.number < 4 → 0 < length f.payload → AreLeft unit (later_of unit f) fs
     → AreLeft unit f (first_of unit f ∷ fs)
 left_more unit f fs wide small some left =
     let size = length-take unit f.payload in
@@ -196,8 +196,8 @@ left_more unit f fs wide small some left =
     key_at zero g a = ap key_of (sym (same_Some (first_of unit f) g a))
     key_at (suc i) g a = left.of_key i g a
 
-    number_at : (i : ℕ) (g : PacketValue) → slice_get (first_of unit f ∷ fs) i ≡ Some g → g.sequence ≡ (f.sequence + i) % 4
-    number_at zero g a = let e = ap (λ (x : PacketValue). x.sequence) (sym (same_Some (first_of unit f) g a)) in omega arith
+    number_at : (i : ℕ) (g : PacketValue) → slice_get (first_of unit f ∷ fs) i ≡ Some g → g.number ≡ (f.number + i) % 4
+    number_at zero g a = let e = ap (λ (x : PacketValue). x.number) (sym (same_Some (first_of unit f) g a)) in omega arith
     number_at (suc i) g a = let e = left.numbers i g a in omega arith
 
     som_at : (i : ℕ) (g : PacketValue) → slice_get (first_of unit f ∷ fs) i ≡ Some g → g.som ≡ cond (nat_eq i 0) f.som false
@@ -218,7 +218,7 @@ left_more unit f fs wide small some left =
     reserved_at zero g a = ap (λ (x : PacketValue). x.reserved) (sym (same_Some (first_of unit f) g a))
     reserved_at (suc i) g a = left.reserved i g a
 
-cut_left : (unit n : ℕ) (f : PacketValue) → 0 < unit → f.sequence < 4 → length f.payload ≤ n → AreLeft unit f (cut unit n f)
+cut_left : (unit n : ℕ) (f : PacketValue) → 0 < unit → f.number < 4 → length f.payload ≤ n → AreLeft unit f (cut unit n f)
 unfolding cut
 cut_left unit zero f wide small fits = left_none unit f (omega arith)
 cut_left unit (suc n) f wide small fits =
@@ -232,8 +232,8 @@ cut_left unit (suc n) f wide small fits =
         left_more unit f (cut unit n (later_of unit f)) wide small some (rest some)
 
 -- with all bytes left, SOM set and the reserved bits 0, these are the message's packets
-pub all_packets : (unit : ℕ) (f : PacketValue) → 0 < unit → f.sequence < 4 → f.som ≡ true → f.reserved ≡ 0
-    → ArePacketsOf unit f.payload f.destination (key_of f) f.sequence (cut unit (length f.payload) f)
+pub all_packets : (unit : ℕ) (f : PacketValue) → 0 < unit → f.number < 4 → f.som ≡ true → f.reserved ≡ 0
+    → ArePacketsOf unit f.payload f.destination (key_of f) f.number (cut unit (length f.payload) f)
 all_packets unit f wide small starts clear =
     let left = cut_left unit (length f.payload) f wide small (omega arith) in
     record {

@@ -18,7 +18,7 @@ abbrev pub first_of : ℕ → PacketValue → PacketValue
 first_of unit f = record f { payload = take unit f.payload; eom = nat_le (length f.payload) unit }
 
 abbrev pub later_of : ℕ → PacketValue → PacketValue
-later_of unit f = record f { payload = drop unit f.payload; som = false; sequence = (f.sequence + 1) % 4 }
+later_of unit f = record f { payload = drop unit f.payload; som = false; number = (f.number + 1) % 4 }
 
 -- more leave than there are bytes changes nothing
 cut-fuel : (unit n k : ℕ) (f : PacketValue) → 0 < unit → length f.payload ≤ n → length f.payload ≤ k → cut unit n f ≡ cut unit k f
@@ -59,7 +59,7 @@ min_drop unit xs = elim (le-or-lt (length xs) unit) [
 
 -- the first packet has p, and r is left
 pub cut-next : (unit : ℕ) (f : PacketValue) (p r : List ℕ) (n : ℕ) → 0 < unit → 0 < length f.payload
-    → p ≡ take (min (length f.payload) unit) f.payload → r ≡ drop (min (length f.payload) unit) f.payload → n ≡ (f.sequence + 1) % 4
+    → p ≡ take (min (length f.payload) unit) f.payload → r ≡ drop (min (length f.payload) unit) f.payload → n ≡ (f.number + 1) % 4
     → cut unit (length f.payload) f
-    ≡ record f { payload = p; eom = nat_le (length f.payload) unit } ∷ cut unit (length r) (record f { payload = r; som = false; sequence = n })
+    ≡ record f { payload = p; eom = nat_le (length f.payload) unit } ∷ cut unit (length r) (record f { payload = r; som = false; number = n })
 cut-next unit f p r n u some front back e = rw (front, back, e, min_take, min_drop) (cut-some unit f u some)

@@ -56,7 +56,7 @@ stands unit message whole d key s qs ps are few joined placed (suc j) p at =
         let no_start : i ≢ 0 = λ e. true≢false (sym (eq-eqb i 0 e) ∙ sym (are.som i p is) ∙ joined.start (suc j) p at ∙ ne_eqb (suc j) 0 (λ z. omega arith)) in
         let same_spot : suc j ≡ j + 1 = omega arith in
         let P : ℕ → Type 0 = λ k. slice_get ps k ≡ Some p in
-        let step : p.sequence ≡ (q.sequence + 1) % 4 = joined.numbers j q p there (subst P same_spot at) in
+        let step : p.number ≡ (q.number + 1) % 4 = joined.numbers j q p there (subst P same_spot at) in
         let counts : (s + i) % 4 ≡ ((s + j) % 4 + 1) % 4 = sym (are.numbers i p is) ∙ step ∙ ap (λ n. (n + 1) % 4) (are.numbers j q here) in
         let next : i ≡ suc j = omega (arith, next_place s i j (omega (arith, no_start)) (omega arith) (omega (arith, goes_on)) counts) in
         let Q : ℕ → Type 0 = λ k. slice_get qs k ≡ Some p in
@@ -155,9 +155,9 @@ ends_of_six_join unit message d key s a b c e f g are =
         let P : PacketValue → Type 0 = λ o. R i o q in
         subst P (same_Some a p first) (each (λ j o. R j a o) x y i q at)
 
-    nexts : g.sequence ≡ (a.sequence + 1) % 4 → (i : ℕ) (p q : PacketValue) → slice_get (a ∷ g ∷ []) i ≡ Some p → slice_get (a ∷ g ∷ []) (i + 1) ≡ Some q → q.sequence ≡ (p.sequence + 1) % 4
+    nexts : g.number ≡ (a.number + 1) % 4 → (i : ℕ) (p q : PacketValue) → slice_get (a ∷ g ∷ []) i ≡ Some p → slice_get (a ∷ g ∷ []) (i + 1) ≡ Some q → q.number ≡ (p.number + 1) % 4
     nexts counts zero p q at next =
-        let A : PacketValue → Type 0 = λ o. q.sequence ≡ (o.sequence + 1) % 4 in
-        let G : PacketValue → Type 0 = λ o. o.sequence ≡ (a.sequence + 1) % 4 in
+        let A : PacketValue → Type 0 = λ o. q.number ≡ (o.number + 1) % 4 in
+        let G : PacketValue → Type 0 = λ o. o.number ≡ (a.number + 1) % 4 in
         subst A (same_Some a p at) (subst G (same_Some g q next) counts)
     nexts counts (suc i) p q at next = absurd (omega (arith, slice_get_within (a ∷ g ∷ []) (suc i + 1) q next))

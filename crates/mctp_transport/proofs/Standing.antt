@@ -30,7 +30,7 @@ begun_holds history p s = record {
   are = are_alone history p s;
   bytes = sym (one_payload p);
   unit = λ q a. ap (λ (x : PacketValue). length x.payload) (only_first p q 0 a);
-  sequence = λ i q e a. ap (λ (x : PacketValue). x.sequence) (only_first p q i a);
+  number = λ i q e a. ap (λ (x : PacketValue). x.number) (only_first p q i a);
 }
 
 -- a table after a packet: what is heard, and what it stands for
@@ -96,9 +96,9 @@ extended_holds history p q ps som key started some are bytes unit = record {
   are = subst (λ k. ArePackets (last_of (after history (Arrived p)) k) (ps ++ p ∷ [])) (sym key) (are_more history p ps som started are);
   bytes = ap (λ bs. bs ++ p.payload) bytes ∙ sym (payloads_snoc ps p);
   unit = λ f a. unit f (first_of_snoc ps p f some a);
-  sequence = λ i f e a. elim (get_cases ps p i f a) [
+  number = λ i f e a. elim (get_cases ps p i f a) [
     | inl h ↦ absurd (omega (arith, h.1, length-append ps (p ∷ [])))
-    | inr h ↦ ap (λ (x : PacketValue). x.sequence) h.1
+    | inr h ↦ ap (λ (x : PacketValue). x.number) h.1
   ];
 }
 

@@ -82,7 +82,7 @@ later slots limit history p b P g f = inr (g.0, inr (g.1, (g.2.0, g.2.1, f g.2.0
 
 going : (slots limit : ℕ) (history : History) (p : PacketValue) (b : Answer) (ps : List PacketValue) → p.som ≡ false → Continues slots limit history p ps
     → Test (p.eom ≡ true) (Whole (payloads_of ps ++ p.payload)) (p.eom ≡ false) (λ b. b ≡ Held) b → Told slots limit history p b
-going slots limit history p b ps s c t = inr (s, inr (c.opened, (ps, c.are, inr (c.sequence, inr (c.size, inr (c.fits, t))))))
+going slots limit history p b ps s c t = inr (s, inr (c.opened, (ps, c.are, inr (c.number, inr (c.size, inr (c.fits, t))))))
 
 told_from : (slots limit : ℕ) (history : History) (p : PacketValue) (b : Answer) → Hears slots limit history p b → Told slots limit history p b
 told_from slots limit history p (Whole message) h = elim (cases_Bool p.som) [
@@ -127,7 +127,7 @@ heard_more slots limit history p b ps s o a t = elim t [
     | inr y ↦ elim y.1 [
       | inl z ↦ as_answer slots limit history p _ b z.1 (inr (s, o, (ps, a, (x.0, y.0, z.0))))
       | inr z ↦
-          let c : Continues slots limit history p ps = record { opened = o; are = a; sequence = x.0; size = y.0; fits = z.0 } in
+          let c : Continues slots limit history p ps = record { opened = o; are = a; number = x.0; size = y.0; fits = z.0 } in
           elim z.1 [
             | inl w ↦ as_answer slots limit history p _ b w.1 (comes_more_from slots limit history p ps s c w.0)
             | inr w ↦ as_answer slots limit history p _ b w.1 (open_more_from slots limit history p ps s c w.0)

@@ -15,7 +15,7 @@ use Rattle.mctp_transport.specs.declared.assembler.Fed.TheVariants as fed
 abbrev pub partial_of : Option OpenMessage → List ℕ → Option Partial
 partial_of None bytes = None
 partial_of (Some o) bytes =
-    Some (record { key = key_value o.key; sequence = o.sequence.value; unit = o.unit; bytes = take o.len bytes })
+    Some (record { key = key_value o.key; number = o.number.value; unit = o.unit; bytes = take o.len bytes })
 
 -- slot by slot, the message that is open there
 abbrev pub table_of : Assembler → Table

@@ -19,7 +19,7 @@ pub record ArePacketsOf (unit : ℕ) (message : List ℕ) (destination : ℕ) (k
   pub cut : IsCut unit message (map (λ f. f.payload) frames)
   pub addressed : EachPacket frames (λ i f. f.destination ≡ destination)
   pub of_key : EachPacket frames (λ i f. key_of f ≡ key)
-  pub numbers : EachPacket frames (λ i f. f.sequence ≡ (start + i) % 4)
+  pub numbers : EachPacket frames (λ i f. f.number ≡ (start + i) % 4)
   pub som : EachPacket frames (λ i f. f.som ≡ (i == 0))
   pub eom : EachPacket frames (λ i f. f.eom ≡ (i + 1 == length frames))
   pub reserved : EachPacket frames (λ i f. f.reserved ≡ 0)

@@ -34,14 +34,14 @@ pub record Joined (ps : List PacketValue) (message : List ℕ) : Type 0 where
   pub one_key : FirstAndEach ps (λ i p q. key_of q ≡ key_of p)
   pub start : EachPacket ps (λ i p. p.som ≡ (i == 0))
   pub finish : EachPacket ps (λ i p. p.eom ≡ (i + 1 == length ps))
-  pub numbers : EachNext ps (λ p q. q.sequence ≡ (p.sequence + 1) % 4)
+  pub numbers : EachNext ps (λ p q. q.number ≡ (p.number + 1) % 4)
   pub middle : FirstAndEach ps (λ i p q. i + 1 < length ps → length q.payload ≡ length p.payload)
   pub last : FirstAndEach ps (λ i p q. length q.payload ≤ length p.payload)
   pub whole : message ≡ payloads_of ps
 
 -- the packet's number is one more, modulo 4, than that of the last of the packets before it
 abbrev pub NumberFollows : List PacketValue → PacketValue → Type 0
-NumberFollows ps p = AtLast ps (λ q. p.sequence ≡ (q.sequence + 1) % 4)
+NumberFollows ps p = AtLast ps (λ q. p.number ≡ (q.number + 1) % 4)
 
 -- a middle packet's payload is as long as the first's, an end packet's is no longer
 abbrev pub LengthFits : List PacketValue → PacketValue → Type 0

@@ -28,7 +28,7 @@ digits a b n c t a' b' n' c' t' ha hb hn hc ht ha' hb' hn' hc' ht' e = record {
 -- frames are equal where their fields are
 same_frame : (m n : PacketValue) → m.reserved ≡ n.reserved → m.destination ≡ n.destination → m.source ≡ n.source
     → m.som ≡ n.som → m.eom ≡ n.eom
-    → m.sequence ≡ n.sequence → m.owner ≡ n.owner → m.tag ≡ n.tag → m.payload ≡ n.payload → m ≡ n
+    → m.number ≡ n.number → m.owner ≡ n.owner → m.tag ≡ n.tag → m.payload ≡ n.payload → m ≡ n
 same_frame m n r d s a b q o t p =
     λ i. record {
       reserved = r i;
@@ -36,7 +36,7 @@ same_frame m n r d s a b q o t p =
       source = s i;
       som = a i;
       eom = b i;
-      sequence = q i;
+      number = q i;
       owner = o i;
       tag = t i;
       payload = p i;
@@ -48,8 +48,8 @@ one_packet_value unit m n hm hn e =
     let e0 : version_byte m ≡ version_byte n = cc in
     let e3 : flag_byte m ≡ flag_byte n = cc in
     let f =
-    digits (bit m.som) (bit m.eom) m.sequence (bit m.owner) m.tag (bit n.som) (bit n.eom) n.sequence (bit n.owner) n.tag
-    (bit_most m.som) (bit_most m.eom) hm.sequence (bit_most m.owner) hm.tag (bit_most n.som) (bit_most n.eom)
-    hn.sequence (bit_most n.owner) hn.tag e3 in
+    digits (bit m.som) (bit m.eom) m.number (bit m.owner) m.tag (bit n.som) (bit n.eom) n.number (bit n.owner) n.tag
+    (bit_most m.som) (bit_most m.eom) hm.number (bit_most m.owner) hm.tag (bit_most n.som) (bit_most n.eom)
+    hn.number (bit_most n.owner) hn.tag e3 in
     same_frame m n (omega arith) (cc) (cc) (bit_one m.som n.som f.first) (bit_one m.eom n.eom f.second) f.third
     (bit_one m.owner n.owner f.fourth) f.fifth (cc)

@@ -9,7 +9,7 @@ pub record PacketValue : Type 0 where
   pub source : ℕ
   pub som : Bool
   pub eom : Bool
-  pub sequence : ℕ
+  pub number : ℕ
   pub owner : Bool
   pub tag : ℕ
   pub payload : List ℕ
@@ -38,7 +38,7 @@ version_byte f = 16 * f.reserved + 1
 
 -- bit 7 SOM, bit 6 EOM, bits 5 and 4 the number, bit 3 the owner bit, bits 2 to 0 the tag
 abbrev pub flag_byte : PacketValue → ℕ
-flag_byte f = 128 * bit f.som + 64 * bit f.eom + 16 * f.sequence + 8 * bit f.owner + f.tag
+flag_byte f = 128 * bit f.som + 64 * bit f.eom + 16 * f.number + 8 * bit f.owner + f.tag
 
 abbrev pub packet_value_bytes : PacketValue → List ℕ
 packet_value_bytes f = version_byte f ∷ f.destination ∷ f.source ∷ flag_byte f ∷ f.payload
@@ -52,7 +52,7 @@ pub record IsPacketValue (unit : ℕ) (f : PacketValue) : Type 0 where
   pub reserved : f.reserved < 16
   pub destination : f.destination < 256
   pub source : f.source < 256
-  pub sequence : f.sequence < 4
+  pub number : f.number < 4
   pub tag : f.tag < 8
   pub some : 0 < length f.payload
   pub most : length f.payload ≤ unit

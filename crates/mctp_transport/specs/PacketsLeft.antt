@@ -11,7 +11,7 @@ cut unit zero f = []
 cut unit (suc n) f =
     if length f.payload == 0 then []
     else (record f { payload = take unit f.payload; eom = nat_le (length f.payload) unit }
-    ∷ cut unit n (record f { payload = drop unit f.payload; som = false; sequence = (f.sequence + 1) % 4 }))
+    ∷ cut unit n (record f { payload = drop unit f.payload; som = false; number = (f.number + 1) % 4 }))
 
 -- all that are left
 abbrev pub frames_left : Packets → List PacketValue

@@ -9,20 +9,20 @@ use Rattle.mctp_transport.specs.Tables.{Partial, Table, is_at}
 
 -- what a first packet begins
 abbrev pub begun : PacketValue → Partial
-begun p = record { key = key_of p; sequence = p.sequence; unit = length p.payload; bytes = p.payload }
+begun p = record { key = key_of p; number = p.number; unit = length p.payload; bytes = p.payload }
 
 -- why packet p doesn't go on from a message with this last number, first length and number of bytes, the first cause
 abbrev pub fault_of : ℕ → ℕ → ℕ → ℕ → PacketValue → Option DropCause
 fault_of limit number unit len p =
-    if not (p.sequence == ((number + 1) % 4)) then Some drop_cause.Number
+    if not (p.number == ((number + 1) % 4)) then Some drop_cause.Number
     else (if nat_lt unit (length p.payload) || (not p.eom && nat_lt (length p.payload) unit) then Some drop_cause.Length
     else (if nat_lt limit (len + length p.payload) then Some drop_cause.Limit else None))
 
 abbrev pub fault_at : ℕ → Partial → PacketValue → Option DropCause
-fault_at limit q p = fault_of limit q.sequence q.unit (length q.bytes) p
+fault_at limit q p = fault_of limit q.number q.unit (length q.bytes) p
 
 abbrev pub extended : Partial → PacketValue → Partial
-extended q p = record q { sequence = p.sequence; bytes = q.bytes ++ p.payload }
+extended q p = record q { number = p.number; bytes = q.bytes ++ p.payload }
 
 -- what a packet that doesn't start a message leaves of q, by the fault and its EOM
 abbrev pub goes_on : Option DropCause → Bool → Partial → PacketValue → Option Partial

@@ -7,7 +7,7 @@ use Rattle.mctp_transport.specs.Histories.{History, same_key, last_of, ArePacket
 -- an open message: the number of its last packet, the length of its first payload, its bytes
 pub record Partial : Type 0 where
   pub key : KeyValue
-  pub sequence : ℕ
+  pub number : ℕ
   pub unit : ℕ
   pub bytes : List ℕ
 
@@ -21,7 +21,7 @@ pub record HoldsLast (history : History) (q : Partial) : Type 0 where
   pub are : ArePackets (last_of history q.key) packets
   pub bytes : q.bytes ≡ payloads_of packets
   pub unit : AtFirst packets (λ p. q.unit ≡ length p.payload)
-  pub sequence : AtLast packets (λ p. q.sequence ≡ p.sequence)
+  pub number : AtLast packets (λ p. q.number ≡ p.number)
 
 -- The table stands for the history: the keys that it holds are the open ones, each in one slot, with
 -- the joined payloads, the first length and the last number of what was given since its last start.

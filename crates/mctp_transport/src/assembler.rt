@@ -249,7 +249,7 @@ impl Assembler {
     {
         let message = OpenMessage {
             key: packet.key(),
-            sequence: packet.header.sequence,
+            number: packet.header.number,
             unit: packet.payload.len(),
             len: packet.payload.len(),
         };

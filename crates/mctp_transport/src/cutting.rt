@@ -60,7 +60,7 @@ impl<'a> Packets<'a> {
             source: key.source,
             som: true,
             eom: false,
-            sequence: start,
+            number: start,
             owner: key.owner,
             tag: key.tag,
         };
@@ -109,7 +109,7 @@ impl<'a> Iterator for Packets<'a> {
         let header = Header { eom, ..self.header };
         self.rest = rest;
         self.header.som = false;
-        self.header.sequence = self.header.sequence.next();
+        self.header.number = self.header.number.next();
         Some(PacketView { header, payload })
     }
 }

@@ -5,6 +5,7 @@
 mod address;
 mod assembler;
 mod cutting;
+mod device_kind;
 mod drop_cause;
 mod eid_run;
 mod heard;
@@ -16,6 +17,7 @@ mod wire;
 pub use address::{Eid, Key, Reserved, Seq, Tag};
 pub use assembler::{Assembler, Fed, MAX_SLOTS};
 pub use cutting::{MAX_MESSAGE, Packets, cut_joins, one_cut};
+pub use device_kind::DeviceKind;
 pub use drop_cause::DropCause;
 pub use eid_run::EidRun;
 pub use heard::{Heard, hear, idle_assemblers};

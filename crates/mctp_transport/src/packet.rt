@@ -32,7 +32,7 @@ pub struct Header {
     /// Byte 3, bit 6: end of message.
     pub eom: bool,
     /// Byte 3, bits 5 and 4: the sequence number, which goes up by one with each packet of a message.
-    pub sequence: Seq,
+    pub number: Seq,
     /// Byte 3, bit 3: whether the source owns the tag: set in a request, clear in its response.
     pub owner: bool,
     /// Byte 3, bits 2 to 0: the message tag.
@@ -112,7 +112,7 @@ impl<'a> PacketView<'a> {
             source: Eid::new(*source),
             som: flags / 128 != 0,
             eom: flags / 64 % 2 != 0,
-            sequence: Seq::new(flags / 16 % 4),
+            number: Seq::new(flags / 16 % 4),
             owner: flags / 8 % 2 != 0,
             tag: Tag::new(flags % 8),
         };
@@ -141,7 +141,7 @@ impl<'a> PacketView<'a> {
         out[2] = header.source.value;
         out[3] = 128 * u8::from(header.som)
             + 64 * u8::from(header.eom)
-            + 16 * header.sequence.value
+            + 16 * header.number.value
             + 8 * u8::from(header.owner)
             + header.tag.value;
         let len = self.len();

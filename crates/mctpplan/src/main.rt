@@ -2,6 +2,8 @@
 //! network.
 #![tactic(auto)]
 
+mod kit;
+
 ghost use Rattle.std.specs.Prelude.{◌≡◌};
 
 use audit_commands::run_audit;
@@ -9,7 +11,7 @@ use bus_commands::{Emulation, run_capture, run_emulate};
 use byte_commands::{ShownKind, WordQuestion, run_decode, run_decode_named, run_show, run_worded};
 use command_answers::{Refused, Status, refuse, run_known};
 use command_line::{
-    FileAtPath, FileToWrite, FilesAtPaths, FilesBeside, Subcommand, hint_node, hint_nodes,
+    FileAtPath, FileToWrite, FilesAtPaths, FilesBeside, Subcommand, VERSION, hint_node, hint_nodes,
     hint_record, hint_words, links_of_words, parse_command,
 };
 use explain_commands::{
@@ -17,7 +19,8 @@ use explain_commands::{
 };
 use export_commands::{Export, run_export};
 use json_commands::{CertifiedJson, PlanJson, run_certified_json, run_planned_json};
-use net_json::Counted;
+use kit::PROVED;
+use net_plan::Counted;
 use plan_commands::{
     PlanQuestion, Question, run_certified, run_certify_move, run_make, run_make_certified,
     run_move, run_planned, run_require,
@@ -149,6 +152,7 @@ fn run_command<'a>(rt: &'a HostRuntime, command: Subcommand<'a>) -> Status {
             words,
         } => export_node(rt, &export, plan, certificate, words),
         Subcommand::Known { text } => tell(rt, text),
+        Subcommand::Version => tell_version(rt),
         Subcommand::Worded { question, words } => say(rt, question, words),
         Subcommand::Show { kind, hex } => show(rt, kind, hex),
         Subcommand::Decode { capture, plan } => decode(rt, capture, plan),
@@ -384,6 +388,14 @@ fn tell(rt: &HostRuntime, text: &'static str) -> Status {
     let mut output = Counted::new(rt.stdout());
     let mut errors = Counted::new(rt.stderr());
     run_known(rt.alloc(), text, &mut output, &mut errors)
+}
+
+/// Prints the version, and which kit proved this program.
+fn tell_version(rt: &HostRuntime) -> Status {
+    match tell(rt, VERSION) {
+        Status::Yes => tell(rt, PROVED),
+        status => status,
+    }
 }
 
 /// Answers a question about words: the fields of a record, or the bytes of fields.

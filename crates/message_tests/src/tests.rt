@@ -4,6 +4,8 @@ mod assembly;
 mod codes;
 mod control;
 mod cutting;
+mod damage;
+mod decisions;
 mod messages;
 mod packets;
 mod pieces;

@@ -10,8 +10,8 @@ use Rattle.net_rules.specs.declared.move_fault.MoveRule.TheVariants.{OfPlan, M02
 use Rattle.net_rules.specs.declared.move_fault.MoveFault.{MoveFault}
 use Rattle.net_rules.specs.declared.move_obstacle.MoveObstacle.{MoveObstacle}
 use Rattle.net_rules.specs.declared.move_obstacle.MoveObstacle.TheVariants as obstacle
-use Rattle.net_plan.specs.declared.plan.Plan.{Plan}
-use Rattle.net_plan.specs.declared.certificate.Certificate.{Certificate}
+use Rattle.plan_values.specs.declared.plan.Plan.{Plan}
+use Rattle.plan_values.specs.declared.certificate.Certificate.{Certificate}
 use Rattle.net_tables.specs.Routing.{MovesTo, eid_number}
 use Rattle.net_tables.specs.Rows.{RowsAreApart}
 use Rattle.net_tables.specs.Ranks.{rank}

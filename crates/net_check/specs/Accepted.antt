@@ -1,7 +1,7 @@
 -- What is accepted: a plan, or a move to another, with the certificate.
 use Rattle.std.specs.Prelude.{Option, Some, None}
-use Rattle.net_plan.specs.declared.plan.Plan.{Plan}
-use Rattle.net_plan.specs.declared.certificate.Certificate.{Certificate}
+use Rattle.plan_values.specs.declared.plan.Plan.{Plan}
+use Rattle.plan_values.specs.declared.certificate.Certificate.{Certificate}
 use Rattle.net_tables.specs.TwoPlans.{Tables}
 use Rattle.net_rules.specs.Rules.{Accepts}
 use Rattle.net_rules.specs.MoveRules.{AcceptsMove}

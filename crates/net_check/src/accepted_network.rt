@@ -6,7 +6,7 @@ ghost use Rattle.net_check.specs.Accepted.{IsAccepted};
 
 use crate::checked::Checked;
 use crate::checked_move::CheckedMove;
-use net_plan::{Certificate, Plan};
+use plan_values::{Certificate, Plan};
 use std::marker::Model;
 
 /// A checked plan, or a checked move from one plan to another: the plan that the nodes start on, the plan whose rows
@@ -20,7 +20,7 @@ pub struct AcceptedNetwork<'a> {
 
 impl<'a> Model for AcceptedNetwork<'a> {
     ghost use Rattle.std.specs.Prelude.{option_map};
-    ghost use Rattle.net_plan.specs.declared.certificate.Certificate.{Certificate};
+    ghost use Rattle.plan_values.specs.declared.certificate.Certificate.{Certificate};
     ghost use Rattle.net_tables.specs.TwoPlans.{Tables};
     ghost use Rattle.net_check.specs.Accepted.{AreAccepted};
 

@@ -9,10 +9,14 @@ ghost use Rattle.net_runs.specs.Headline.{Headline};
 ghost use Rattle.net_runs.specs.Deliveries.{Delivers};
 ghost use Rattle.net_runs.specs.ExactMessages.{RunsAsSent};
 ghost use Rattle.net_runs.specs.NetworkWalks.{WalksOverNetworks};
+ghost use Rattle.net_runs.specs.Walkers.{WalkedState};
+ghost use Rattle.net_runs.specs.WalkedMessages.{WalkedRunsAsSent};
+ghost use Rattle.net_runs.specs.WalkedPromises.{WalkedHeadline, WalkedDelivers};
+ghost use Rattle.net_tables.specs.TwoPlans.{one_plan};
 
 use crate::check_error::CheckError;
-use net_plan::{Certificate, Plan};
 use net_rules::first_of_all;
+use plan_values::{Certificate, Plan};
 use std::alloc::Global;
 use std::marker::Model;
 
@@ -24,8 +28,8 @@ pub struct Checked<'a> {
 }
 
 impl<'a> Model for Checked<'a> {
-    ghost use Rattle.net_plan.specs.declared.plan.Plan.{Plan};
-    ghost use Rattle.net_plan.specs.declared.certificate.Certificate.{Certificate};
+    ghost use Rattle.plan_values.specs.declared.plan.Plan.{Plan};
+    ghost use Rattle.plan_values.specs.declared.certificate.Certificate.{Certificate};
     ghost use Rattle.net_rules.specs.Rules.{Accepts};
 
     ghost Value = { Plan × Certificate };
@@ -84,6 +88,11 @@ pub fn check<'a>(
     // The exchanges that a walker has taken are a walk over the records of the terminus that it asks, whatever is lost,
     // repeated or out of order.
     ensures walks { OnOk result (WalksOverNetworks plan.now certificate.now) }
+
+    // The headline, the deliveries and exact messages hold of runs with walkers too.
+    ensures walked_headline { OnOk result (WalkedHeadline (one_plan plan.now) certificate.now) }
+    ensures walked_delivers { OnOk result (WalkedDelivers (one_plan plan.now) certificate.now) }
+    ensures walked_exact { OnOk result ((key : KeyValue) (d : ℕ) (w : WalkedState) → WalkedRunsAsSent (unit_of plan.now) (one_plan plan.now) key d w) }
 {
     if let Some(fault) = first_of_all(alloc, plan, certificate)? {
         return Err(CheckError::Fault(fault));

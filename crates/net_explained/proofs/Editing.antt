@@ -5,10 +5,10 @@ use Rattle.std.specs.List.{remove}
 use Rattle.std.specs.declared.alloc.Global.{Global}
 use Rattle.std.proofs.lemmas.List.{map-append, map-set, take-map, drop-map}
 use Rattle.std.proofs.lemmas.Option.{slice_get-map, slice_get-get_or}
-use Rattle.net_plan.specs.NodeValues.{BusValue, NodeValue, bus_value, node_value}
-use Rattle.net_plan.specs.PlanValues.{PlanValue, plan_value}
-use Rattle.net_plan.specs.declared.nodes.Node.{Node}
-use Rattle.net_plan.specs.declared.plan.Plan.{Plan}
+use Rattle.plan_values.specs.NodeValues.{BusValue, NodeValue, bus_value, node_value}
+use Rattle.plan_values.specs.PlanValues.{PlanValue, plan_value}
+use Rattle.plan_values.specs.declared.nodes.Node.{Node}
+use Rattle.plan_values.specs.declared.plan.Plan.{Plan}
 use Rattle.net_explained.specs.Edits.{IsEdited, changed, with_item}
 use Rattle.net_explained.specs.declared.edit.Edit.{Edit}
 

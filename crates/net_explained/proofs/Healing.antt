@@ -2,7 +2,7 @@
 use Rattle.std.proofs.Common.{◌≡◌, ◌⊎◌, ◌<◌, ℕ, List, [], ◌∷◌, Option, Some, None, sym, ◌∙◌, ap, subst, arith, inl, inr}
 use Rattle.net_explained.specs.Obstacles.{IsLater, IsLeft, IsUpTo, EditsTakeFaultsAway, key_of}
 use Rattle.net_explained.proofs.Later.{not_less}
-use Rattle.net_plan.specs.declared.plan.Plan.{Plan}
+use Rattle.plan_values.specs.declared.plan.Plan.{Plan}
 use Rattle.net_rules.specs.Certificates.{NamesObstacle}
 use Rattle.net_rules.specs.Faults.{FaultSite, LessByFirstDifference, ComesBefore, site_of, order_of, order_of_number}
 use Rattle.net_rules.specs.PlanFaults.{IsMetByPlan, PlanMeets}
@@ -79,7 +79,7 @@ module _ (after : Plan) (f : Fault) (p : FaultSite) (upto : IsUpTo p f) where
       ahead (inr same) = subst (λ (s : FaultSite). ComesBefore s (site_of g)) (sym same) later_fault
   by_obstacle (error.OwnerLoop nodes) named later = met_before C07 named.0.plan_meets named.1 (at_most (order_of f.rule) (order_of C07) (0 ∷ rest_of (site_of f)) (1 ∷ 0 ∷ 0 ∷ 0 ∷ []) later)
   by_obstacle (error.Loop eid nodes) named later = met_before C10 named.0.plan_meets (λ n entry eid. tt) (at_most (order_of f.rule) (order_of C10) (0 ∷ rest_of (site_of f)) (1 ∷ eid.value ∷ 0 ∷ 0 ∷ []) later)
-  by_obstacle (error.BadChain node fault) named later = met_before C14 named.0.plan_meets (λ n entry eid. tt) (at_most (order_of f.rule) (order_of C14) (0 ∷ rest_of (site_of f)) (1 ∷ node ∷ 0 ∷ 0 ∷ []) later)
+  by_obstacle (error.BadChain node kind entry) named later = met_before C14 named.0.plan_meets (λ n entry eid. tt) (at_most (order_of f.rule) (order_of C14) (0 ∷ rest_of (site_of f)) (1 ∷ node ∷ 0 ∷ 0 ∷ []) later)
   by_obstacle error.OutOfMemory named later = absurd (not_less (key_of (error.Fault f)) later)
 
   by_left : (left : Option CertifyError) → IsLeft (error.Fault f) after left → IsMetByPlan after p

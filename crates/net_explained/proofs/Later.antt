@@ -3,8 +3,8 @@ use Rattle.std.proofs.Common.{◌≡◌, ◌≢◌, ℕ, List, [], ◌∷◌, So
 use Rattle.net_explained.specs.Edits.{IsEdited}
 use Rattle.net_explained.specs.Obstacles.{IsLater, IsLeft, IsTried, key_of}
 use Rattle.net_explained.specs.declared.trial.Tried.{Tried}
-use Rattle.net_plan.specs.PlanValues.{PlanValue, plan_value}
-use Rattle.net_plan.specs.declared.plan.Plan.{Plan}
+use Rattle.plan_values.specs.PlanValues.{PlanValue, plan_value}
+use Rattle.plan_values.specs.declared.plan.Plan.{Plan}
 use Rattle.net_rules.specs.Faults.{LessByFirstDifference}
 use Rattle.net_rules.specs.declared.certify_error.CertifyError.{CertifyError}
 use Rattle.net_rules.specs.declared.certify_error.CertifyError.TheVariants as error

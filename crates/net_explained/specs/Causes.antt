@@ -6,10 +6,10 @@ use Rattle.pdr_record.specs.Faults.{IsFault}
 use Rattle.pdr_record.specs.Records.{RecordValue, Spelled}
 use Rattle.pdr_record.specs.declared.record_error.RecordError.{RecordError}
 use Rattle.pdr_repository.specs.Records.{IsRecordOf}
-use Rattle.net_plan.specs.declared.plan.Plan.{Plan}
-use Rattle.net_plan.specs.declared.nodes.Pool.{Pool}
-use Rattle.net_plan.specs.declared.nodes.Row.{Row}
-use Rattle.net_plan.specs.declared.terminus.PlannedRecord.{PlannedRecord}
+use Rattle.plan_values.specs.declared.plan.Plan.{Plan}
+use Rattle.plan_values.specs.declared.nodes.Pool.{Pool}
+use Rattle.plan_values.specs.declared.nodes.Row.{Row}
+use Rattle.plan_values.specs.declared.terminus.PlannedRecord.{PlannedRecord}
 use Rattle.net_rules.specs.declared.rule.Rule.TheVariants.{C01, C02, C03, C04, C05, C06, C07, C08}
 use Rattle.net_rules.specs.declared.rule.Rule.TheVariants.{C09, C11, C12, C13, C15}
 use Rattle.net_tables.specs.Routing.{Holds, Covers, HasRow, IsBridge}

@@ -1,6 +1,6 @@
 -- Which record follows which, by the next handles.
 use Rattle.std.specs.Prelude.{ℕ, ◌==◌, List, Option, map, position}
-use Rattle.net_plan.specs.declared.terminus.PlannedRecord.{PlannedRecord}
+use Rattle.plan_values.specs.declared.terminus.PlannedRecord.{PlannedRecord}
 
 -- the first record of a handle, if there is one
 abbrev pub record_of_handle : List PlannedRecord → ℕ → Option ℕ

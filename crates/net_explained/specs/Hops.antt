@@ -2,8 +2,8 @@
 use Rattle.std.specs.Prelude.{◌≡◌, ◌⊎◌, ℕ, ◌<◌, ◌≤◌, length, Option, Some, None, IfSome, option_map, unwrap_or}
 use Rattle.net_tables.specs.Ranks.{rank}
 use Rattle.net_tables.specs.Routing.{eid_of}
-use Rattle.net_plan.specs.declared.certificate.Certificate.{Certificate}
-use Rattle.net_plan.specs.declared.plan.Plan.{Plan}
+use Rattle.plan_values.specs.declared.certificate.Certificate.{Certificate}
+use Rattle.plan_values.specs.declared.plan.Plan.{Plan}
 use Rattle.net_explained.specs.declared.hops.MostHops.{MostHops}
 
 -- how many hops the certificate allows a packet from n to m: the rank of n for the endpoint ID that m holds

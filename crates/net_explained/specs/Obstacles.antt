@@ -1,8 +1,8 @@
 -- The order of what rules certificates of a plan out, and what an edit leaves of it.
 use Rattle.std.specs.Prelude.{◌≡◌, ◌⊎◌, ℕ, List, [], ◌∷◌, Option, Some, None}
-use Rattle.net_plan.specs.declared.certificate.Certificate.{Certificate}
-use Rattle.net_plan.specs.declared.plan.Plan.{Plan}
-use Rattle.net_plan.specs.PlanValues.{PlanValue, plan_value}
+use Rattle.plan_values.specs.declared.certificate.Certificate.{Certificate}
+use Rattle.plan_values.specs.declared.plan.Plan.{Plan}
+use Rattle.plan_values.specs.PlanValues.{PlanValue, plan_value}
 use Rattle.net_rules.specs.Certificates.{HasNoCertificate, NamesObstacle}
 use Rattle.net_rules.specs.Faults.{FaultSite, LessByFirstDifference, ComesBefore, site_of, order_of, order_of_number}
 use Rattle.net_rules.specs.PlanFaults.{IsMetByPlan}
@@ -22,7 +22,7 @@ key_of (error.Fault f) =
     order_of f.rule ∷ 0 ∷ f.node ∷ order_of_number f.entry ∷ order_of_number (eid_number f.eid) ∷ []
 key_of (error.OwnerLoop nodes) = order_of C07 ∷ 1 ∷ 0 ∷ 0 ∷ 0 ∷ []
 key_of (error.Loop eid nodes) = order_of C10 ∷ 1 ∷ eid.value ∷ 0 ∷ 0 ∷ []
-key_of (error.BadChain node fault) = order_of C14 ∷ 1 ∷ node ∷ 0 ∷ 0 ∷ []
+key_of (error.BadChain node kind entry) = order_of C14 ∷ 1 ∷ node ∷ 0 ∷ 0 ∷ []
 key_of error.OutOfMemory = []
 
 -- the second comes later, in the order in which `certify` looks for what rules certificates out

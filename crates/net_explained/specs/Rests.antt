@@ -1,6 +1,6 @@
 -- What a row covers alone.
 use Rattle.std.specs.Prelude.{◌≢◌, ℕ, ◌+◌, ◌<◌, ◌≤◌, Option, Some, None}
-use Rattle.net_plan.specs.declared.plan.Plan.{Plan}
+use Rattle.plan_values.specs.declared.plan.Plan.{Plan}
 use Rattle.net_explained.specs.Rows.{CoversAt}
 use Rattle.net_explained.specs.declared.rest.Stretch.{Stretch}
 

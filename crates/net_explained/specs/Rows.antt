@@ -3,8 +3,8 @@ use Rattle.std.specs.Prelude.{◌≡◌, ◌≢◌, ◌⊎◌, ℕ, length, Opti
 use Rattle.net_tables.specs.Ownership.{IsInPoolOf, owner_of}
 use Rattle.net_tables.specs.Routing.{rows_of, Covers, Holds}
 use Rattle.net_tables.specs.Rows.{NamesNeighbor}
-use Rattle.net_plan.specs.declared.nodes.Row.{Row}
-use Rattle.net_plan.specs.declared.plan.Plan.{Plan}
+use Rattle.plan_values.specs.declared.nodes.Row.{Row}
+use Rattle.plan_values.specs.declared.plan.Plan.{Plan}
 use Rattle.net_explained.specs.Searches.{IsFirst, IsFirstBelow}
 
 -- n's row r, if n has it, is such a row

@@ -9,9 +9,9 @@ mod rows;
 use crate::cause::Cause;
 use crate::edit::{Change, Edit};
 use crate::finding::find_cause;
-use net_plan::{Kind, Plan};
 use net_rules::{CertifyError, Fault};
 use net_tables::lookup::pool_at;
+use plan_values::{Kind, Plan};
 use std::alloc::{AllocError, Global};
 
 /// How many edits are tried at most.
@@ -41,8 +41,8 @@ pub fn candidates(
                 rows::add_ways_out(plan, node, *eid, &mut edits)?;
             }
         }
-        CertifyError::BadChain(node, fault) => {
-            records::add_links(plan, *node, *fault, &mut edits)?;
+        CertifyError::BadChain(node, kind, entry) => {
+            records::add_links(plan, *node, *kind, *entry, &mut edits)?;
         }
         CertifyError::OutOfMemory => {}
     }

@@ -4,7 +4,7 @@ ghost use Rattle.net_rules.specs.Circles.{next_in, IsLoopFrom, IsOnCircle};
 ghost use Rattle.net_rules.specs.RecordChains.{IsFollowedBy, HaveNewHandles};
 ghost use Rattle.net_explained.specs.Followers.{followers, record_of_handle};
 
-use net_plan::PlannedRecord;
+use plan_values::PlannedRecord;
 use std::alloc::{AllocError, Global};
 
 /// The records round which the next handles lead from a record back to itself, by their indexes in the list: that

@@ -1,11 +1,11 @@
 //! Edits of a plan.
 ghost use Rattle.std.specs.Prelude.{◌≡◌, IfOk, IfSome, IsTrue, option_map, Some};
-ghost use Rattle.net_plan.specs.NodeValues.{node_value, record_value, terminus_value};
-ghost use Rattle.net_plan.specs.PlanValues.{plan_value};
+ghost use Rattle.plan_values.specs.NodeValues.{node_value, record_value, terminus_value};
+ghost use Rattle.plan_values.specs.PlanValues.{plan_value};
 ghost use Rattle.net_explained.specs.Edits.{IsEdited, changed, changed_record, with_record};
 
 use mctp_transport::Eid;
-use net_plan::{Kind, Name, Node, Plan, PlannedRecord, PlannedTerminus, Pool, Row};
+use plan_values::{Kind, Name, Node, Plan, PlannedRecord, PlannedTerminus, Pool, Row};
 use std::alloc::{AllocError, Global};
 
 /// An edit of a plan: what becomes another at one of its nodes.

@@ -4,8 +4,8 @@ ghost use Rattle.net_explained.specs.Causes.{IsCauseAt};
 
 use crate::cause::Cause;
 use crate::causes::{eids, locators, names, owners, pools, records, rows, ways};
-use net_plan::Plan;
 use net_rules::{Fault, Rule};
+use plan_values::Plan;
 
 /// Why the plan breaks the fault's rule at the fault's spot; none exactly where the plan meets the rule there, whatever
 /// the certificate. Where several causes apply, the contract leaves open which of them is told.

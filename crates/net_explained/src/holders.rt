@@ -3,8 +3,8 @@ ghost use Rattle.net_tables.specs.Routing.{Holds};
 ghost use Rattle.net_explained.specs.Searches.{IsFirstBelow};
 
 use mctp_transport::Eid;
-use net_plan::Plan;
 use net_tables::lookup::holds;
+use plan_values::Plan;
 
 /// The first node before the end that holds the endpoint ID.
 pub fn holder_before(plan: &Plan, end: usize, eid: Eid) -> Option<usize>

@@ -4,8 +4,8 @@ ghost use Rattle.net_tables.specs.Ranks.{rank};
 ghost use Rattle.net_explained.specs.Hops.{IsMostHops, IsFirstOfMost, certified_hops, hops_of};
 
 use mctp_transport::Eid;
-use net_plan::{Certificate, Plan};
 use net_tables::lookup::{eid_at, ranges_at, rank_in_ranges};
+use plan_values::{Certificate, Plan};
 
 /// Two nodes, by their indexes in the plan's list, and how many hops a certificate allows a packet from the one to the
 /// other, 1 to 255.

@@ -69,7 +69,7 @@ fn key_of(obstacle: &CertifyError) -> Option<Key>
         }),
         CertifyError::OwnerLoop(_) => Some(key_of_loop(Rule::C07, 0)),
         CertifyError::Loop(eid, _) => Some(key_of_loop(Rule::C10, usize::from(eid.value))),
-        CertifyError::BadChain(node, _) => Some(key_of_loop(Rule::C14, *node)),
+        CertifyError::BadChain(node, ..) => Some(key_of_loop(Rule::C14, *node)),
         CertifyError::OutOfMemory => None,
     }
 }

@@ -5,8 +5,8 @@ ghost use Rattle.net_explained.specs.Rests.{IsOnlyIn, IsRest};
 ghost use Rattle.net_explained.specs.Searches.{IsLeastEid};
 
 use mctp_transport::Eid;
-use net_plan::Plan;
 use net_tables::lookup::{covers, row_at, rows_at};
+use plan_values::Plan;
 
 /// Endpoint IDs one after another: the first and the last of them.
 #[derive(Clone, Copy, Debug, PartialEq, Eq)]

@@ -1,17 +1,17 @@
 //! Edits that are tried before they are proposed.
 ghost use Rattle.std.specs.Prelude.{◌≤◌, IfOk, IfSome, length};
 ghost use Rattle.std.specs.List.{All};
-ghost use Rattle.net_json.specs.PlanText.{IsPlanOf};
-ghost use Rattle.net_plan.specs.PlanValues.{plan_value};
-ghost use Rattle.net_json.specs.Texts.{IsJsonTextOf};
+ghost use Rattle.net_plan.specs.PlanText.{IsPlanOf};
+ghost use Rattle.plan_values.specs.PlanValues.{plan_value};
+ghost use Rattle.net_plan.specs.Texts.{IsJsonTextOf};
 ghost use Rattle.net_explained.specs.Obstacles.{IsTried};
 
 use crate::candidates::candidates;
 use crate::edit::{Edit, edited};
 use crate::order::is_later;
-use net_json::{PlanError, plan_of_text};
-use net_plan::Plan;
+use net_plan::{PlanError, plan_of_text};
 use net_rules::{CertifyError, certify};
+use plan_values::Plan;
 use std::alloc::{AllocError, Global};
 
 /// How many edits are proposed at most.

@@ -7,7 +7,7 @@ use Rattle.json.specs.Strict.{keys}
 use Rattle.json.specs.Token.{Token}
 use Rattle.json.proofs.Found.{Some_inj, not_found}
 use Rattle.net_pointers.specs.PartTokens.{from_path, from_key}
-use Rattle.net_json.specs.Texts.{IsTree}
+use Rattle.net_plan.specs.Texts.{IsTree}
 use Rattle.net_pointers.specs.Doubles.{part_at, member_at}
 use Rattle.net_pointers.specs.Offsets.{AreTokensFrom, PartStandsAt, KeyStandsAt}
 use Rattle.net_pointers.specs.Scans.{Ends, AreLeft}

@@ -10,13 +10,13 @@ use Rattle.std.specs.Str.{bytes_eq}
 use Rattle.json.specs.Json.{Json, array, object, Items, no_items, item, Members, no_members, member}
 use Rattle.json.specs.Strict.{keys}
 use Rattle.json.specs.Value.{value_view, items_view, members_view}
-use Rattle.net_json.specs.Json.{is_among}
-use Rattle.net_json.specs.Names.{are_new, names_differ, index_of}
-use Rattle.net_json.specs.SingleKeys.{single, items_single, members_single}
-use Rattle.net_json.specs.Trees.{Tree}
-use Rattle.net_json.proofs.Differing.{differ_sound}
-use Rattle.net_json.proofs.Names.{one_new, names_take, noted_now, index_of-take, index_of-among, index_within}
-use Rattle.net_json.proofs.Telling.{both}
+use Rattle.net_plan.specs.Json.{is_among}
+use Rattle.net_plan.specs.Names.{are_new, names_differ, index_of}
+use Rattle.net_plan.specs.SingleKeys.{single, items_single, members_single}
+use Rattle.net_plan.specs.Trees.{Tree}
+use Rattle.net_plan.proofs.Differing.{differ_sound}
+use Rattle.net_plan.proofs.Names.{one_new, names_take, noted_now, index_of-take, index_of-among, index_within}
+use Rattle.net_plan.proofs.Telling.{both}
 use Rattle.net_pointers.specs.Doubles.{IsFirstDoubled, item_at, member_at, part_after, part_at, HasDoubledKey, IsBefore, NoneBefore, IsFirstDoubledKey}
 use Rattle.net_pointers.specs.declared.doubled.DoubledKey.{DoubledKey}
 use Rattle.net_pointers.specs.declared.doubled.TwoIndices.{TwoIndices}

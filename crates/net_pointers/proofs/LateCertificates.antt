@@ -5,21 +5,21 @@ use Rattle.std.specs.List.{list_all}
 use Rattle.std.proofs.lemmas.Option.{none-some}
 use Rattle.serde_json.specs.Data.{Data, array, Items, no_items, item}
 use Rattle.serde_json.specs.Find.{get}
-use Rattle.net_json.specs.CertificateReading.{nodes_differ, ascends, entries_differ, tested, certificate}
-use Rattle.net_plan.specs.CertificateValues.{are_known, CertificateValue, NodeRanksValue}
-use Rattle.net_json.specs.Finding.{Located, first_fault, refused}
-use Rattle.net_json.specs.Fitting.{EachIs, HasAt, Fits}
-use Rattle.net_json.specs.Json.{demand, found, at_key}
-use Rattle.net_json.specs.Made.{each_made, each_in, found_or, range_made, ranks_made, certificate_made}
-use Rattle.net_json.specs.Names.{index_among, names_differ}
-use Rattle.net_json.specs.Reading.{then_with}
-use Rattle.net_json.specs.Refusals.{IsWellButForNames}
-use Rattle.net_json.specs.Tables.{a_range, a_node_ranks, a_certificate}
-use Rattle.net_json.specs.declared.error.ValueFault.{ValueFault}
-use Rattle.net_json.specs.declared.error.ValueFault.TheVariants.{UnknownName, Doubled}
-use Rattle.net_json.proofs.CertificateLaw.{ends, range_makes, entries_makes}
-use Rattle.net_json.proofs.Fitting.{none_fits, fits_none}
-use Rattle.net_json.proofs.WordsLaw.{number_at as number_told}
+use Rattle.net_plan.specs.CertificateReading.{nodes_differ, ascends, entries_differ, tested, certificate}
+use Rattle.plan_values.specs.CertificateValues.{are_known, CertificateValue, NodeRanksValue}
+use Rattle.net_plan.specs.Finding.{Located, first_fault, refused}
+use Rattle.net_plan.specs.Fitting.{EachIs, HasAt, Fits}
+use Rattle.net_plan.specs.Json.{demand, found, at_key}
+use Rattle.net_plan.specs.Made.{each_made, each_in, found_or, range_made, ranks_made, certificate_made}
+use Rattle.net_plan.specs.Names.{index_among, names_differ}
+use Rattle.net_plan.specs.Reading.{then_with}
+use Rattle.net_plan.specs.Refusals.{IsWellButForNames}
+use Rattle.net_plan.specs.Tables.{a_range, a_node_ranks, a_certificate}
+use Rattle.net_plan.specs.declared.error.ValueFault.{ValueFault}
+use Rattle.net_plan.specs.declared.error.ValueFault.TheVariants.{UnknownName, Doubled}
+use Rattle.net_plan.proofs.CertificateLaw.{ends, range_makes, entries_makes}
+use Rattle.net_plan.proofs.Fitting.{none_fits, fits_none}
+use Rattle.net_plan.proofs.WordsLaw.{number_at as number_told}
 use Rattle.net_pointers.specs.Ascending.{ranges_ascend, list_ascends, entries_ascend, ranks_ascend, number_or_zero, first_in, end_in}
 use Rattle.net_pointers.specs.Asks.{DoDiffer, IsDoubledIn, asks_of, certificate_text, known_nodes, list_names, texts_in}
 use Rattle.net_pointers.specs.declared.doubled.TwoIndices.{TwoIndices}

@@ -3,20 +3,20 @@ use Rattle.std.proofs.Common.{◌≡◌, ℕ, List, length, Bool, true, false, S
 use Rattle.std.proofs.lemmas.Option.{none-some}
 use Rattle.std.specs.List.{list_all}
 use Rattle.serde_json.specs.Data.{Data}
-use Rattle.net_json.specs.EventReading.{events_format, events_tested, events}
-use Rattle.net_json.specs.Finding.{Located, first_fault, refused}
-use Rattle.net_json.specs.Fitting.{Fits}
-use Rattle.net_json.specs.Json.{demand}
-use Rattle.net_json.specs.Made.{events_made}
-use Rattle.net_json.specs.Names.{index_among}
-use Rattle.net_json.specs.Reading.{then_with}
-use Rattle.net_json.specs.Refusals.{IsWellButForNames}
-use Rattle.net_json.specs.Tables.{events_in}
-use Rattle.net_json.specs.declared.error.ValueFault.{ValueFault}
-use Rattle.net_json.specs.declared.error.ValueFault.TheVariants.{UnknownName}
-use Rattle.net_json.proofs.EventLaw.{strictly, pass}
-use Rattle.net_json.proofs.Fitting.{none_fits, fits_none}
-use Rattle.net_plan.specs.EventValues.{EventEntry, is_known_event}
+use Rattle.net_plan.specs.EventReading.{events_format, events_tested, events}
+use Rattle.net_plan.specs.Finding.{Located, first_fault, refused}
+use Rattle.net_plan.specs.Fitting.{Fits}
+use Rattle.net_plan.specs.Json.{demand}
+use Rattle.net_plan.specs.Made.{events_made}
+use Rattle.net_plan.specs.Names.{index_among}
+use Rattle.net_plan.specs.Reading.{then_with}
+use Rattle.net_plan.specs.Refusals.{IsWellButForNames}
+use Rattle.net_plan.specs.Tables.{events_in}
+use Rattle.net_plan.specs.declared.error.ValueFault.{ValueFault}
+use Rattle.net_plan.specs.declared.error.ValueFault.TheVariants.{UnknownName}
+use Rattle.net_plan.proofs.EventLaw.{strictly, pass}
+use Rattle.net_plan.proofs.Fitting.{none_fits, fits_none}
+use Rattle.plan_values.specs.EventValues.{EventEntry, is_known_event}
 use Rattle.net_pointers.specs.Asks.{asks_of, events_text, known_nodes}
 use Rattle.net_pointers.proofs.Told.{Says}
 

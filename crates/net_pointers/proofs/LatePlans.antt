@@ -3,22 +3,22 @@ use Rattle.std.proofs.Common.{◌≡◌, inl, inr, ℕ, List, [], ◌∷◌, len
 use Rattle.std.proofs.lemmas.Option.{none-some}
 use Rattle.serde_json.specs.Data.{Data}
 use Rattle.serde_json.specs.Find.{get}
-use Rattle.net_plan.specs.Placed.{are_placed}
-use Rattle.net_plan.specs.PlanValues.{PlanValue, bus_names}
-use Rattle.net_json.specs.Finding.{Located, first_fault, refused}
-use Rattle.net_json.specs.Fitting.{Fits, FieldsFit}
-use Rattle.net_json.specs.Grammar.{Known}
-use Rattle.net_json.specs.Json.{demand}
-use Rattle.net_json.specs.Made.{plan_made}
-use Rattle.net_json.specs.Names.{names_differ, names_at}
-use Rattle.net_json.specs.PlanReading.{plan_format, plan_tested, plan}
-use Rattle.net_json.specs.Reading.{then_with}
-use Rattle.net_json.specs.Refusals.{IsWellButForNames}
-use Rattle.net_json.specs.Tables.{plan_lists, a_plan}
-use Rattle.net_json.specs.declared.error.ValueFault.{ValueFault}
-use Rattle.net_json.specs.declared.error.ValueFault.TheVariants.{UnknownName, Doubled}
-use Rattle.net_json.proofs.Fitting.{none_fits, fits_none}
-use Rattle.net_json.proofs.PlanLaw as law
+use Rattle.plan_values.specs.Placed.{are_placed}
+use Rattle.plan_values.specs.PlanValues.{PlanValue, bus_names}
+use Rattle.net_plan.specs.Finding.{Located, first_fault, refused}
+use Rattle.net_plan.specs.Fitting.{Fits, FieldsFit}
+use Rattle.net_plan.specs.Grammar.{Known}
+use Rattle.net_plan.specs.Json.{demand}
+use Rattle.net_plan.specs.Made.{plan_made}
+use Rattle.net_plan.specs.Names.{names_differ, names_at}
+use Rattle.net_plan.specs.PlanReading.{plan_format, plan_tested, plan}
+use Rattle.net_plan.specs.Reading.{then_with}
+use Rattle.net_plan.specs.Refusals.{IsWellButForNames}
+use Rattle.net_plan.specs.Tables.{plan_lists, a_plan}
+use Rattle.net_plan.specs.declared.error.ValueFault.{ValueFault}
+use Rattle.net_plan.specs.declared.error.ValueFault.TheVariants.{UnknownName, Doubled}
+use Rattle.net_plan.proofs.Fitting.{none_fits, fits_none}
+use Rattle.net_plan.proofs.PlanLaw as law
 use Rattle.net_pointers.specs.Asks.{DoDiffer, IsDoubledIn, known_in, plan_text, asks_of, list_names}
 use Rattle.net_pointers.specs.declared.order.NameList.TheVariants.{Buses}
 use Rattle.net_pointers.proofs.Doubling.{first_differs}

@@ -6,12 +6,12 @@ use Rattle.json.specs.Find.{BeginsWith}
 use Rattle.json.specs.Json.{Json}
 use Rattle.json.specs.Lex.{tokens}
 use Rattle.serde_json.specs.Read.{max_depth}
-use Rattle.net_json.specs.Texts.{IsTree}
-use Rattle.net_json.specs.Trees.{data_of}
+use Rattle.net_plan.specs.Texts.{IsTree}
+use Rattle.net_plan.specs.Trees.{data_of}
 use Rattle.net_pointers.specs.Offsets.{PartStandsAt, LeadsTo, KeyStandsAt, LeadsToKey}
 use Rattle.net_pointers.specs.Paths.{path_of}
 use Rattle.net_pointers.specs.Doubles.{part_at}
-use Rattle.net_json.specs.Finding.{Step}
+use Rattle.net_plan.specs.Finding.{Step}
 use Rattle.net_pointers.specs.Pointers.{value_at}
 use Rattle.net_pointers.proofs.Beginnings.{last}
 use Rattle.net_pointers.proofs.Paths.{path_leads}

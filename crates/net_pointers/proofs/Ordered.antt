@@ -4,11 +4,11 @@ use Rattle.std.specs.Prelude.{IfOk, IfSome, MatchOption}
 use Rattle.std.proofs.lemmas.List.{at_drop_more}
 use Rattle.json.specs.Json.{Json}
 use Rattle.serde_json.specs.Data.{Data}
-use Rattle.net_json.specs.CertificateReading.{certificate}
-use Rattle.net_json.specs.EventReading.{events}
-use Rattle.net_json.specs.Names.{names_differ}
-use Rattle.net_json.specs.PlanReading.{plan}
-use Rattle.net_json.specs.Trees.{data_of}
+use Rattle.net_plan.specs.CertificateReading.{certificate}
+use Rattle.net_plan.specs.EventReading.{events}
+use Rattle.net_plan.specs.Names.{names_differ}
+use Rattle.net_plan.specs.PlanReading.{plan}
+use Rattle.net_plan.specs.Trees.{data_of}
 use Rattle.net_pointers.specs.Asks.{Asks, Sort, plan_text, certificate_text, events_text, asks_of, DoDiffer, IsDoubledIn, list_names}
 use Rattle.net_pointers.specs.Doubles.{IsFirstDoubled}
 use Rattle.net_pointers.specs.OrderOfTests.{IsFirstTrouble, IsTold}

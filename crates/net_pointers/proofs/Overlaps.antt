@@ -6,9 +6,9 @@ use Rattle.std.proofs.lemmas.Bool.Decides.{Decides-eqb}
 use Rattle.std.proofs.lemmas.Option.{none-some, same_Some, option_and_then_some}
 use Rattle.serde_json.specs.Data.{Data, array, Items, no_items, item}
 use Rattle.serde_json.specs.Find.{get, at, get_item}
-use Rattle.net_json.specs.Finding.{key, index}
-use Rattle.net_json.specs.Trees.{Tree, view, items_view}
-use Rattle.net_json.proofs.Telling.{both}
+use Rattle.net_plan.specs.Finding.{key, index}
+use Rattle.net_plan.specs.Trees.{Tree, view, items_view}
+use Rattle.net_plan.proofs.Telling.{both}
 use Rattle.net_pointers.specs.Ascending.{AreFirst, DoOverlap, IsBefore, IsFirst, OverlapIn, OverlapOf, OverlapAmong, first_in, end_in, ranges_ascend, list_ascends}
 use Rattle.net_pointers.specs.Pointers.{value_at}
 use Rattle.net_pointers.specs.declared.ranges.Overlap.{Overlap}

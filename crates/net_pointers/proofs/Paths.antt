@@ -9,9 +9,9 @@ use Rattle.json.specs.Json.{Json, null, array, object, Items, no_items, item, Me
 use Rattle.json.specs.Value.{value_view, items_view, members_view}
 use Rattle.json.proofs.Found.{Some_inj, not_found}
 use Rattle.serde_json.specs.Find.{get_item}
-use Rattle.net_json.specs.Finding.{Step, key, index}
-use Rattle.net_json.specs.Trees.{Tree, data_of, items_of}
-use Rattle.net_json.proofs.Trees.{get_of}
+use Rattle.net_plan.specs.Finding.{Step, key, index}
+use Rattle.net_plan.specs.Trees.{Tree, data_of, items_of}
+use Rattle.net_plan.proofs.Trees.{get_of}
 use Rattle.net_pointers.specs.Doubles.{item_at, member_at, part_after, part_at}
 use Rattle.net_pointers.specs.Paths.{last_index, index_after, path_of}
 use Rattle.net_pointers.specs.Pointers.{value_after, value_at}

@@ -3,12 +3,12 @@ use Rattle.std.proofs.Common.{◌≡◌, Bool, true, false, true≢false, Option
 use Rattle.json.specs.Json.{Json}
 use Rattle.serde_json.specs.Data.{Data}
 use Rattle.serde_json.specs.Find.{get}
-use Rattle.net_json.specs.Finding.{Located, fault_of, first_fault, located}
-use Rattle.net_json.specs.Refusals.{IsWellButForNames}
-use Rattle.net_json.specs.SingleKeys.{single, unless_doubled}
-use Rattle.net_json.specs.Trees.{data_of}
-use Rattle.net_json.specs.declared.error.ValueFault.{ValueFault}
-use Rattle.net_json.specs.declared.error.ValueFault.TheVariants as fault
+use Rattle.net_plan.specs.Finding.{Located, fault_of, first_fault, located}
+use Rattle.net_plan.specs.Refusals.{IsWellButForNames}
+use Rattle.net_plan.specs.SingleKeys.{single, unless_doubled}
+use Rattle.net_plan.specs.Trees.{data_of}
+use Rattle.net_plan.specs.declared.error.ValueFault.{ValueFault}
+use Rattle.net_plan.specs.declared.error.ValueFault.TheVariants as fault
 use Rattle.net_pointers.specs.Asks.{Asks, IsDoubledIn}
 use Rattle.net_pointers.specs.OrderOfTests.{AreRight, AreEntriesSingle, AreApart, IsFirstTrouble, fault_in}
 use Rattle.net_pointers.specs.Doubles.{IsFirstDoubledKey}

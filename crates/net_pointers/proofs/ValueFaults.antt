@@ -7,17 +7,17 @@ use Rattle.hex.specs.Hex.{decode_of}
 use Rattle.hex.specs.declared.error.FromHexError.{FromHexError}
 use Rattle.serde_json.specs.Data.{Num, Data, null, boolean, number, string, array, object, Items, Members}
 use Rattle.serde_json.specs.Find.{get, as_u64}
-use Rattle.net_plan.specs.NameText.{is_name}
-use Rattle.net_json.specs.Finding.{Located, fault_of, known_name, word_fault, word_among, is_within, short_list, unless_null, passes, has_key, is_late, range_end, own_fault}
-use Rattle.net_json.specs.Grammar.{Grammar, plain, one_of, a_list, an_optional, an_object, a_choice, keys_of}
-use Rattle.net_json.specs.Json.{demand, found, is_among, has_unknown_key, lacks_key, keyed, some_object, number_within, whole_number, truth, name_text, decoded, hex_text, address_text, kind_text, items_count}
-use Rattle.net_json.specs.Reading.{then_with}
-use Rattle.net_json.specs.declared.error.ValueFault.{ValueFault}
-use Rattle.net_json.specs.declared.error.ValueFault.TheVariants as fault
-use Rattle.net_json.specs.declared.shape.Rule.{Rule}
-use Rattle.net_json.specs.declared.shape.Rule.TheVariants as rule
-use Rattle.net_json.specs.declared.shape.Word.{Word}
-use Rattle.net_json.specs.declared.shape.Word.TheVariants as word
+use Rattle.plan_values.specs.NameText.{is_name}
+use Rattle.net_plan.specs.Finding.{Located, fault_of, known_name, word_fault, word_among, is_within, short_list, unless_null, passes, has_key, is_late, range_end, own_fault}
+use Rattle.net_plan.specs.Grammar.{Grammar, plain, one_of, a_list, an_optional, an_object, a_choice, keys_of}
+use Rattle.net_plan.specs.Json.{demand, found, is_among, has_unknown_key, lacks_key, keyed, some_object, number_within, whole_number, truth, name_text, decoded, hex_text, address_text, kind_text, items_count}
+use Rattle.net_plan.specs.Reading.{then_with}
+use Rattle.net_plan.specs.declared.error.ValueFault.{ValueFault}
+use Rattle.net_plan.specs.declared.error.ValueFault.TheVariants as fault
+use Rattle.net_plan.specs.declared.shape.Rule.{Rule}
+use Rattle.net_plan.specs.declared.shape.Rule.TheVariants as rule
+use Rattle.net_plan.specs.declared.shape.Word.{Word}
+use Rattle.net_plan.specs.declared.shape.Word.TheVariants as word
 use Rattle.net_pointers.specs.Pointers.{HasFaultAt}
 
 -- neither a doubled thing, nor an unknown name, nor want of memory

@@ -3,9 +3,9 @@ use Rattle.std.specs.Prelude.{◌≡◌, ◌⊎◌, ◌<◌, ◌+◌, ℕ, codes
 use Rattle.std.specs.Prelude.{Option, Some, Result, Ok, Err}
 use Rattle.serde_json.specs.Data.{Data, array, Items, no_items, item}
 use Rattle.serde_json.specs.Find.{get, at, get_item}
-use Rattle.net_json.specs.Finding.{key, index, range_end}
-use Rattle.net_json.specs.Json.{at_key, whole_number}
-use Rattle.net_json.specs.declared.error.ValueFault.{ValueFault}
+use Rattle.net_plan.specs.Finding.{key, index, range_end}
+use Rattle.net_plan.specs.Json.{at_key, whole_number}
+use Rattle.net_plan.specs.declared.error.ValueFault.{ValueFault}
 use Rattle.net_pointers.specs.Pointers.{value_at}
 use Rattle.net_pointers.specs.declared.ranges.Overlap.{Overlap}
 

@@ -2,12 +2,12 @@
 use Rattle.std.specs.Prelude.{◌≡◌, ◌⊎◌, ⊤, ℕ, codes, Bool, true, false, List, [], ◌∷◌, Option, Some, None}
 use Rattle.serde_json.specs.Data.{Data}
 use Rattle.serde_json.specs.Find.{get}
-use Rattle.net_json.specs.EventReading.{events_format}
-use Rattle.net_json.specs.Grammar.{Grammar, Known, grammar, known_view}
-use Rattle.net_json.specs.Names.{names_at, names_differ, texts_at}
-use Rattle.net_json.specs.PlanReading.{plan_format}
-use Rattle.net_json.specs.Tables.{a_plan, a_certificate, events_in}
-use Rattle.net_plan.specs.PlanValues.{plan_value, node_names}
+use Rattle.net_plan.specs.EventReading.{events_format}
+use Rattle.net_plan.specs.Grammar.{Grammar, Known, grammar, known_view}
+use Rattle.net_plan.specs.Names.{names_at, names_differ, texts_at}
+use Rattle.net_plan.specs.PlanReading.{plan_format}
+use Rattle.net_plan.specs.Tables.{a_plan, a_certificate, events_in}
+use Rattle.plan_values.specs.PlanValues.{plan_value, node_names}
 use Rattle.net_pointers.specs.Doubles.{IsFirstDoubled}
 use Rattle.net_pointers.specs.declared.doubled.TwoIndices.{TwoIndices}
 use Rattle.net_pointers.specs.declared.order.Asked.{Asked}

@@ -4,7 +4,7 @@ use Rattle.std.specs.Prelude.{Option, Some, None, option_and_then}
 use Rattle.json.specs.Json.{Json, null, boolean, number, string, array, object}
 use Rattle.json.specs.Json.{Items, no_items, item, Members, no_members, member}
 use Rattle.json.specs.Strict.{keys}
-use Rattle.net_json.specs.Names.{names_differ}
+use Rattle.net_plan.specs.Names.{names_differ}
 use Rattle.net_pointers.specs.declared.doubled.DoubledKey.{DoubledKey}
 use Rattle.net_pointers.specs.declared.doubled.TwoIndices.{TwoIndices}
 

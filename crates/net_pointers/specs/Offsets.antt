@@ -6,12 +6,12 @@ use Rattle.json.specs.Json.{Json, Members, object}
 use Rattle.json.specs.Lex.{tokens}
 use Rattle.json.specs.Strict.{keys}
 use Rattle.json.specs.Token.{Token}
-use Rattle.net_json.specs.Texts.{IsTree}
-use Rattle.net_json.specs.Trees.{data_of}
+use Rattle.net_plan.specs.Texts.{IsTree}
+use Rattle.net_plan.specs.Trees.{data_of}
 use Rattle.net_pointers.specs.Doubles.{part_at}
 use Rattle.net_pointers.specs.PartTokens.{from_key, from_path}
 use Rattle.net_pointers.specs.Paths.{path_of}
-use Rattle.net_json.specs.Finding.{Step}
+use Rattle.net_plan.specs.Finding.{Step}
 use Rattle.net_pointers.specs.Pointers.{value_at}
 
 -- the bytes are UTF-8, and JSON of this tree

@@ -3,15 +3,15 @@ use Rattle.std.specs.Prelude.{◌≡◌, true, false, codes, Option, Some, None,
 use Rattle.json.specs.Json.{Json}
 use Rattle.serde_json.specs.Data.{Data}
 use Rattle.serde_json.specs.Find.{get}
-use Rattle.net_json.specs.CertificateReading.{certificate}
-use Rattle.net_json.specs.EventReading.{events}
-use Rattle.net_json.specs.Finding.{Located, fault_of, first_fault, located}
-use Rattle.net_json.specs.Grammar.{Grammar, Known}
-use Rattle.net_json.specs.PlanReading.{plan}
-use Rattle.net_json.specs.SingleKeys.{single, unless_doubled}
-use Rattle.net_json.specs.Trees.{data_of}
-use Rattle.net_json.specs.declared.error.ValueFault.{ValueFault}
-use Rattle.net_json.specs.declared.error.ValueFault.TheVariants as fault
+use Rattle.net_plan.specs.CertificateReading.{certificate}
+use Rattle.net_plan.specs.EventReading.{events}
+use Rattle.net_plan.specs.Finding.{Located, fault_of, first_fault, located}
+use Rattle.net_plan.specs.Grammar.{Grammar, Known}
+use Rattle.net_plan.specs.PlanReading.{plan}
+use Rattle.net_plan.specs.SingleKeys.{single, unless_doubled}
+use Rattle.net_plan.specs.Trees.{data_of}
+use Rattle.net_plan.specs.declared.error.ValueFault.{ValueFault}
+use Rattle.net_plan.specs.declared.error.ValueFault.TheVariants as fault
 use Rattle.net_pointers.specs.Ascending.{ranks_ascend, AreFirst, DoOverlap}
 use Rattle.net_pointers.specs.Asks.{Asks, DoDiffer, IsDoubledIn, asks_of}
 use Rattle.net_pointers.specs.Asks.{Sort, plan_text, certificate_text, events_text}

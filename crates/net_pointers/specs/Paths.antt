@@ -3,7 +3,7 @@ use Rattle.std.specs.Prelude.{ℕ, suc, List, [], ◌∷◌, cond, Option, Some,
 use Rattle.std.specs.Option.{option_or}
 use Rattle.std.specs.Str.{bytes_eq}
 use Rattle.json.specs.Json.{Json, null, boolean, number, string, array, object, Members, no_members, member}
-use Rattle.net_json.specs.Finding.{Step, key, index}
+use Rattle.net_plan.specs.Finding.{Step, key, index}
 use Rattle.net_pointers.specs.Doubles.{part_after}
 
 -- the index of the last member with a key

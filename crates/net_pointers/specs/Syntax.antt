@@ -4,7 +4,7 @@ use Rattle.std.specs.Prelude.{Bool, true, false, not, List, [], ◌∷◌, ◌++
 use Rattle.std.specs.Prelude.{Option, Some, None, if◌then◌else◌}
 use Rattle.std.specs.List.{slice_get}
 use Rattle.serde_json.specs.Data.{Data}
-use Rattle.net_json.specs.Texts.{IsJson, IsNoJson}
+use Rattle.net_plan.specs.Texts.{IsJson, IsNoJson}
 use Rattle.net_pointers.specs.declared.syntax.Open.{Open}
 use Rattle.net_pointers.specs.declared.syntax.Open.TheVariants as nest
 use Rattle.net_pointers.specs.declared.syntax.Passing.{Passing}

@@ -2,11 +2,11 @@
 use Rattle.std.specs.Prelude.{◌≡◌, ◌≤◌, ◌<◌, ℕ, List, length, Some, IsUtf8}
 use Rattle.json.specs.Json.{Json}
 use Rattle.std.specs.Str.{IsValidUpTo}
-use Rattle.net_json.specs.Texts.{IsJson, IsTree, IsNoJson}
-use Rattle.net_json.specs.Trees.{data_of}
-use Rattle.net_json.specs.Reading.{error_of}
-use Rattle.net_json.specs.declared.error.PlanError.{PlanError}
-use Rattle.net_json.specs.declared.error.PlanError.TheVariants as error
+use Rattle.net_plan.specs.Texts.{IsJson, IsTree, IsNoJson}
+use Rattle.net_plan.specs.Trees.{data_of}
+use Rattle.net_plan.specs.Reading.{error_of}
+use Rattle.net_plan.specs.declared.error.PlanError.{PlanError}
+use Rattle.net_plan.specs.declared.error.PlanError.TheVariants as error
 use Rattle.net_pointers.specs.Asks.{Sort}
 use Rattle.net_pointers.specs.OrderOfTests.{IsTold, fault_in}
 use Rattle.net_pointers.specs.Syntax.{IsStop}

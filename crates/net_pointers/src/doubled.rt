@@ -6,8 +6,8 @@ ghost use Rattle.std.specs.Ordering.{nat_cmp};
 ghost use Rattle.json.specs.Json.{array, object};
 ghost use Rattle.json.specs.Strict.{keys};
 ghost use Rattle.json.specs.Value.{value_view, items_view, members_view};
-ghost use Rattle.net_json.specs.Names.{names_differ};
-ghost use Rattle.net_json.specs.SingleKeys.{single, items_single, members_single};
+ghost use Rattle.net_plan.specs.Names.{names_differ};
+ghost use Rattle.net_plan.specs.SingleKeys.{single, items_single, members_single};
 ghost use Rattle.net_pointers.specs.Doubles.{IsFirstDoubled, IsFirstDoubledKey};
 
 use json::Value;
@@ -41,6 +41,7 @@ pub fn first_doubled(alloc: Global, names: &[&str]) -> Result<Option<TwoIndices>
         }
         match passed.insert(*name, second) {
             Ok(_) => {}
+            // no memory: the map could not grow.
             Err(_) => return Err(AllocError),
         }
     }
@@ -103,7 +104,7 @@ fn doubled_in_members(
 }
 
 /// The first key of an object that stands before it too.
-#[tactic(auto, using(net_json::proofs::SingleKeys::keys_of))]
+#[tactic(auto, using(net_plan::proofs::SingleKeys::keys_of))]
 fn doubled_here(
     alloc: Global,
     members: &Vec<(&str, Value<'_>)>,
@@ -134,6 +135,7 @@ impl DoubledKey {
         let mut doubled = self;
         match doubled.path.insert(0, index) {
             Ok(()) => Ok(doubled),
+            // no memory: the path could not grow.
             Err(_) => Err(AllocError),
         }
     }

@@ -5,20 +5,20 @@ ghost use Rattle.json.specs.Lex.{tokens};
 ghost use Rattle.json.specs.Strict.{keys};
 ghost use Rattle.json.specs.Token.{Token};
 ghost use Rattle.json.specs.Value.{value_view};
-ghost use Rattle.net_json.specs.Texts.{IsTree};
-ghost use Rattle.net_json.specs.Trees.{view};
+ghost use Rattle.net_plan.specs.Texts.{IsTree};
+ghost use Rattle.net_plan.specs.Trees.{view};
 ghost use Rattle.net_pointers.specs.Doubles.{part_at};
 ghost use Rattle.net_pointers.specs.Offsets.{IsTextOf, AreTokensFrom, PartStandsAt, KeyStandsAt, LeadsTo, LeadsToKey};
 ghost use Rattle.net_pointers.specs.PartTokens.{from_path, from_key};
 ghost use Rattle.net_pointers.specs.Pointers.{value_at};
 ghost use Rattle.net_pointers.specs.Scans.{Ends, AreLeft};
-ghost use Rattle.net_json.specs.Finding.{step_value};
+ghost use Rattle.net_plan.specs.Finding.{step_value};
 
 use crate::path::path_of;
 use crate::scan::token_offset;
 use crate::tokens::{count, count_left, follow, follow_to_key};
 use json::{Reader, Scratch, Value};
-use net_json::PointerStep;
+use net_plan::PointerStep;
 use std::alloc::{AllocError, Global};
 
 /// The offset at which the value begins to which a pointer leads in the tree of the text. `None` where it leads

@@ -2,7 +2,7 @@
 ghost use Rattle.std.specs.Prelude.{◌≡◌, true, false, IfOk, MatchOption, codes, map};
 ghost use Rattle.json.specs.Value.{value_view};
 ghost use Rattle.serde_json.specs.Find.{get};
-ghost use Rattle.net_json.specs.Trees.{view};
+ghost use Rattle.net_plan.specs.Trees.{view};
 ghost use Rattle.net_pointers.specs.Ascending.{AreFirst, DoOverlap, ranks_ascend};
 ghost use Rattle.net_pointers.specs.Asks.{DoDiffer, IsDoubledIn, asks, asks_of, list_key, list_names, name_key, sort_of};
 ghost use Rattle.net_pointers.specs.OrderOfTests.{IsFirstTrouble, IsTold, fault_in};
@@ -11,11 +11,11 @@ use crate::doubled::{DoubledKey, TwoIndices, doubled_key, first_doubled};
 use crate::known::{known_names, names_of_nodes, texts_at};
 use crate::ranges::{Overlap, first_overlap};
 use json::Value;
-use net_json::{
+use net_plan::{
     Found, KnownNames, Shape, ValueFault, certificate_shape, events_format, events_shape,
     find_fault, format_of, plan_shape,
 };
-use net_plan::Plan;
+use plan_values::Plan;
 use std::alloc::{AllocError, Global};
 
 /// A list whose entries have different names.

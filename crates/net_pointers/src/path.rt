@@ -1,12 +1,12 @@
 //! Where a JSON pointer leads, as a path of indices.
 ghost use Rattle.std.specs.Prelude.{◌≡◌, IfOk, map, option_map};
 ghost use Rattle.json.specs.Value.{value_view, items_view, members_view};
-ghost use Rattle.net_json.specs.Finding.{step_value};
+ghost use Rattle.net_plan.specs.Finding.{step_value};
 ghost use Rattle.net_pointers.specs.Doubles.{item_at, member_at, part_after};
 ghost use Rattle.net_pointers.specs.Paths.{last_index, index_after, path_of};
 
 use json::Value;
-use net_json::PointerStep;
+use net_plan::PointerStep;
 use std::alloc::{AllocError, Global};
 
 /// The indices of the parts through which a pointer leads. `None` where it leads nowhere.

@@ -1,12 +1,12 @@
 //! Ranges of a certificate's ranks that don't ascend apart.
 ghost use Rattle.std.specs.Prelude.{◌≡◌, codes, not, is_some, Some, IfSome};
-ghost use Rattle.net_json.specs.Trees.{view, items_view};
+ghost use Rattle.net_plan.specs.Trees.{view, items_view};
 ghost use Rattle.serde_json.specs.Data.{array, Items};
 ghost use Rattle.serde_json.specs.Find.{get};
 ghost use Rattle.net_pointers.specs.Ascending.{ranges_ascend, list_ascends, entries_ascend, ranks_ascend, AreFirst, IsFirst, OverlapIn, OverlapOf, OverlapAmong, first_in, end_in, DoOverlap};
 
 use json::Value;
-use net_json::{at, byte_at, range_end};
+use net_plan::{at, byte_at, range_end};
 
 /// The entry of a certificate's ranks, and the first of two of its ranges, one behind the other. All from 0.
 #[derive(Clone, Copy, Debug, PartialEq, Eq)]

@@ -1,12 +1,12 @@
 //! Where a text stops being JSON.
 ghost use Rattle.std.specs.Prelude.{◌≡◌, ◌≤◌, ◌<◌, ◌+◌, false, true, length, get_or, IfOk, IfErr};
 ghost use Rattle.serde_json.specs.Data.{Data};
-ghost use Rattle.net_json.specs.Texts.{IsJson, IsNoJson};
+ghost use Rattle.net_plan.specs.Texts.{IsJson, IsNoJson};
 ghost use Rattle.net_pointers.specs.Syntax.{is_blank, follows_value, opens, is_sign, is_of_word, IsFirstFrom, is_filled, ends_before, closes, IsQuoteEnd, IsTokenEnd, token_between, may_begin, after_value, after_comma, innermost, has_room, open_after, after_sign, after_token, IsPassing, IsStop};
 ghost use Rattle.net_pointers.specs.TextTroubles.{IsFaultOfJson};
 
 use json::Scratch;
-use net_json::{PlanError, json_of};
+use net_plan::{PlanError, json_of};
 use std::alloc::{AllocError, Global};
 
 /// How many lists and objects may stand open at one place.
@@ -323,6 +323,7 @@ fn is_json(
     match json_of(alloc, token, scratch) {
         Ok(_) => Ok(true),
         Err(PlanError::NotJson) => Ok(false),
+        // no memory: a part of a text is no longer than a text may be, so the reader's room was refused.
         Err(_) => Err(AllocError),
     }
 }

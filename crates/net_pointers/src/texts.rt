@@ -1,11 +1,11 @@
 //! What is wrong with a text.
 ghost use Rattle.std.specs.Prelude.{◌≡◌, IfOk};
-ghost use Rattle.net_json.specs.Refusals.{IsNoValue};
+ghost use Rattle.net_plan.specs.Refusals.{IsNoValue};
 ghost use Rattle.net_pointers.specs.TextTroubles.{IsToldOfNoValue, cause_of};
 
 use crate::order::Trouble;
 use crate::syntax::{JsonFault, json_fault};
-use net_json::{PlanError, TEXT_LIMIT};
+use net_plan::{PlanError, TEXT_LIMIT};
 use std::alloc::{AllocError, Global};
 
 /// What is wrong with a text.
@@ -42,6 +42,7 @@ pub fn no_value(alloc: Global, text: &[u8], error: PlanError) -> Result<TextTrou
     }
     match error {
         PlanError::NotJson => Ok(TextTrouble::NotJson(json_fault(alloc, text)?)),
+        // no memory: the text is short enough, so the reader's room was refused.
         _ => Err(AllocError),
     }
 }

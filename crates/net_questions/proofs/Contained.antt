@@ -12,8 +12,8 @@ use Rattle.std.proofs.lemmas.Bool.{cases_lt, true≢false}
 use Rattle.std.proofs.lemmas.Option.{same_Some, slice_get_within}
 use Rattle.pdr_record.specs.Layouts.{AssociationValue, EntityValue}
 use Rattle.pdr_record.specs.Records.{BodyValue}
-use Rattle.net_plan.specs.declared.plan.Plan.{Plan}
-use Rattle.net_plan.specs.declared.terminus.PlannedRecord.{PlannedRecord}
+use Rattle.plan_values.specs.declared.plan.Plan.{Plan}
+use Rattle.plan_values.specs.declared.terminus.PlannedRecord.{PlannedRecord}
 use Rattle.net_tables.specs.Repositories.{records_of}
 use Rattle.net_questions.specs.Sensors.{Associates, HasAssociationOf, HasBody}
 use Rattle.net_questions.specs.RecordIndexes.{AreContained, AssociatesIn, HasEntity, NotesEntities, entity_key, by_entity}

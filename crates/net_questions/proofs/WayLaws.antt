@@ -5,16 +5,16 @@ use Rattle.std.proofs.lemmas.Bool.{cases_order}
 use Rattle.std.proofs.lemmas.List.{get_or-map, get_or-take, length-take, length-map}
 use Rattle.std.proofs.lemmas.Option.{slice_get_within, get_or_from_slice_get, same_Some}
 use Rattle.mctp_transport.specs.PacketValues.{IsAssignable}
-use Rattle.mctp_bridge.specs.declared.row.Hop.{Hop}
-use Rattle.mctp_bridge.specs.declared.decision.ForwardFault.TheVariants.{Unassignable, NoBridge, NoRow}
-use Rattle.mctp_bridge.specs.declared.decision.Decision.{Decision}
-use Rattle.mctp_bridge.specs.declared.decision.Decision.TheVariants.{Deliver, Drop, Forward}
-use Rattle.mctp_bridge.specs.Decisions.{Decides}
-use Rattle.mctp_bridge.specs.Rows as rule
-use Rattle.mctp_bridge.specs.declared.row.TableRow as bridge
-use Rattle.net_plan.specs.declared.plan.Plan.{Plan}
-use Rattle.net_plan.specs.declared.nodes.Row.{Row}
-use Rattle.net_plan.specs.declared.certificate.Certificate.{Certificate}
+use Rattle.mctp_routing.specs.declared.row.Hop.{Hop}
+use Rattle.mctp_routing.specs.declared.decision.ForwardFault.TheVariants.{Unassignable, NoBridge, NoRow}
+use Rattle.mctp_routing.specs.declared.decision.Decision.{Decision}
+use Rattle.mctp_routing.specs.declared.decision.Decision.TheVariants.{Here, Drop, Forward}
+use Rattle.mctp_routing.specs.Decisions.{Decides}
+use Rattle.mctp_routing.specs.Rows as rule
+use Rattle.mctp_routing.specs.declared.row.TableRow as bridge
+use Rattle.plan_values.specs.declared.plan.Plan.{Plan}
+use Rattle.plan_values.specs.declared.nodes.Row.{Row}
+use Rattle.plan_values.specs.declared.certificate.Certificate.{Certificate}
 use Rattle.net_rules.specs.declared.rule.Rule.TheVariants.{C05}
 use Rattle.net_tables.specs.Routing.{Holds, IsBridge, MovesTo, rows_of, Covers}
 use Rattle.net_tables.specs.Rows.{AreApart, IsApartFromEarlier, RowsAreApart, RowsAreInRange}
@@ -113,27 +113,27 @@ one_hop plan n e apart hop other here there =
 
 module _ (holds forwards : Type 0) (routes : Hop → Type 0) (one : (hop other : Hop) → routes hop → routes other → hop ≡ other) (e : ℕ) where
   pub decides_one : (a b : Decision) → Decides holds forwards routes e a → Decides holds forwards routes e b → a ≡ b
-  decides_one Deliver Deliver x y = refl
-  decides_one Deliver (Drop Unassignable) x y = absurd (y.0 x)
-  decides_one Deliver (Drop NoBridge) x y = absurd (y.0 x)
-  decides_one Deliver (Drop NoRow) x y = absurd (y.0 x)
-  decides_one Deliver (Forward hop) x y = absurd (y.0 x)
-  decides_one (Drop Unassignable) Deliver x y = absurd (x.0 y)
+  decides_one Here Here x y = refl
+  decides_one Here (Drop Unassignable) x y = absurd (y.0 x)
+  decides_one Here (Drop NoBridge) x y = absurd (y.0 x)
+  decides_one Here (Drop NoRow) x y = absurd (y.0 x)
+  decides_one Here (Forward hop) x y = absurd (y.0 x)
+  decides_one (Drop Unassignable) Here x y = absurd (x.0 y)
   decides_one (Drop Unassignable) (Drop Unassignable) x y = refl
   decides_one (Drop Unassignable) (Drop NoBridge) x y = absurd (x.1 y.1)
   decides_one (Drop Unassignable) (Drop NoRow) x y = absurd (x.1 y.1)
   decides_one (Drop Unassignable) (Forward hop) x y = absurd (x.1 y.1)
-  decides_one (Drop NoBridge) Deliver x y = absurd (x.0 y)
+  decides_one (Drop NoBridge) Here x y = absurd (x.0 y)
   decides_one (Drop NoBridge) (Drop Unassignable) x y = absurd (y.1 x.1)
   decides_one (Drop NoBridge) (Drop NoBridge) x y = refl
   decides_one (Drop NoBridge) (Drop NoRow) x y = absurd (x.2 y.2)
   decides_one (Drop NoBridge) (Forward hop) x y = absurd (x.2 y.2)
-  decides_one (Drop NoRow) Deliver x y = absurd (x.0 y)
+  decides_one (Drop NoRow) Here x y = absurd (x.0 y)
   decides_one (Drop NoRow) (Drop Unassignable) x y = absurd (y.1 x.1)
   decides_one (Drop NoRow) (Drop NoBridge) x y = absurd (y.2 x.2)
   decides_one (Drop NoRow) (Drop NoRow) x y = refl
   decides_one (Drop NoRow) (Forward hop) x y = absurd (x.3 hop y.3)
-  decides_one (Forward hop) Deliver x y = absurd (x.0 y)
+  decides_one (Forward hop) Here x y = absurd (x.0 y)
   decides_one (Forward hop) (Drop Unassignable) x y = absurd (y.1 x.1)
   decides_one (Forward hop) (Drop NoBridge) x y = absurd (y.2 x.2)
   decides_one (Forward hop) (Drop NoRow) x y = absurd (y.3 hop x.3)

@@ -1,6 +1,6 @@
 -- The list of all that looks wrong, and its order.
 use Rattle.std.specs.Prelude.{◌≡◌, ◌↔◌, ℕ, List, [], ◌∷◌, ◌++◌, length, Contains, AllPairs, All, ⊤}
-use Rattle.net_plan.specs.declared.plan.Plan.{Plan}
+use Rattle.plan_values.specs.declared.plan.Plan.{Plan}
 use Rattle.net_tables.specs.Routing.{ports_of, rows_of}
 use Rattle.net_tables.specs.Repositories.{records_of}
 use Rattle.net_rules.specs.Faults.{LessByFirstDifference}

@@ -1,10 +1,10 @@
 -- The way of a packet: where each node sends it, and what the last one does with it.
 use Rattle.std.specs.Prelude.{◌≡◌, ◌⊎◌, ℕ, suc, List, [], ◌∷◌, length, map}
-use Rattle.mctp_bridge.specs.declared.decision.Decision.{Decision}
-use Rattle.mctp_bridge.specs.declared.decision.Decision.TheVariants.{Deliver, Drop, Forward}
-use Rattle.mctp_bridge.specs.Decisions.{Decides}
-use Rattle.mctp_bridge.specs.Rows.{Routes}
-use Rattle.net_plan.specs.declared.plan.Plan.{Plan}
+use Rattle.mctp_routing.specs.declared.decision.Decision.{Decision}
+use Rattle.mctp_routing.specs.declared.decision.Decision.TheVariants.{Here, Drop, Forward}
+use Rattle.mctp_routing.specs.Decisions.{Decides}
+use Rattle.mctp_routing.specs.Rows.{Routes}
+use Rattle.plan_values.specs.declared.plan.Plan.{Plan}
 use Rattle.net_tables.specs.Routing.{Holds, IsBridge, rows_of}
 use Rattle.net_tables.specs.Tables.{table_row}
 use Rattle.net_questions.specs.declared.step.WayStep.{WayStep}
@@ -24,7 +24,7 @@ Follows plan e moves n (step ∷ steps) m =
 
 -- the last node takes the packet, or drops it
 abbrev pub decision_of : End → Decision
-decision_of Arrives = Deliver
+decision_of Arrives = Here
 decision_of (Stops why) = Drop why
 
 -- A packet for e that is put in at a node is sent along these steps, and the last node takes it or drops it.

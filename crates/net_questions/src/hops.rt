@@ -8,8 +8,8 @@ ghost use Rattle.net_questions.specs.Reaching.{IsReach, NeverCircles, AreHopsTo,
 
 use crate::lookup::{eid_at, row_for};
 use mctp_transport::Eid;
-use net_plan::Plan;
 use net_tables::lookup::holds;
+use plan_values::Plan;
 use std::alloc::{AllocError, Global};
 
 /// The numbers of moves to one node.

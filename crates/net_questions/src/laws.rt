@@ -1,7 +1,7 @@
 //! Laws of the ways of packets. The functions do nothing: their contracts are the laws.
 ghost use Rattle.std.specs.Prelude.{◌↔◌, ℕ, List};
-ghost use Rattle.net_plan.specs.declared.plan.Plan.{Plan};
-ghost use Rattle.net_plan.specs.declared.certificate.Certificate.{Certificate};
+ghost use Rattle.plan_values.specs.declared.plan.Plan.{Plan};
+ghost use Rattle.plan_values.specs.declared.certificate.Certificate.{Certificate};
 ghost use Rattle.net_rules.specs.Rules.{Accepts};
 ghost use Rattle.net_questions.specs.declared.step.WayStep.{WayStep};
 ghost use Rattle.net_questions.specs.declared.way.End.{End};

@@ -10,8 +10,8 @@ use crate::lints::{
     buses, entities, handles, locators, ports, rows, sensors, termini, thresholds, ways,
 };
 use mctp_transport::Eid;
-use net_plan::Plan;
 use net_tables::lookup::{ports_at, records_at, rows_at};
+use plan_values::Plan;
 use std::alloc::{AllocError, Global};
 
 /// All that is lawful in the plan and still looks wrong, by the order of the codes, and then in plan order. The plan

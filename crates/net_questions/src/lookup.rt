@@ -1,14 +1,14 @@
 //! What a plan says of a node beside `net_tables::lookup`: the first of its rows for an endpoint ID.
 ghost use Rattle.std.specs.Prelude.{◌<◌, length, map, MatchOption};
-ghost use Rattle.mctp_bridge.specs.Rows.{IsNext};
+ghost use Rattle.mctp_routing.specs.Rows.{IsNext};
 ghost use Rattle.net_tables.specs.Routing.{Holds, HasRow, rows_of};
 ghost use Rattle.net_tables.specs.Tables.{table_row};
 ghost use Rattle.net_questions.specs.Lint.{IsFirstRowFor};
 
-use mctp_bridge::Hop;
+use mctp_routing::Hop;
 use mctp_transport::Eid;
-use net_plan::{Plan, Row};
 use net_tables::lookup::{covers, rows_at};
+use plan_values::{Plan, Row};
 
 /// The endpoint ID of a node of the plan.
 pub fn eid_at(plan: &Plan, node: usize) -> Eid

@@ -1,5 +1,5 @@
 //! A step of a packet's way.
-use mctp_bridge::Hop;
+use mctp_routing::Hop;
 
 /// Where a node sends a packet.
 #[derive(Clone, Copy, Debug, PartialEq, Eq)]

@@ -5,11 +5,11 @@ ghost use Rattle.net_questions.specs.Ways.{IsWay, DoesAfter};
 
 use crate::lookup::hop_at;
 use crate::step::WayStep;
-use mctp_bridge::{Decision, ForwardFault};
+use mctp_routing::{Decision, ForwardFault};
 use mctp_transport::Eid;
 use net_check::Checked;
-use net_plan::Plan;
 use net_tables::lookup::{holds, is_bridge};
+use plan_values::Plan;
 use std::alloc::{AllocError, Global};
 
 /// How the way of a packet ends.
@@ -45,7 +45,7 @@ pub fn follow(alloc: Global, checked: &Checked, from: usize, eid: Eid) -> Result
                 steps.push(WayStep { node: last, hop })?;
                 last = hop.next;
             }
-            Decision::Deliver => {
+            Decision::Here => {
                 return Ok(Way {
                     steps,
                     last,
@@ -68,7 +68,7 @@ fn decision_after(plan: &Plan, node: usize, eid: Eid, moves: usize) -> Decision
     ensures { DoesAfter plan.now eid.value moves node result }
 {
     if holds(plan, node, eid) {
-        return Decision::Deliver;
+        return Decision::Here;
     }
     if !eid.is_assignable() {
         return Decision::Drop(ForwardFault::Unassignable);

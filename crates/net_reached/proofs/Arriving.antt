@@ -3,9 +3,9 @@ use Rattle.std.proofs.Common.{◌≡◌, ◌↔◌, ◌+◌, inl, inr, arith, �
 use Rattle.std.specs.Prelude.{MatchOption}
 use Rattle.std.proofs.lemmas.Bool.{cases_lt}
 use Rattle.std.proofs.lemmas.Option.{same_Some}
-use Rattle.net_plan.specs.declared.plan.Plan.{Plan}
-use Rattle.net_plan.specs.declared.certificate.Certificate.{Certificate}
-use Rattle.mctp_bridge.specs.declared.decision.ForwardFault.{ForwardFault}
+use Rattle.plan_values.specs.declared.plan.Plan.{Plan}
+use Rattle.plan_values.specs.declared.certificate.Certificate.{Certificate}
+use Rattle.mctp_routing.specs.declared.decision.ForwardFault.{ForwardFault}
 use Rattle.net_rules.specs.Rules.{Accepts}
 use Rattle.net_tables.specs.Routing.{Holds}
 use Rattle.net_questions.specs.declared.step.WayStep.{WayStep}

@@ -1,7 +1,7 @@
 -- Which text says which wishes.
 use Rattle.std.specs.Prelude.{◌≡◌, ◌⊎◌, ℕ, ◌<◌, ◌+◌, List, [], ◌∷◌, ◌++◌, Option, Some, None, slice_get, codes, ⊤}
 use Rattle.std.specs.Str.Lines.{lines}
-use Rattle.net_plan.specs.declared.plan.Plan.{Plan}
+use Rattle.plan_values.specs.declared.plan.Plan.{Plan}
 use Rattle.net_rules.specs.Names.{name_of}
 use Rattle.net_reached.specs.declared.wish.Wish.{Wish}
 use Rattle.net_reached.specs.declared.wish.Wish.TheVariants.{Nothing, Reaches, ReachesAll, Avoids}

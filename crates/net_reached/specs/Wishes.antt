@@ -1,6 +1,6 @@
 -- What wishes say of a plan.
 use Rattle.std.specs.Prelude.{◌≡◌, ◌⊎◌, ℕ, ◌<◌, List, [], ◌∷◌, ◌++◌, length, ⊤}
-use Rattle.net_plan.specs.declared.plan.Plan.{Plan}
+use Rattle.plan_values.specs.declared.plan.Plan.{Plan}
 use Rattle.net_tables.specs.Routing.{Holds}
 use Rattle.net_questions.specs.Ways.{ArrivesAfter}
 use Rattle.net_reached.specs.declared.wish.Wish.{Wish}

@@ -2,7 +2,7 @@
 ghost use Rattle.std.specs.Prelude.{◌≡◌, ◌<◌, ℕ, IfSome, IfNone, length};
 ghost use Rattle.net_reached.specs.Reading.{IsNamed};
 
-use net_plan::Plan;
+use plan_values::Plan;
 
 /// The name of a node of the plan.
 pub fn name_of(plan: &Plan, node: usize) -> &str

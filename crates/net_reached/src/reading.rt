@@ -6,7 +6,7 @@ ghost use Rattle.net_reached.specs.Reading.{IsRemark, Says, SaysNothing, IsNamed
 
 use crate::names::{first_named, name_of};
 use crate::wish::Wish;
-use net_plan::Plan;
+use plan_values::Plan;
 use std::alloc::{AllocError, Global};
 
 /// A line that says no wish.

@@ -3,8 +3,8 @@ ghost use Rattle.std.specs.Prelude.{◌≡◌, ◌++◌, IfOk, codes, string_byt
 ghost use Rattle.net_reached.specs.Lines.{wish_line, wish_lines};
 
 use crate::wish::Wish;
-use net_plan::Plan;
 use net_tables::lookup::node_name;
+use plan_values::Plan;
 use std::alloc::{AllocError, Global};
 
 /// A line for each wish.

@@ -8,14 +8,14 @@ use Rattle.std.proofs.lemmas.List.{get_or_default}
 use Rattle.std.proofs.lemmas.Option.{slice_get_past, slice_get_within}
 use Rattle.std.proofs.lemmas.List.Elements.{Contains-append_left, Contains-push, Contains-push_cases}
 use Rattle.std.proofs.lemmas.List.Quantifiers.{all_pairs_push}
-use Rattle.net_plan.specs.declared.plan.Plan.{Plan}
-use Rattle.net_plan.specs.declared.nodes.Bus.{Bus}
-use Rattle.net_plan.specs.declared.nodes.Node.{Node}
-use Rattle.net_plan.specs.declared.nodes.Row.{Row}
-use Rattle.net_plan.specs.NodeValues.{bus_value, row_value}
+use Rattle.plan_values.specs.declared.plan.Plan.{Plan}
+use Rattle.plan_values.specs.declared.nodes.Bus.{Bus}
+use Rattle.plan_values.specs.declared.nodes.Node.{Node}
+use Rattle.plan_values.specs.declared.nodes.Row.{Row}
+use Rattle.plan_values.specs.NodeValues.{bus_value, row_value}
 use Rattle.net_tables.specs.Routing.{node_at, rows_of}
-use Rattle.net_plan.specs.declared.certificate.Certificate.{Certificate}
-use Rattle.net_plan.specs.NodeValues.{but_rows}
+use Rattle.plan_values.specs.declared.certificate.Certificate.{Certificate}
+use Rattle.plan_values.specs.NodeValues.{but_rows}
 use Rattle.net_rules.specs.MoveRules.{AcceptsMove, HaveSameFrame, IsSameNode, SameFrame, SameNode}
 use Rattle.net_rules.specs.MoveObstacles.{DifferInRowsAlone}
 use Rattle.net_rollout.specs.declared.change.LastStep.{LastStep}

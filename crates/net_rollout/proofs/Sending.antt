@@ -3,7 +3,7 @@ use Rattle.std.proofs.Common.{◌≡◌, ◌⊎◌, ◌↔◌, inl, inr, ◌<◌
 use Rattle.std.specs.Prelude.{slice_get}
 use Rattle.std.proofs.lemmas.Bool.{cases_lt, false≢true}
 use Rattle.std.proofs.lemmas.Option.{slice_get_within, same_Some}
-use Rattle.net_plan.specs.declared.nodes.Row.{Row}
+use Rattle.plan_values.specs.declared.nodes.Row.{Row}
 use Rattle.net_tables.specs.Routing.{Covers, NamesFor}
 use Rattle.net_rollout.specs.Steps.{IsPieceOf, SendsBy, SendAs}
 use Rattle.net_rollout.proofs.Items.{item_pushed}

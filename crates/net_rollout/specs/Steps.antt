@@ -1,21 +1,21 @@
 -- Steps from the rows of one plan to those of another.
 use Rattle.std.specs.Prelude.{◌≡◌, ◌≢◌, ◌⊎◌, ◌↔◌, ℕ, ◌<◌, ◌≤◌, List, [], ◌∷◌, slice_get, length, map}
 use Rattle.std.specs.Prelude.{AllPairs, Contains, Some, option_map, ⊤}
-use Rattle.net_plan.specs.declared.plan.Plan.{Plan}
-use Rattle.net_plan.specs.declared.nodes.Row.{Row}
-use Rattle.net_plan.specs.declared.certificate.Certificate.{Certificate}
-use Rattle.net_plan.specs.CertificateValues.{certificate_value}
-use Rattle.net_plan.specs.NodeValues.{RowValue, row_value}
-use Rattle.net_plan.specs.PlanValues.{plan_value}
-use Rattle.net_plan.specs.ShortText.{HasFewPlaces}
-use Rattle.net_plan.specs.WellFormed.{IsWellFormed}
-use Rattle.net_plan.specs.declared.nodes.Node.{Node}
+use Rattle.plan_values.specs.declared.plan.Plan.{Plan}
+use Rattle.plan_values.specs.declared.nodes.Row.{Row}
+use Rattle.plan_values.specs.declared.certificate.Certificate.{Certificate}
+use Rattle.plan_values.specs.CertificateValues.{certificate_value}
+use Rattle.plan_values.specs.NodeValues.{RowValue, row_value}
+use Rattle.plan_values.specs.PlanValues.{plan_value}
+use Rattle.plan_values.specs.ShortText.{HasFewPlaces}
+use Rattle.plan_values.specs.WellFormed.{IsWellFormed}
+use Rattle.plan_values.specs.declared.nodes.Node.{Node}
 use Rattle.net_tables.specs.Routing.{Covers, NamesFor, rows_of, node_at}
 use Rattle.net_rules.specs.declared.move_error.MoveError.TheVariants as error
 use Rattle.net_rules.specs.declared.move_obstacle.MoveObstacle.{MoveObstacle}
 use Rattle.net_rules.specs.declared.move_obstacle.MoveObstacle.TheVariants as obstacle
 use Rattle.net_rules.specs.MoveObstacles.{DifferInRowsAlone, HasNoMoveCertificate, IsExactForMove, NamesMoveObstacle}
-use Rattle.net_plan.specs.NodeValues.{but_rows}
+use Rattle.plan_values.specs.NodeValues.{but_rows}
 use Rattle.net_rules.specs.MoveRules.{AcceptsMove}
 use Rattle.net_rules.specs.Rules.{Accepts}
 use Rattle.net_rollout.specs.declared.change.Part.{Part}

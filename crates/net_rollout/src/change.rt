@@ -1,8 +1,8 @@
 //! The steps from the rows of one plan to those of another.
 
 use mctp_transport::Eid;
-use net_plan::{Certificate, Plan};
 use net_rules::MoveObstacle;
+use plan_values::{Certificate, Plan};
 
 /// Endpoint IDs, one after another, that a node sends on by its new rows from a step on.
 #[derive(Clone, Copy, Debug, PartialEq, Eq)]

@@ -1,16 +1,16 @@
 //! The plan that a change leads to.
 ghost use Rattle.std.specs.Prelude.{◌≡◌, ◌↔◌, ℕ, IfOk, IfSome, IsTrue, length, map, option_map};
-ghost use Rattle.net_plan.specs.declared.plan.Plan.{Plan};
-ghost use Rattle.net_plan.specs.NodeValues.{bus_value, port_value, record_value, row_value, terminus_value, name_bytes};
+ghost use Rattle.plan_values.specs.declared.plan.Plan.{Plan};
+ghost use Rattle.plan_values.specs.NodeValues.{bus_value, port_value, record_value, row_value, terminus_value, name_bytes};
 ghost use Rattle.net_tables.specs.Routing.{rows_of};
-ghost use Rattle.net_plan.specs.NodeValues.{but_rows};
+ghost use Rattle.plan_values.specs.NodeValues.{but_rows};
 ghost use Rattle.net_rollout.specs.Steps.{AreChanged, AreNodesAfter, AreTold, ChangesAs, GoAs, GoesAs, IsPartTold, IsTaken, IsTold, SendAs};
 
 use crate::change::{Change, Part};
 use crate::row_pieces::{is_sent_to, rows_with};
 use mctp_transport::Eid;
-use net_plan::{Bus, Name, Node, Plan, PlannedRecord, PlannedTerminus, Port, Row};
 use net_tables::lookup::rows_at;
+use plan_values::{Bus, Name, Node, Plan, PlannedRecord, PlannedTerminus, Port, Row};
 use std::alloc::{AllocError, Global};
 
 /// The plan that a change towards a new plan leads to. `None` where the change tells something of the new plan's rows

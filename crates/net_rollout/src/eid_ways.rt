@@ -2,8 +2,8 @@
 //! step is judged as a move before it is told.
 
 use mctp_transport::Eid;
-use net_plan::{Node, Plan};
 use net_tables::lookup::covers;
+use plan_values::{Node, Plan};
 use std::alloc::{AllocError, Global};
 
 /// The most nodes of a plan.

@@ -4,7 +4,7 @@ use crate::change::{Change, Part};
 use crate::changed_plan::changed_nodes;
 use crate::eid_ways::EidWays;
 use mctp_transport::Eid;
-use net_plan::Plan;
+use plan_values::Plan;
 use std::alloc::{AllocError, Global};
 
 /// The next change on the way from a plan to a new one: of as many nodes as can take their new rows together, in plan

@@ -4,8 +4,8 @@ ghost use Rattle.net_tables.specs.Routing.{Covers, NamesFor};
 ghost use Rattle.net_rollout.specs.Steps.{IsPieceOf, SendAs, SendsBy};
 
 use mctp_transport::Eid;
-use net_plan::Row;
 use net_tables::lookup::covers;
+use plan_values::Row;
 use std::alloc::{AllocError, Global};
 
 /// The rows of a node that sends the endpoint IDs from the first to the last on by its new rows, and others as before.

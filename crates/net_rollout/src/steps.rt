@@ -8,8 +8,8 @@ use crate::change::{Change, LastStep, Rollout, Step};
 use crate::changed_plan::{as_made, changed_nodes, plan_after};
 use crate::eid_ways::{EidWays, all_ways, settle};
 use crate::proposals::proposed;
-use net_plan::Plan;
 use net_rules::{CertifyError, MoveError, MoveObstacle, certify, certify_move};
+use plan_values::Plan;
 use std::alloc::{AllocError, Global};
 
 /// The most steps that are made. Each of them changes for good how a node sends on some endpoint ID, or how its rows

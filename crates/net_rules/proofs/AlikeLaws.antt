@@ -3,13 +3,13 @@ use Rattle.std.proofs.Common.{◌≡◌, ℕ, ◌<◌, ◌≤◌, List, [], ◌�
 use Rattle.std.specs.Prelude.{Any, MatchOption, slice_get}
 use Rattle.std.proofs.lemmas.Bool.{cases_lt}
 use Rattle.std.proofs.Math.Nat.{min-eq_left, min-eq_right}
-use Rattle.mctp_bridge.specs.declared.row.Hop.{Hop}
-use Rattle.mctp_bridge.specs.declared.row.TableRow as bridge
-use Rattle.mctp_bridge.specs.declared.pieces.Piece.{Piece}
-use Rattle.mctp_bridge.specs.Rows as rule
-use Rattle.mctp_bridge.specs.Pieces as cut
-use Rattle.mctp_bridge.proofs.PieceLoops.{at_place, looked_before, inside_interval}
-use Rattle.net_plan.specs.declared.plan.Plan.{Plan}
+use Rattle.mctp_routing.specs.declared.row.Hop.{Hop}
+use Rattle.mctp_routing.specs.declared.row.TableRow as bridge
+use Rattle.mctp_routing.specs.declared.pieces.Piece.{Piece}
+use Rattle.mctp_routing.specs.Rows as rule
+use Rattle.mctp_routing.specs.Pieces as cut
+use Rattle.mctp_routing.proofs.PieceLoops.{at_place, looked_before, inside_interval}
+use Rattle.plan_values.specs.declared.plan.Plan.{Plan}
 use Rattle.net_tables.specs.Routing.{rows_of, NamesFor}
 use Rattle.net_tables.specs.Rows.{RowsAreApart}
 use Rattle.net_tables.specs.Tables.{IsHopOf, SendsAs}

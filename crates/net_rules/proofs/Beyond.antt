@@ -5,10 +5,10 @@ use Rattle.std.proofs.lemmas.Option.{slice_get_past}
 use Rattle.mctp_transport.specs.PacketValues.{IsAssignable}
 use Rattle.net_rules.specs.declared.rule.Rule.{Rule}
 use Rattle.net_rules.specs.declared.rule.Rule.TheVariants.{C01, C02, C03, C04, C05, C06, C07, C08, C09, C10, C11, C12, C13, C14, C15, C16}
-use Rattle.net_plan.specs.declared.plan.Plan.{Plan}
-use Rattle.net_plan.specs.declared.nodes.Row.{Row}
-use Rattle.net_plan.specs.declared.certificate.Certificate.{Certificate}
-use Rattle.net_plan.specs.declared.nodes.Pool.{Pool}
+use Rattle.plan_values.specs.declared.plan.Plan.{Plan}
+use Rattle.plan_values.specs.declared.nodes.Row.{Row}
+use Rattle.plan_values.specs.declared.certificate.Certificate.{Certificate}
+use Rattle.plan_values.specs.declared.nodes.Pool.{Pool}
 use Rattle.pdr_repository.specs.Records.{IsRecordOf}
 use Rattle.net_tables.specs.Routing.{Holds, rows_of, OfItem}
 use Rattle.net_tables.specs.Ownership.{IsOwnedBy, pool_of}

@@ -2,9 +2,9 @@
 use Rattle.std.proofs.Common.{◌≡◌, ℕ, List, Some, None, refl, arith}
 use Rattle.std.specs.Prelude.{slice_get}
 use Rattle.net_rules.specs.declared.rule.Rule.TheVariants.{C05, C10}
-use Rattle.net_plan.specs.declared.plan.Plan.{Plan}
-use Rattle.net_plan.specs.declared.nodes.Row.{Row}
-use Rattle.net_plan.specs.declared.certificate.Certificate.{Certificate}
+use Rattle.plan_values.specs.declared.plan.Plan.{Plan}
+use Rattle.plan_values.specs.declared.nodes.Row.{Row}
+use Rattle.plan_values.specs.declared.certificate.Certificate.{Certificate}
 use Rattle.net_tables.specs.Routing.{rows_of, Covers, MovesTo}
 use Rattle.net_tables.specs.Ranks.{rank, Falls}
 use Rattle.net_rules.specs.PlanFaults.{PlanMeetsAll}

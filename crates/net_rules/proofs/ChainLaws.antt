@@ -3,7 +3,7 @@ use Rattle.std.proofs.Common.{◌≡◌, ◌⊎◌, ℕ, ◌+◌, ◌-◌, ◌<�
 use Rattle.std.specs.Prelude.{slice_get}
 use Rattle.std.proofs.lemmas.Bool.{cases_order}
 use Rattle.std.proofs.lemmas.Option.{same_Some, slice_get_within, get_or_from_slice_get}
-use Rattle.net_plan.specs.declared.terminus.PlannedRecord.{PlannedRecord}
+use Rattle.plan_values.specs.declared.terminus.PlannedRecord.{PlannedRecord}
 use Rattle.net_rules.specs.declared.certifying.chains.ChainFault.{ChainFault}
 use Rattle.net_rules.specs.declared.certifying.chains.ChainFault.TheVariants.{Missing, Doubled, Circle}
 use Rattle.net_rules.specs.Moves.{IsEnd}
@@ -81,10 +81,10 @@ module _ (records : List PlannedRecord) (named : HaveNewHandles records) where
         omega (arith, here.within, at_i, at_k)) j
 
 -- A bad chain leaves no places.
-pub bad_chain_breaks_places : (records : List PlannedRecord) (fault : ChainFault) → HaveNewHandles records → IsBadChain records fault → (places : List ℕ) → ¬ AreChained records places
-bad_chain_breaks_places records (Missing j) named bad places chained = bad.0 (λ r is. chained_has_next records named places chained j r is)
-bad_chain_breaks_places records (Doubled j) named bad places chained = bad.1.0 (λ r is. chained_new_next records named places chained j r is)
-bad_chain_breaks_places records (Circle j) named bad places chained = chained_no_circle records named places chained j bad.2.0
+pub bad_chain_breaks_places : (records : List PlannedRecord) (kind : ChainFault) (entry : ℕ) → HaveNewHandles records → IsBadChain records kind entry → (places : List ℕ) → ¬ AreChained records places
+bad_chain_breaks_places records Missing j named bad places chained = bad.0 (λ r is. chained_has_next records named places chained j r is)
+bad_chain_breaks_places records Doubled j named bad places chained = bad.1.0 (λ r is. chained_new_next records named places chained j r is)
+bad_chain_breaks_places records Circle j named bad places chained = chained_no_circle records named places chained j bad.2.0
 
 -- Records that are linked.
 module _ (records : List PlannedRecord) (linked : AreLinked records) where

@@ -4,8 +4,8 @@ use Rattle.std.specs.Prelude.{slice_get, option_map, is_some}
 use Rattle.std.proofs.lemmas.Bool.{cases_lt, cases_order, eqb-true, eq-eqb, false≢true}
 use Rattle.std.proofs.lemmas.Option.{same_Some, none-some, slice_get-map, slice_get_within}
 use Rattle.std.proofs.lemmas.List.{length-map, length-set, length_push}
-use Rattle.net_plan.specs.declared.terminus.PlannedRecord.{PlannedRecord}
-use Rattle.net_plan.specs.declared.certificate.RecordPlace.{RecordPlace}
+use Rattle.plan_values.specs.declared.terminus.PlannedRecord.{PlannedRecord}
+use Rattle.plan_values.specs.declared.certificate.RecordPlace.{RecordPlace}
 use Rattle.net_rules.specs.declared.certifying.handle_index.HandleIndex.{HandleIndex}
 use Rattle.net_rules.specs.Moves.{IsEnd}
 use Rattle.net_tables.specs.Routing.{OfItem}

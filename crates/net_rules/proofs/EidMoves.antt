@@ -5,7 +5,7 @@ use Rattle.std.proofs.lemmas.Bool.{cases_lt}
 use Rattle.std.proofs.lemmas.Option.{slice_get-get_or, option_and_then_some}
 use Rattle.std.specs.declared.alloc.AllocError.{AllocError}
 use Rattle.net_rules.specs.declared.certifying.walks.Walked.{Walked}
-use Rattle.net_plan.specs.declared.plan.Plan.{Plan}
+use Rattle.plan_values.specs.declared.plan.Plan.{Plan}
 use Rattle.net_tables.specs.Routing.{MovesTo, rows_of, NamesFor}
 use Rattle.net_tables.specs.Rows.{IsInRange, RowsAreApart, RowsAreInRange}
 use Rattle.net_rules.specs.Moves.{IsEnd}

@@ -6,19 +6,19 @@ use Rattle.std.proofs.lemmas.List.{length-map}
 use Rattle.std.proofs.lemmas.Option.{slice_get-map, get_or_from_slice_get}
 use Rattle.net_rules.specs.declared.rule.Rule.{Rule}
 use Rattle.net_rules.specs.declared.rule.Rule.TheVariants.{C01, C02, C03, C04, C05, C06, C07, C08, C09, C10, C11, C12, C13, C14, C15, C16}
-use Rattle.net_plan.specs.declared.plan.Plan.{Plan}
-use Rattle.net_plan.specs.declared.nodes.Node.{Node}
-use Rattle.net_plan.specs.declared.certificate.Certificate.{Certificate}
-use Rattle.net_plan.specs.declared.certificate.NodePlaces.{NodePlaces}
-use Rattle.net_plan.specs.declared.terminus.PlannedTerminus.{PlannedTerminus}
-use Rattle.net_plan.specs.CertificateValues.{certificate_value, level_value, places_value, node_ranks_value, range_value}
-use Rattle.net_plan.specs.CertificateValues.{IsAscending}
-use Rattle.net_plan.specs.CertificateValues.{are_known}
-use Rattle.net_plan.specs.NodeValues.{node_value, node_names}
-use Rattle.net_plan.specs.PlanValues.{plan_value}
-use Rattle.net_plan.specs.ShortText.{HasFewPlaces}
-use Rattle.net_plan.specs.WellFormed.{IsWellFormed}
-use Rattle.net_plan.specs.declared.nodes.Row.{Row}
+use Rattle.plan_values.specs.declared.plan.Plan.{Plan}
+use Rattle.plan_values.specs.declared.nodes.Node.{Node}
+use Rattle.plan_values.specs.declared.certificate.Certificate.{Certificate}
+use Rattle.plan_values.specs.declared.certificate.NodePlaces.{NodePlaces}
+use Rattle.plan_values.specs.declared.terminus.PlannedTerminus.{PlannedTerminus}
+use Rattle.plan_values.specs.CertificateValues.{certificate_value, level_value, places_value, node_ranks_value, range_value}
+use Rattle.plan_values.specs.CertificateValues.{IsAscending}
+use Rattle.plan_values.specs.CertificateValues.{are_known}
+use Rattle.plan_values.specs.NodeValues.{node_value, node_names}
+use Rattle.plan_values.specs.PlanValues.{plan_value}
+use Rattle.plan_values.specs.ShortText.{HasFewPlaces}
+use Rattle.plan_values.specs.WellFormed.{IsWellFormed}
+use Rattle.plan_values.specs.declared.nodes.Row.{Row}
 use Rattle.net_tables.specs.Routing.{Holds, HasRow, Covers, rows_of}
 use Rattle.net_rules.specs.Names.{HaveOneName, HasNewName}
 use Rattle.net_tables.specs.Ownership.{owner_of, IsOwnedBy, given_level, level}

@@ -7,8 +7,8 @@ use Rattle.std.proofs.lemmas.List.Quantifiers.{all_pairs_push}
 use Rattle.net_rules.specs.declared.rule.Rule.{Rule}
 use Rattle.net_rules.specs.declared.fault_run.EidSpan.{EidSpan}
 use Rattle.net_rules.specs.declared.fault_run.FaultRun.{FaultRun}
-use Rattle.net_plan.specs.declared.plan.Plan.{Plan}
-use Rattle.net_plan.specs.declared.certificate.Certificate.{Certificate}
+use Rattle.plan_values.specs.declared.plan.Plan.{Plan}
+use Rattle.plan_values.specs.declared.certificate.Certificate.{Certificate}
 use Rattle.net_rules.specs.Rules.{PlanDemands, CertificateDemands}
 use Rattle.net_rules.specs.Faults.{FaultSite, order_of, order_of_number, LessByFirstDifference}
 use Rattle.net_rules.specs.FaultLists.{DemandsOf, IsMetBy, IsAmong, IsOf, IsBrokenRun, IsWholeRun, Precedes, AreFaults, key_of, IsBefore, AreFaultsBefore}

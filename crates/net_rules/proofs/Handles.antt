@@ -12,8 +12,8 @@ use Rattle.std.proofs.lemmas.Bool.{cases_lt}
 use Rattle.std.proofs.lemmas.Option.{same_Some, slice_get-map, slice_get-get_or, slice_get_within, slice_get_past, get_or_from_slice_get}
 use Rattle.std.proofs.lemmas.Map.Lookups.{CmpEqualImpliesEq, exact_unsigned}
 use Rattle.std.proofs.lemmas.Map.Views.{tells_apart, btree_set_contains_from_list}
-use Rattle.net_plan.specs.declared.terminus.PlannedRecord.{PlannedRecord}
-use Rattle.net_plan.specs.declared.certificate.RecordPlace.{RecordPlace}
+use Rattle.plan_values.specs.declared.terminus.PlannedRecord.{PlannedRecord}
+use Rattle.plan_values.specs.declared.certificate.RecordPlace.{RecordPlace}
 use Rattle.net_tables.specs.Repositories.{HasNewHandle, IsHandleAt, IsChained}
 use Rattle.net_rules.specs.Handles.{by_place_and_handle, pairs}
 

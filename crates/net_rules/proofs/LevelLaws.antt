@@ -5,11 +5,11 @@ use Rattle.std.specs.Prelude.{slice_get, option_map, option_and_then, All}
 use Rattle.std.specs.List.{list_all}
 use Rattle.std.proofs.lemmas.Option.{same_Some, none-some, slice_get-map, slice_get-get_or, slice_get_within}
 use Rattle.std.proofs.lemmas.List.{length-map}
-use Rattle.net_plan.specs.declared.plan.Plan.{Plan}
-use Rattle.net_plan.specs.declared.nodes.Node.{Node}
-use Rattle.net_plan.specs.declared.certificate.Certificate.{Certificate}
-use Rattle.net_plan.specs.NodeValues.{node_value}
-use Rattle.net_plan.specs.Placed.{is_node_placed}
+use Rattle.plan_values.specs.declared.plan.Plan.{Plan}
+use Rattle.plan_values.specs.declared.nodes.Node.{Node}
+use Rattle.plan_values.specs.declared.certificate.Certificate.{Certificate}
+use Rattle.plan_values.specs.NodeValues.{node_value}
+use Rattle.plan_values.specs.Placed.{is_node_placed}
 use Rattle.net_tables.specs.Ownership.{owner_of, IsOwnedBy, level}
 use Rattle.net_rules.specs.Owners.{IsBelowItsOwner}
 use Rattle.net_rules.specs.OwnerLoops.{IsLevel, IsOwnerLoop, IsFirstOwnerLoop, AreLevels}

@@ -4,11 +4,11 @@ use Rattle.std.specs.Prelude.{slice_get, find, ◌==◌}
 use Rattle.std.proofs.lemmas.Bool.{cases_lt, cases_Bool, eqb-true, eq-eqb}
 use Rattle.std.proofs.lemmas.List.{length-map, nil_from_length}
 use Rattle.std.proofs.lemmas.Option.{same_Some, none-some, slice_get_within}
-use Rattle.net_plan.specs.declared.plan.Plan.{Plan}
-use Rattle.net_plan.specs.declared.certificate.NodeLevel.{NodeLevel}
-use Rattle.net_plan.specs.declared.certificate.NodePlaces.{NodePlaces}
-use Rattle.net_plan.specs.declared.certificate.RecordPlace.{RecordPlace}
-use Rattle.net_plan.specs.declared.terminus.PlannedRecord.{PlannedRecord}
+use Rattle.plan_values.specs.declared.plan.Plan.{Plan}
+use Rattle.plan_values.specs.declared.certificate.NodeLevel.{NodeLevel}
+use Rattle.plan_values.specs.declared.certificate.NodePlaces.{NodePlaces}
+use Rattle.plan_values.specs.declared.certificate.RecordPlace.{RecordPlace}
+use Rattle.plan_values.specs.declared.terminus.PlannedRecord.{PlannedRecord}
 use Rattle.net_rules.specs.declared.certify_error.CertifyError.TheVariants as error
 use Rattle.net_rules.specs.declared.certifying.chains.ChainFault.{ChainFault}
 use Rattle.net_tables.specs.Ownership.{level_given}
@@ -214,5 +214,5 @@ places_all plan given is = record {
 }
 
 -- a chain that is bad is the first where all nodes before have places
-pub bad_chain_first : (plan : Plan) (node : ℕ) (given : List NodePlaces) (fault : ChainFault) → ArePlacesBefore plan node given → IsBadChain (records_of plan node) fault → NamesBadChain plan (error.BadChain node fault)
-bad_chain_first plan node given fault is bad = (bad, λ n less. (places_given given n, is.places n less))
+pub bad_chain_first : (plan : Plan) (node : ℕ) (given : List NodePlaces) (kind : ChainFault) (entry : ℕ) → ArePlacesBefore plan node given → IsBadChain (records_of plan node) kind entry → NamesBadChain plan (error.BadChain node kind entry)
+bad_chain_first plan node given kind entry is bad = (bad, λ n less. (places_given given n, is.places n less))

@@ -14,9 +14,9 @@ use Rattle.net_rules.specs.declared.certify_error.CertifyError.{CertifyError}
 use Rattle.net_rules.specs.declared.certify_error.CertifyError.TheVariants as alone
 use Rattle.net_rules.specs.declared.move_obstacle.MoveObstacle.{MoveObstacle}
 use Rattle.net_rules.specs.declared.move_obstacle.MoveObstacle.TheVariants as obstacle
-use Rattle.net_plan.specs.declared.plan.Plan.{Plan}
-use Rattle.net_plan.specs.declared.nodes.Row.{Row}
-use Rattle.net_plan.specs.declared.certificate.Certificate.{Certificate}
+use Rattle.plan_values.specs.declared.plan.Plan.{Plan}
+use Rattle.plan_values.specs.declared.nodes.Row.{Row}
+use Rattle.plan_values.specs.declared.certificate.Certificate.{Certificate}
 use Rattle.net_tables.specs.Routing.{Holds, Covers, rows_of, eid_number}
 use Rattle.net_tables.specs.TwoPlans.{moving, HasRowEver}
 use Rattle.net_tables.specs.Ranks.{rank, Falls}
@@ -89,7 +89,7 @@ pub old_is : (e : CertifyError) → e ≢ alone.OutOfMemory → obstacle_of_old 
 old_is (alone.Fault fault) some = refl
 old_is (alone.OwnerLoop nodes) some = refl
 old_is (alone.Loop eid nodes) some = refl
-old_is (alone.BadChain node fault) some = refl
+old_is (alone.BadChain node kind entry) some = refl
 old_is alone.OutOfMemory some = absurd (some refl)
 
 pub fault_is : (e : MoveError) → e ≢ error.OutOfMemory → obstacle_of_error e ≡ obstacle.Fault e

@@ -3,8 +3,8 @@ use Rattle.std.proofs.Common.{◌≡◌, ◌⊎◌, ℕ, zero, suc, ◌+◌, ◌
 use Rattle.std.specs.Prelude.{slice_get}
 use Rattle.std.proofs.lemmas.Bool.{cases_lt}
 use Rattle.std.specs.declared.alloc.AllocError.{AllocError}
-use Rattle.net_plan.specs.declared.plan.Plan.{Plan}
-use Rattle.net_plan.specs.declared.certificate.NodeRanks.{NodeRanks}
+use Rattle.plan_values.specs.declared.plan.Plan.{Plan}
+use Rattle.plan_values.specs.declared.certificate.NodeRanks.{NodeRanks}
 use Rattle.net_tables.specs.Routing.{MovesTo, eid_of}
 use Rattle.net_tables.specs.Rows.{RowsAreApart, RowsAreInRange}
 use Rattle.net_tables.proofs.RowSearches.{is_or_not}

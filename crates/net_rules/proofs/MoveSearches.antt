@@ -6,8 +6,8 @@ use Rattle.net_rules.specs.declared.rule.Rule.TheVariants.{C01, C02, C03, C04, C
 use Rattle.net_rules.specs.declared.fault.Fault.{Fault}
 use Rattle.net_rules.specs.declared.spot.Spot.{Spot}
 use Rattle.net_rules.specs.declared.move_fault.MoveRule.{MoveRule}
-use Rattle.net_plan.specs.declared.plan.Plan.{Plan}
-use Rattle.net_plan.specs.declared.certificate.Certificate.{Certificate}
+use Rattle.plan_values.specs.declared.plan.Plan.{Plan}
+use Rattle.plan_values.specs.declared.certificate.Certificate.{Certificate}
 use Rattle.net_rules.specs.Rules.{AtNodeOrEid, Demands}
 use Rattle.net_tables.specs.Routing.{eid_number}
 use Rattle.net_rules.specs.Superfluous.{NeedsWhatItIsGiven, NeedsItsRank}

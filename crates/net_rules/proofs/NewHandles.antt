@@ -3,7 +3,7 @@ use Rattle.std.proofs.Common.{Bool, true, false, ◌≡◌, ◌≢◌, ℕ, zero
 use Rattle.std.specs.Prelude.{slice_get}
 use Rattle.std.proofs.lemmas.Bool.{cases_lt}
 use Rattle.std.proofs.lemmas.Option.{same_Some, slice_get_within, slice_get-get_or, get_or_from_slice_get}
-use Rattle.net_plan.specs.declared.terminus.PlannedRecord.{PlannedRecord}
+use Rattle.plan_values.specs.declared.terminus.PlannedRecord.{PlannedRecord}
 use Rattle.net_rules.specs.RecordChains.{HaveNewHandles}
 use Rattle.net_tables.specs.Repositories.{HasNewHandle}
 use Rattle.pdr_repository.proofs.Ascending.{AreApart}

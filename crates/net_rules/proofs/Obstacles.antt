@@ -7,8 +7,8 @@ use Rattle.net_rules.specs.declared.certify_error.CertifyError.TheVariants as er
 use Rattle.net_rules.specs.declared.fault.Fault.{Fault}
 use Rattle.net_rules.specs.declared.rule.Rule.{Rule}
 use Rattle.net_rules.specs.declared.rule.Rule.TheVariants.{C01, C02, C03, C04, C05, C06, C07, C08, C09, C10, C11, C12, C13, C14, C15, C16}
-use Rattle.net_plan.specs.declared.plan.Plan.{Plan}
-use Rattle.net_plan.specs.declared.certificate.Certificate.{Certificate}
+use Rattle.plan_values.specs.declared.plan.Plan.{Plan}
+use Rattle.plan_values.specs.declared.certificate.Certificate.{Certificate}
 use Rattle.net_tables.specs.Routing.{MovesTo}
 use Rattle.net_tables.specs.Ownership.{IsOwnedBy}
 use Rattle.net_tables.specs.Repositories.{records_of, places_given, places_of, HasRecords}
@@ -120,21 +120,21 @@ owner_loop_named plan made error.OutOfMemory is met named = named
 owner_loop_named plan made (error.Fault fault) is met named = absurd named
 owner_loop_named plan made (error.OwnerLoop nodes) is met named = (made_can plan (order_of C07) made is, met, named)
 owner_loop_named plan made (error.Loop eid nodes) is met named = absurd named
-owner_loop_named plan made (error.BadChain node fault) is met named = absurd named
+owner_loop_named plan made (error.BadChain node kind entry) is met named = absurd named
 
 pub routing_loop_named : (plan : Plan) (made : Certificate) (e : CertifyError) → IsMadeBefore plan (order_of C10) made → NamesRoutingLoop plan e → NamesObstacle plan e
 routing_loop_named plan made error.OutOfMemory is named = named
 routing_loop_named plan made (error.Fault fault) is named = absurd named
 routing_loop_named plan made (error.OwnerLoop nodes) is named = absurd named
 routing_loop_named plan made (error.Loop eid nodes) is named = (made_can plan (order_of C10) made is, named)
-routing_loop_named plan made (error.BadChain node fault) is named = absurd named
+routing_loop_named plan made (error.BadChain node kind entry) is named = absurd named
 
 pub bad_chain_named : (plan : Plan) (made : Certificate) (e : CertifyError) → IsMadeBefore plan (order_of C14) made → NamesBadChain plan e → NamesObstacle plan e
 bad_chain_named plan made error.OutOfMemory is named = named
 bad_chain_named plan made (error.Fault fault) is named = absurd named
 bad_chain_named plan made (error.OwnerLoop nodes) is named = absurd named
 bad_chain_named plan made (error.Loop eid nodes) is named = absurd named
-bad_chain_named plan made (error.BadChain node fault) is named = (made_can plan (order_of C14) made is, named.0, named.1)
+bad_chain_named plan made (error.BadChain node kind entry) is named = (made_can plan (order_of C14) made is, named.0, named.1)
 
 -- what is demanded of a plan before a move is all but the last rule
 pub before_of : (plan : Plan) (cert : Certificate) (rule : Rule) (n : ℕ) (entry eid : Option ℕ) → (rule ≢ C16 → Demands plan cert rule n entry eid) → DemandsBefore plan cert rule n entry eid
@@ -179,8 +179,8 @@ ruled_out_before plan error.OutOfMemory some named cert met = some refl
 ruled_out_before plan (error.Fault fault) some named cert met = (let p = site_of fault in named.1.broken (plan_part plan cert p.rule p.node p.entry p.eid (met p.rule p.node p.entry p.eid)))
 ruled_out_before plan (error.OwnerLoop nodes) some named cert met = first_loop_breaks_levels plan nodes.items named.2 cert (λ n. (met C07 n None None).1)
 ruled_out_before plan (error.Loop eid nodes) some named cert met = loop_breaks_ranks plan eid.value nodes.items named.1 cert (λ n entry eid. met C10 n entry eid)
-ruled_out_before plan (error.BadChain node fault) some named cert met =
-    bad_chain_breaks_places (records_of plan node) fault (λ j r is. (met C12 node (Some j) None).0 r is) named.1 (places_of cert node) (λ j r is. (met C14 node (Some j) None).1 r is)
+ruled_out_before plan (error.BadChain node kind entry) some named cert met =
+    bad_chain_breaks_places (records_of plan node) kind entry (λ j r is. (met C12 node (Some j) None).0 r is) named.1 (places_of cert node) (λ j r is. (met C14 node (Some j) None).1 r is)
 
 pub ruled_out : (plan : Plan) (e : CertifyError) → NamesObstacle plan e → RulesOutCertificates plan e
 ruled_out plan e named = λ some cert accepted. ruled_out_before plan e some named cert (λ rule n entry eid. before_of plan cert rule n entry eid (λ differ. accepted rule n entry eid))

@@ -3,10 +3,10 @@ use Rattle.std.proofs.Common.{◌≡◌, ℕ, zero, suc, ◌+◌, ◌-◌, ◌<�
 use Rattle.std.specs.Prelude.{slice_get, ◌==◌}
 use Rattle.std.proofs.lemmas.Bool.{cases_lt, cases_order, eqb-true}
 use Rattle.std.proofs.lemmas.Option.{same_Some, none-some}
-use Rattle.net_plan.specs.declared.certificate.RankRange.{RankRange}
-use Rattle.net_plan.specs.declared.certificate.NodeRanks.{NodeRanks}
-use Rattle.net_plan.specs.declared.certificate.Certificate.{Certificate}
-use Rattle.net_plan.specs.CertificateValues.{RangeValue, range_value, NodeRanksValue, node_ranks_value}
+use Rattle.plan_values.specs.declared.certificate.RankRange.{RankRange}
+use Rattle.plan_values.specs.declared.certificate.NodeRanks.{NodeRanks}
+use Rattle.plan_values.specs.declared.certificate.Certificate.{Certificate}
+use Rattle.plan_values.specs.CertificateValues.{RangeValue, range_value, NodeRanksValue, node_ranks_value}
 use Rattle.net_tables.specs.Ranks.{rank}
 use Rattle.net_rules.specs.RankRuns.{AreLongestRuns}
 use Rattle.net_rules.specs.Certificates.{AreRanksOf}

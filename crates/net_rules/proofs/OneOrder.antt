@@ -4,13 +4,13 @@ use Rattle.std.specs.Prelude.{slice_get, find, ◌==◌}
 use Rattle.std.proofs.lemmas.Bool.{cases_order, eqb-true, eq-eqb, false≢true}
 use Rattle.std.proofs.lemmas.List.{length-map}
 use Rattle.std.proofs.lemmas.Option.{same_Some, slice_get_within}
-use Rattle.net_plan.specs.declared.plan.Plan.{Plan}
-use Rattle.net_plan.specs.declared.certificate.Certificate.{Certificate}
-use Rattle.net_plan.specs.declared.certificate.NodeLevel.{NodeLevel}
-use Rattle.net_plan.specs.declared.certificate.NodePlaces.{NodePlaces}
-use Rattle.net_plan.specs.declared.certificate.RecordPlace.{RecordPlace}
-use Rattle.net_plan.specs.declared.terminus.PlannedRecord.{PlannedRecord}
-use Rattle.net_plan.specs.CertificateValues.{LevelValue, level_value, PlacesValue, places_value}
+use Rattle.plan_values.specs.declared.plan.Plan.{Plan}
+use Rattle.plan_values.specs.declared.certificate.Certificate.{Certificate}
+use Rattle.plan_values.specs.declared.certificate.NodeLevel.{NodeLevel}
+use Rattle.plan_values.specs.declared.certificate.NodePlaces.{NodePlaces}
+use Rattle.plan_values.specs.declared.certificate.RecordPlace.{RecordPlace}
+use Rattle.plan_values.specs.declared.terminus.PlannedRecord.{PlannedRecord}
+use Rattle.plan_values.specs.CertificateValues.{LevelValue, level_value, PlacesValue, places_value}
 use Rattle.net_rules.specs.declared.rule.Rule.TheVariants.{C12}
 use Rattle.net_tables.specs.Ownership.{IsOwnedBy, level_given}
 use Rattle.net_tables.specs.Repositories.{records_of, places_given}

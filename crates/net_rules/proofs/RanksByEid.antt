@@ -1,6 +1,6 @@
 -- The ranks by endpoint ID: of no range, and of a range before others.
 use Rattle.std.proofs.Common.{◌≡◌, ℕ, zero, suc, ◌<◌, ◌≤◌, List, [], replicate, slice_index_or, refl}
-use Rattle.net_plan.specs.declared.certificate.RankRange.{RankRange}
+use Rattle.plan_values.specs.declared.certificate.RankRange.{RankRange}
 use Rattle.net_rules.specs.RanksByEid.{AreRanksOf}
 
 same_at : {A : Type 0} (x : A) (n e : ℕ) → slice_index_or (replicate n x) e x ≡ x

@@ -2,7 +2,7 @@
 use Rattle.std.proofs.Common.{◌≡◌, ℕ, ◌<◌, List, Option, Some, None, sym, subst, inl, inr, arith}
 use Rattle.std.specs.Prelude.{option_map}
 use Rattle.net_rules.specs.declared.spot.Spot.{Spot}
-use Rattle.net_plan.specs.declared.terminus.PlannedRecord.{PlannedRecord}
+use Rattle.plan_values.specs.declared.terminus.PlannedRecord.{PlannedRecord}
 use Rattle.net_rules.specs.Rules.{AtItem, AtNodeOrItem}
 use Rattle.net_rules.specs.Search.{IsFirstSpot, SpotComesBefore, IsFirstItem}
 use Rattle.net_rules.proofs.Spots.{item_spot}

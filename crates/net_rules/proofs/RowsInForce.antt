@@ -2,9 +2,9 @@
 use Rattle.std.proofs.Common.{◌≡◌, ◌≢◌, ℕ, ◌<◌, ◌≤◌, List, length, Option, Some, None, sym, ◌∙◌, arith, inl, inr}
 use Rattle.std.specs.Prelude.{◌↔◌, MatchOption}
 use Rattle.mctp_transport.specs.declared.address.Eid.{Eid}
-use Rattle.net_plan.specs.declared.certificate.RankRange.{RankRange}
-use Rattle.net_plan.specs.declared.certificate.Certificate.{Certificate}
-use Rattle.net_plan.specs.declared.plan.Plan.{Plan}
+use Rattle.plan_values.specs.declared.certificate.RankRange.{RankRange}
+use Rattle.plan_values.specs.declared.certificate.Certificate.{Certificate}
+use Rattle.plan_values.specs.declared.plan.Plan.{Plan}
 use Rattle.net_tables.specs.Routing.{Holds, HasRow, IsBridge, eid_number}
 use Rattle.net_tables.specs.TwoPlans.{Tables, moving, HasRowAlways, HasRowEver}
 use Rattle.net_rules.specs.HeldEids.{IsLedOn}

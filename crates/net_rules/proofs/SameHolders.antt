@@ -1,11 +1,11 @@
 -- Two plans that differ in rows alone have the same holders.
 use Rattle.std.proofs.Common.{◌≡◌, ℕ, Option, Some, None, refl, sym, ◌∙◌, ap}
 use Rattle.std.specs.Prelude.{option_map}
-use Rattle.net_plan.specs.declared.plan.Plan.{Plan}
-use Rattle.net_plan.specs.declared.nodes.Node.{Node}
-use Rattle.net_plan.specs.NodeValues.{NodeValue}
+use Rattle.plan_values.specs.declared.plan.Plan.{Plan}
+use Rattle.plan_values.specs.declared.nodes.Node.{Node}
+use Rattle.plan_values.specs.NodeValues.{NodeValue}
 use Rattle.net_tables.specs.Routing.{node_at, eid_of}
-use Rattle.net_plan.specs.NodeValues.{but_rows}
+use Rattle.plan_values.specs.NodeValues.{but_rows}
 use Rattle.net_rules.specs.MoveRules.{IsSameNode}
 use Rattle.net_rules.specs.MoveRanks.{HoldTheSame}
 

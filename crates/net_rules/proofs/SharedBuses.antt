@@ -4,8 +4,8 @@ use Rattle.std.specs.Prelude.{◌==◌, ◌↔◌}
 use Rattle.std.specs.List.{list_any}
 use Rattle.std.proofs.lemmas.Bool.{false≢true, or_left, or_right}
 use Rattle.std.proofs.lemmas.Bool.Decides.{Decides-or, Decides-eqb}
-use Rattle.net_plan.specs.declared.plan.Plan.{Plan}
-use Rattle.net_plan.specs.declared.nodes.Port.{Port}
+use Rattle.plan_values.specs.declared.plan.Plan.{Plan}
+use Rattle.plan_values.specs.declared.nodes.Port.{Port}
 use Rattle.net_tables.specs.Routing.{ports_of}
 use Rattle.net_rules.specs.Owners.{ShareBus}
 

@@ -1,11 +1,11 @@
 -- Stretches of endpoint IDs on which no range, no row and no held endpoint ID begins or ends.
 use Rattle.std.proofs.Common.{◌≡◌, ◌==◌, ℕ, ◌+◌, ◌<◌, ◌≤◌, List, [], length, get_or, Some, refl, ◌∙◌, ap, subst, arith, Option, None}
 use Rattle.std.specs.Prelude.{find, option_map, unwrap_or}
-use Rattle.net_plan.specs.declared.plan.Plan.{Plan}
-use Rattle.net_plan.specs.declared.certificate.Certificate.{Certificate}
-use Rattle.net_plan.specs.declared.nodes.Row.{Row}
-use Rattle.net_plan.specs.declared.certificate.RankRange.{RankRange}
-use Rattle.net_plan.specs.declared.certificate.NodeRanks.{NodeRanks}
+use Rattle.plan_values.specs.declared.plan.Plan.{Plan}
+use Rattle.plan_values.specs.declared.certificate.Certificate.{Certificate}
+use Rattle.plan_values.specs.declared.nodes.Row.{Row}
+use Rattle.plan_values.specs.declared.certificate.RankRange.{RankRange}
+use Rattle.plan_values.specs.declared.certificate.NodeRanks.{NodeRanks}
 use Rattle.net_tables.specs.Routing.{HasRow, OfItem, rows_of}
 use Rattle.net_tables.specs.Ranks.{rank_in, rank, ranges_of}
 use Rattle.net_rules.specs.Stretches.{IsStretch}

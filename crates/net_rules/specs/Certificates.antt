@@ -2,15 +2,15 @@
 use Rattle.std.specs.Prelude.{◌≡◌, ◌≢◌, ℕ, ◌<◌, List, length, slice_get, Some, Bool, nat_lt}
 use Rattle.net_rules.specs.declared.certify_error.CertifyError.{CertifyError}
 use Rattle.net_rules.specs.declared.certify_error.CertifyError.TheVariants as error
-use Rattle.net_plan.specs.declared.plan.Plan.{Plan}
-use Rattle.net_plan.specs.declared.certificate.Certificate.{Certificate}
-use Rattle.net_plan.specs.declared.certificate.NodeRanks.{NodeRanks}
-use Rattle.net_plan.specs.declared.certificate.NodeLevel.{NodeLevel}
-use Rattle.net_plan.specs.declared.certificate.NodePlaces.{NodePlaces}
-use Rattle.net_plan.specs.declared.terminus.PlannedRecord.{PlannedRecord}
+use Rattle.plan_values.specs.declared.plan.Plan.{Plan}
+use Rattle.plan_values.specs.declared.certificate.Certificate.{Certificate}
+use Rattle.plan_values.specs.declared.certificate.NodeRanks.{NodeRanks}
+use Rattle.plan_values.specs.declared.certificate.NodeLevel.{NodeLevel}
+use Rattle.plan_values.specs.declared.certificate.NodePlaces.{NodePlaces}
+use Rattle.plan_values.specs.declared.terminus.PlannedRecord.{PlannedRecord}
 use Rattle.net_rules.specs.declared.rule.Rule.{Rule}
 use Rattle.net_rules.specs.declared.rule.Rule.TheVariants.{C07, C10, C14}
-use Rattle.net_plan.specs.CertificateValues.{certificate_value}
+use Rattle.plan_values.specs.CertificateValues.{certificate_value}
 use Rattle.net_tables.specs.Routing.{MovesTo}
 use Rattle.net_tables.specs.Ownership.{IsOwnedBy, level_given}
 use Rattle.net_rules.specs.OwnerLoops.{IsLevel, IsFirstOwnerLoop}
@@ -99,8 +99,8 @@ NamesObstacle plan (error.OwnerLoop nodes) =
     CanBeMetBefore plan (order_of C07) × PlanMeets plan C07 × IsFirstOwnerLoop plan nodes.items
 NamesObstacle plan (error.Loop eid nodes) =
     CanBeMetBefore plan (order_of C10) × IsFirstRoutingLoop plan eid.value nodes.items
-NamesObstacle plan (error.BadChain node fault) =
-    CanBeMetBefore plan (order_of C14) × IsBadChain (records_of plan node) fault
+NamesObstacle plan (error.BadChain node kind entry) =
+    CanBeMetBefore plan (order_of C14) × IsBadChain (records_of plan node) kind entry
     × ((n : ℕ) → n < node → HavePlaces (records_of plan n))
 
 -- what each part of the search for a certificate answers where there is none
@@ -109,22 +109,22 @@ NamesOwnerLoop plan error.OutOfMemory = Unit {0}
 NamesOwnerLoop plan (error.Fault fault) = ⊥
 NamesOwnerLoop plan (error.OwnerLoop nodes) = IsFirstOwnerLoop plan nodes.items
 NamesOwnerLoop plan (error.Loop eid nodes) = ⊥
-NamesOwnerLoop plan (error.BadChain node fault) = ⊥
+NamesOwnerLoop plan (error.BadChain node kind entry) = ⊥
 
 abbrev pub NamesRoutingLoop : Plan → CertifyError → Type 0
 NamesRoutingLoop plan error.OutOfMemory = Unit {0}
 NamesRoutingLoop plan (error.Fault fault) = ⊥
 NamesRoutingLoop plan (error.OwnerLoop nodes) = ⊥
 NamesRoutingLoop plan (error.Loop eid nodes) = IsFirstRoutingLoop plan eid.value nodes.items
-NamesRoutingLoop plan (error.BadChain node fault) = ⊥
+NamesRoutingLoop plan (error.BadChain node kind entry) = ⊥
 
 abbrev pub NamesBadChain : Plan → CertifyError → Type 0
 NamesBadChain plan error.OutOfMemory = Unit {0}
 NamesBadChain plan (error.Fault fault) = ⊥
 NamesBadChain plan (error.OwnerLoop nodes) = ⊥
 NamesBadChain plan (error.Loop eid nodes) = ⊥
-NamesBadChain plan (error.BadChain node fault) =
-    IsBadChain (records_of plan node) fault × ((n : ℕ) → n < node → HavePlaces (records_of plan n))
+NamesBadChain plan (error.BadChain node kind entry) =
+    IsBadChain (records_of plan node) kind entry × ((n : ℕ) → n < node → HavePlaces (records_of plan n))
 
 -- What is made of a certificate before the rule of an order: the plan meets the rules of a lesser order, and
 -- the parts that those demand are there.

@@ -1,6 +1,6 @@
 -- Endpoint IDs that rows cover.
 use Rattle.std.specs.Prelude.{◌≡◌, ℕ, List, Some, true, false, slice_get, slice_index_or}
-use Rattle.net_plan.specs.declared.nodes.Row.{Row}
+use Rattle.plan_values.specs.declared.nodes.Row.{Row}
 use Rattle.net_tables.specs.Routing.{Covers}
 use Rattle.net_rules.specs.declared.covered_eids.CoveredEids.{CoveredEids}
 

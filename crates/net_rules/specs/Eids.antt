@@ -1,6 +1,6 @@
 -- Each node holds an EID of its own.
 use Rattle.std.specs.Prelude.{ℕ, ◌<◌}
-use Rattle.net_plan.specs.declared.plan.Plan.{Plan}
+use Rattle.plan_values.specs.declared.plan.Plan.{Plan}
 use Rattle.net_tables.specs.Routing.{Holds}
 
 -- no earlier node holds e

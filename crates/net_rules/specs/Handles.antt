@@ -3,8 +3,8 @@ use Rattle.std.specs.Prelude.{◌≡◌, ◌≢◌, ℕ, ◌<◌, List, length, 
 use Rattle.std.specs.declared.cmp.Ordering.{Ordering}
 use Rattle.std.specs.List.{zip}
 use Rattle.std.specs.Ordering.{nat_cmp, ordering_then}
-use Rattle.net_plan.specs.declared.terminus.PlannedRecord.{PlannedRecord}
-use Rattle.net_plan.specs.declared.certificate.RecordPlace.{RecordPlace}
+use Rattle.plan_values.specs.declared.terminus.PlannedRecord.{PlannedRecord}
+use Rattle.plan_values.specs.declared.certificate.RecordPlace.{RecordPlace}
 use Rattle.net_tables.specs.Repositories.{IsHandleAt}
 
 -- the order of pairs of a place and a handle: by place, then by handle

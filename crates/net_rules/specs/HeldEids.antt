@@ -1,6 +1,6 @@
 -- Rows lead on what is held elsewhere.
 use Rattle.std.specs.Prelude.{◌≢◌, ◌⊎◌, ℕ}
-use Rattle.net_plan.specs.declared.plan.Plan.{Plan}
+use Rattle.plan_values.specs.declared.plan.Plan.{Plan}
 use Rattle.net_tables.specs.Routing.{Holds, Routes, IsBridge}
 use Rattle.net_tables.specs.TwoPlans.{Tables, one_plan, HasRowAlways}
 

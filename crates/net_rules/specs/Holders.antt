@@ -1,6 +1,6 @@
 -- The first holders of EIDs.
 use Rattle.std.specs.Prelude.{◌≡◌, ℕ, ◌+◌, ◌<◌, List, Option, Some, None, slice_get}
-use Rattle.net_plan.specs.declared.plan.Plan.{Plan}
+use Rattle.plan_values.specs.declared.plan.Plan.{Plan}
 use Rattle.net_rules.specs.declared.holders.Holder.{Holder}
 use Rattle.net_tables.specs.Routing.{Holds, OfItem}
 use Rattle.net_rules.specs.Following.{Follow}

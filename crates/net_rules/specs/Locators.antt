@@ -1,8 +1,8 @@
 -- Terminus locators: records that tell under which EID a terminus is found.
 use Rattle.std.specs.Prelude.{◌≡◌, ℕ, List, [], ◌∷◌, length, Some}
-use Rattle.net_plan.specs.declared.plan.Plan.{Plan}
-use Rattle.net_plan.specs.declared.terminus.PlannedTerminus.{PlannedTerminus}
-use Rattle.net_plan.specs.declared.terminus.PlannedRecord as plan
+use Rattle.plan_values.specs.declared.plan.Plan.{Plan}
+use Rattle.plan_values.specs.declared.terminus.PlannedTerminus.{PlannedTerminus}
+use Rattle.plan_values.specs.declared.terminus.PlannedRecord as plan
 use Rattle.pdr_record.specs.Layouts.{TerminusValue}
 use Rattle.pdr_record.specs.Records.{RecordValue, BodyValue, Spelled}
 use Rattle.net_tables.specs.Routing.{Holds}

@@ -1,7 +1,7 @@
 -- Where a move breaks what is required, which of the sites is the first, and what the errors of check_move say.
 use Rattle.std.specs.Prelude.{ℕ, List, [], ◌∷◌, Option, Some, None, codes}
-use Rattle.net_plan.specs.declared.plan.Plan.{Plan}
-use Rattle.net_plan.specs.declared.certificate.Certificate.{Certificate}
+use Rattle.plan_values.specs.declared.plan.Plan.{Plan}
+use Rattle.plan_values.specs.declared.certificate.Certificate.{Certificate}
 use Rattle.net_rules.specs.declared.move_fault.MoveRule.{MoveRule}
 use Rattle.net_rules.specs.declared.move_fault.MoveRule.TheVariants.{OfPlan, M02, M03}
 use Rattle.net_rules.specs.declared.move_fault.MoveFault.{MoveFault}

@@ -10,8 +10,8 @@ use Rattle.net_rules.specs.declared.certify_error.CertifyError.{CertifyError}
 use Rattle.net_rules.specs.declared.certify_error.CertifyError.TheVariants as alone
 use Rattle.net_rules.specs.declared.move_obstacle.MoveObstacle.{MoveObstacle}
 use Rattle.net_rules.specs.declared.move_obstacle.MoveObstacle.TheVariants as obstacle
-use Rattle.net_plan.specs.declared.plan.Plan.{Plan}
-use Rattle.net_plan.specs.declared.certificate.Certificate.{Certificate}
+use Rattle.plan_values.specs.declared.plan.Plan.{Plan}
+use Rattle.plan_values.specs.declared.certificate.Certificate.{Certificate}
 use Rattle.net_rules.specs.Faults.{order_of}
 use Rattle.net_rules.specs.MoveRules.{Requirement, After, WayOnBefore, HaveSameFrame, IsSameNode}
 use Rattle.net_rules.specs.MoveRules.{DemandsAfter, AcceptsMove}
@@ -109,5 +109,5 @@ abbrev pub obstacle_of_old : CertifyError → MoveObstacle
 obstacle_of_old (alone.Fault fault) = obstacle.Old (alone.Fault fault)
 obstacle_of_old (alone.OwnerLoop nodes) = obstacle.Old (alone.OwnerLoop nodes)
 obstacle_of_old (alone.Loop eid nodes) = obstacle.Old (alone.Loop eid nodes)
-obstacle_of_old (alone.BadChain node fault) = obstacle.Old (alone.BadChain node fault)
+obstacle_of_old (alone.BadChain node kind entry) = obstacle.Old (alone.BadChain node kind entry)
 obstacle_of_old alone.OutOfMemory = obstacle.OutOfMemory

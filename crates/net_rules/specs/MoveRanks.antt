@@ -1,7 +1,7 @@
 -- Where rows of either of two plans lead what is for an EID, while nodes move from one plan to the other.
 use Rattle.std.specs.Prelude.{◌⊎◌, ◌↔◌, ℕ, ◌<◌, ◌≤◌}
 use Rattle.net_rules.specs.declared.mixed_loop.MixedLoop.{MixedLoop}
-use Rattle.net_plan.specs.declared.plan.Plan.{Plan}
+use Rattle.plan_values.specs.declared.plan.Plan.{Plan}
 use Rattle.net_tables.specs.Routing.{Holds, MovesTo}
 use Rattle.net_tables.specs.TwoPlans.{moving, HasRowEver}
 use Rattle.net_rules.specs.Moves.{Leads}

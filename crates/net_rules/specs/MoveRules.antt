@@ -2,9 +2,9 @@
 use Rattle.std.specs.Prelude.{◌≡◌, ℕ, map, length, Option, option_map, ⊤}
 use Rattle.net_rules.specs.declared.rule.Rule.{Rule}
 use Rattle.net_rules.specs.declared.rule.Rule.TheVariants.{C04, C05, C06, C10, C11, C16}
-use Rattle.net_plan.specs.declared.plan.Plan.{Plan}
-use Rattle.net_plan.specs.declared.certificate.Certificate.{Certificate}
-use Rattle.net_plan.specs.NodeValues.{bus_value, but_rows}
+use Rattle.plan_values.specs.declared.plan.Plan.{Plan}
+use Rattle.plan_values.specs.declared.certificate.Certificate.{Certificate}
+use Rattle.plan_values.specs.NodeValues.{bus_value, but_rows}
 use Rattle.net_tables.specs.Routing.{node_at}
 use Rattle.net_tables.specs.TwoPlans.{moving}
 use Rattle.net_rules.specs.HeldEids.{IsLedOn}

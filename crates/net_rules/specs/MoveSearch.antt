@@ -4,7 +4,7 @@ use Rattle.net_rules.specs.declared.rule.Rule.{Rule}
 use Rattle.net_rules.specs.declared.fault.Fault.{Fault}
 use Rattle.net_rules.specs.declared.move_fault.MoveRule.{MoveRule}
 use Rattle.net_rules.specs.declared.move_fault.MoveFault.{MoveFault}
-use Rattle.net_plan.specs.declared.plan.Plan.{Plan}
+use Rattle.plan_values.specs.declared.plan.Plan.{Plan}
 use Rattle.net_rules.specs.Faults.{FaultSite, site_of, order_of_number, LessByFirstDifference, ComesBefore}
 use Rattle.net_tables.specs.Routing.{eid_number}
 use Rattle.net_rules.specs.MoveRules.{IsSameNode}

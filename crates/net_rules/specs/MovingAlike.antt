@@ -1,9 +1,9 @@
 -- Stretches of neighboring EIDs that the nodes of a plan send on alike.
 use Rattle.std.specs.Prelude.{◌≡◌, ◌⊎◌, ◌↔◌, ℕ, ◌+◌, ◌≤◌, List, Option, Some, Any, slice_get}
-use Rattle.mctp_bridge.specs.declared.row.Hop.{Hop}
-use Rattle.mctp_bridge.specs.declared.row.TableRow.{TableRow}
-use Rattle.mctp_bridge.specs.Rows.{IsNext}
-use Rattle.net_plan.specs.declared.plan.Plan.{Plan}
+use Rattle.mctp_routing.specs.declared.row.Hop.{Hop}
+use Rattle.mctp_routing.specs.declared.row.TableRow.{TableRow}
+use Rattle.mctp_routing.specs.Rows.{IsNext}
+use Rattle.plan_values.specs.declared.plan.Plan.{Plan}
 use Rattle.net_tables.specs.Routing.{Holds, MovesTo}
 
 -- from n, what is for an EID from first to last moves on just as what is for the first does

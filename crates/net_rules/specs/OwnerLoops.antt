@@ -1,6 +1,6 @@
 -- How many owners stand above each node, and loops of owners.
 use Rattle.std.specs.Prelude.{◌≡◌, ℕ, ◌≤◌, List, length, slice_get, Some}
-use Rattle.net_plan.specs.declared.plan.Plan.{Plan}
+use Rattle.plan_values.specs.declared.plan.Plan.{Plan}
 use Rattle.net_tables.specs.Ownership.{IsOwnedBy}
 use Rattle.net_rules.specs.Circles.{EndsAfter, HasNoCircle, IsLoop, IsLeastLoop}
 

@@ -1,7 +1,7 @@
 -- The owners of nodes, and the levels that a certificate gives.
 use Rattle.std.specs.Prelude.{ℕ, ◌<◌}
-use Rattle.net_plan.specs.declared.plan.Plan.{Plan}
-use Rattle.net_plan.specs.declared.certificate.Certificate.{Certificate}
+use Rattle.plan_values.specs.declared.plan.Plan.{Plan}
+use Rattle.plan_values.specs.declared.certificate.Certificate.{Certificate}
 use Rattle.net_tables.specs.Routing.{IsBridge}
 use Rattle.net_tables.specs.Rows.{IsOnBus}
 use Rattle.net_tables.specs.Ownership.{IsOwnedBy, level}

@@ -1,7 +1,7 @@
 -- The pools of endpoint IDs: who may have one, and which of the nodes' EIDs lie in it.
 use Rattle.std.specs.Prelude.{◌≡◌, ℕ, ◌+◌, ◌<◌, ◌≤◌, Some}
-use Rattle.net_plan.specs.declared.plan.Plan.{Plan}
-use Rattle.net_plan.specs.declared.nodes.Pool.{Pool}
+use Rattle.plan_values.specs.declared.plan.Plan.{Plan}
+use Rattle.plan_values.specs.declared.nodes.Pool.{Pool}
 use Rattle.net_tables.specs.Routing.{IsBridge}
 use Rattle.net_tables.specs.Ownership.{owner_of, IsOwnedBy, IsInPool, IsInPoolOf, pool_of}
 

@@ -3,7 +3,7 @@ use Rattle.std.specs.Prelude.{codes, ◌≡◌, ◌≢◌, ◌⊎◌, ℕ, ◌+�
 use Rattle.std.specs.Prelude.{map, slice_get, Option, Some, None, MatchOption, unwrap_or}
 use Rattle.std.specs.Ordering.{nat_cmp}
 use Rattle.std.specs.BTreeMap.{get}
-use Rattle.net_plan.specs.declared.terminus.PlannedRecord.{PlannedRecord}
+use Rattle.plan_values.specs.declared.terminus.PlannedRecord.{PlannedRecord}
 use Rattle.net_rules.specs.declared.certifying.handle_index.HandleIndex.{HandleIndex}
 use Rattle.net_rules.specs.declared.certifying.chains.Chained.{Chained}
 use Rattle.net_rules.specs.declared.certifying.chains.Chained.TheVariants.{Places, Bad}
@@ -38,11 +38,11 @@ HaveNewHandles records = (j : ℕ) (r : PlannedRecord) → slice_get records j �
 
 -- What is wrong with a chain: the first record without its next one; where none is, the first with an earlier one's
 -- next handle; where none is, the first on a circle.
-abbrev pub IsBadChain : List PlannedRecord → ChainFault → Type 0
-IsBadChain records (Missing j) = IsFirstItem records (λ _ r. HasNext records r) (Some j)
-IsBadChain records (Doubled j) =
+abbrev pub IsBadChain : List PlannedRecord → ChainFault → ℕ → Type 0
+IsBadChain records Missing j = IsFirstItem records (λ _ r. HasNext records r) (Some j)
+IsBadChain records Doubled j =
     IsFirstItem records (λ _ r. HasNext records r) None × IsFirstItem records (HasNewNext records) (Some j)
-IsBadChain records (Circle j) =
+IsBadChain records Circle j =
     IsFirstItem records (λ _ r. HasNext records r) None × IsFirstItem records (HasNewNext records) None
     × IsLeastOnCircle (IsFollowedBy records) j
 
@@ -57,19 +57,13 @@ ArePlaces records places = (length places ≡ length records) × AreChained reco
 -- places along the chain, or what is wrong with it
 abbrev pub IsChainOf : List PlannedRecord → Chained → Type 0
 IsChainOf records (Places places) = ArePlaces records (map (λ p. p.value) places.items)
-IsChainOf records (Bad fault) = IsBadChain records fault
+IsChainOf records (Bad kind entry) = IsBadChain records kind entry
 
 -- what is wrong, in a word
 abbrev pub chain_word_of : ChainFault → List ℕ
-chain_word_of (Missing j) = codes "missing"
-chain_word_of (Doubled j) = codes "doubled"
-chain_word_of (Circle j) = codes "circle"
-
--- the record at which it is wrong
-abbrev pub chain_entry_of : ChainFault → ℕ
-chain_entry_of (Missing j) = j
-chain_entry_of (Doubled j) = j
-chain_entry_of (Circle j) = j
+chain_word_of Missing = codes "missing"
+chain_word_of Doubled = codes "doubled"
+chain_word_of Circle = codes "circle"
 
 -- the index is the first at which the key stands
 abbrev pub IsFirstIndexOf : List ℕ → ℕ → ℕ → Type 0

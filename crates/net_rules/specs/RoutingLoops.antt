@@ -1,6 +1,6 @@
 -- Where rows lead what is for an EID: so many moves on, or round a loop.
 use Rattle.std.specs.Prelude.{◌≡◌, ℕ, ◌<◌, List, length, slice_get, Option, Some, MatchOption}
-use Rattle.net_plan.specs.declared.plan.Plan.{Plan}
+use Rattle.plan_values.specs.declared.plan.Plan.{Plan}
 use Rattle.net_tables.specs.Routing.{MovesTo}
 use Rattle.net_rules.specs.Moves.{Leads}
 use Rattle.net_rules.specs.Circles.{IsLeastLoop, HasNoCircle}

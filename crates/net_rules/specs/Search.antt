@@ -2,9 +2,9 @@
 use Rattle.std.specs.Prelude.{ℕ, ◌<◌, List, [], ◌∷◌, Option, Some, None}
 use Rattle.net_rules.specs.declared.fault.Fault.{Fault}
 use Rattle.net_rules.specs.declared.spot.Spot.{Spot}
-use Rattle.net_plan.specs.declared.plan.Plan.{Plan}
-use Rattle.net_plan.specs.declared.nodes.Row.{Row}
-use Rattle.net_plan.specs.declared.certificate.Certificate.{Certificate}
+use Rattle.plan_values.specs.declared.plan.Plan.{Plan}
+use Rattle.plan_values.specs.declared.nodes.Row.{Row}
+use Rattle.plan_values.specs.declared.certificate.Certificate.{Certificate}
 use Rattle.net_tables.specs.Routing.{OfItem, Covers, eid_number}
 use Rattle.net_rules.specs.Rules.{Accepts}
 use Rattle.net_rules.specs.Faults.{site_of, order_of_number}

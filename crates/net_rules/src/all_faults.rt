@@ -18,7 +18,7 @@ use crate::all_faults::site::Site;
 use crate::fault_run::{EidSpan, FaultRun};
 use crate::rule::{RULES, Rule};
 use crate::stretches::first_broken;
-use net_plan::{Certificate, Plan};
+use plan_values::{Certificate, Plan};
 use std::alloc::{AllocError, Global};
 
 /// Every fault of the plan and the certificate, or without one of the plan alone, in the order of the rules. Faults at

@@ -4,8 +4,8 @@ ghost use Rattle.net_tables.specs.Routing.{HasRow};
 ghost use Rattle.net_rules.specs.Stretches.{IsStretch};
 
 use mctp_transport::Eid;
-use net_plan::Plan;
 use net_tables::lookup::{row_end, rows_at};
+use plan_values::Plan;
 
 /// The end of a stretch from the endpoint ID on for which the node has rows, or has none.
 pub fn row_border(plan: &Plan, node: usize, eid: Eid) -> u16

@@ -4,8 +4,8 @@ ghost use Rattle.net_tables.specs.Ranks.{rank};
 
 use crate::node_ranges::NodeRanges;
 use mctp_transport::Eid;
-use net_plan::Certificate;
 use net_tables::lookup::{ranges_at, rank_in_ranges};
+use plan_values::Certificate;
 use std::alloc::{AllocError, Global};
 use std::marker::Model;
 
@@ -17,7 +17,7 @@ pub struct CertifiedRanks<'a> {
 }
 
 impl<'a> Model for CertifiedRanks<'a> {
-    ghost use Rattle.net_plan.specs.declared.certificate.Certificate.{Certificate};
+    ghost use Rattle.plan_values.specs.declared.certificate.Certificate.{Certificate};
     ghost use Rattle.net_rules.specs.RanksByEid.{AreRangesByNode};
 
     ghost Value = { Certificate };

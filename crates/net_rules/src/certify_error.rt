@@ -16,8 +16,9 @@ pub enum CertifyError {
     /// What is for this endpoint ID goes round (C10): the nodes from the first one on a circle, along their rows, back
     /// to itself, so that the first stands there twice. It is the least endpoint ID that goes round.
     Loop(Eid, Vec<usize>),
-    /// This node is the first whose terminus has records that the next handles do not lead through once each (C14).
-    BadChain(usize, ChainFault),
+    /// This node is the first whose terminus has records that the next handles do not lead through once each (C14): the
+    /// node, what is wrong, and the index of the first record in its list of which that is so.
+    BadChain(usize, ChainFault, usize),
     /// Memory ran out.
     OutOfMemory,
 }

@@ -1,9 +1,9 @@
 //! `certify`: the certificate of a plan, or why there is none.
 ghost use Rattle.std.specs.Prelude.{◌≡◌, ◌+◌, IfOk, IfErr, OnOk};
-ghost use Rattle.net_plan.specs.CertificateValues.{certificate_value};
-ghost use Rattle.net_plan.specs.PlanValues.{plan_value};
-ghost use Rattle.net_plan.specs.ShortText.{HasFewPlaces};
-ghost use Rattle.net_plan.specs.WellFormed.{IsWellFormed};
+ghost use Rattle.plan_values.specs.CertificateValues.{certificate_value};
+ghost use Rattle.plan_values.specs.PlanValues.{plan_value};
+ghost use Rattle.plan_values.specs.ShortText.{HasFewPlaces};
+ghost use Rattle.plan_values.specs.WellFormed.{IsWellFormed};
 ghost use Rattle.net_rules.specs.Rules.{Accepts};
 ghost use Rattle.net_rules.specs.Faults.{order_of};
 ghost use Rattle.net_rules.specs.declared.rule.Rule.TheVariants.{C07, C10, C14};
@@ -32,7 +32,7 @@ use crate::certifying::exact_ranks::exact_ranks;
 use crate::holders::Holders;
 use crate::plan_fault::first_of_plan_rule;
 use crate::rule::{RULES, Rule};
-use net_plan::{Certificate, Plan};
+use plan_values::{Certificate, Plan};
 use std::alloc::Global;
 
 /// The certificate of a plan: each node's level is the number of owners above it, each record's place is where the next

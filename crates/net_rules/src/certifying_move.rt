@@ -1,9 +1,9 @@
 //! `certify_move`: the certificate of a move, or why there is none.
 ghost use Rattle.std.specs.Prelude.{◌≡◌, ◌<◌, ◌↔◌, IsTrue, IfOk, IfErr, OnOk};
-ghost use Rattle.net_plan.specs.CertificateValues.{certificate_value};
-ghost use Rattle.net_plan.specs.PlanValues.{plan_value};
-ghost use Rattle.net_plan.specs.ShortText.{HasFewPlaces};
-ghost use Rattle.net_plan.specs.WellFormed.{IsWellFormed};
+ghost use Rattle.plan_values.specs.CertificateValues.{certificate_value};
+ghost use Rattle.plan_values.specs.PlanValues.{plan_value};
+ghost use Rattle.plan_values.specs.ShortText.{HasFewPlaces};
+ghost use Rattle.plan_values.specs.WellFormed.{IsWellFormed};
 ghost use Rattle.net_rules.specs.declared.rule.Rule.TheVariants.{C10};
 ghost use Rattle.net_rules.specs.Faults.{order_of};
 ghost use Rattle.net_rules.specs.Rules.{Accepts};
@@ -21,7 +21,7 @@ use crate::holders::Holders;
 use crate::move_error::MoveError;
 use crate::move_obstacle::MoveObstacle;
 use crate::rule::Rule;
-use net_plan::{Certificate, Plan};
+use plan_values::{Certificate, Plan};
 use std::alloc::Global;
 
 /// The certificate of a move. Levels and places are those of the old plan's certificate. The rank of each node and

@@ -4,8 +4,8 @@ ghost use Rattle.net_tables.specs.Routing.{Covers};
 ghost use Rattle.net_rules.specs.CoveredEids.{IsMarked, IsCovered};
 
 use mctp_transport::Eid;
-use net_plan::Row;
 use net_tables::lookup::row_end;
+use plan_values::Row;
 
 /// The endpoint IDs that some rows cover. The rows may stand in any order and overlap.
 #[derive(Clone, Copy, Debug)]

@@ -14,7 +14,7 @@ use crate::plans::Plans;
 use crate::rule::{RULES, Rule};
 use crate::rules::{chains, owners, ranks, superfluous};
 use crate::spot::Spot;
-use net_plan::{Certificate, Plan};
+use plan_values::{Certificate, Plan};
 use std::alloc::{AllocError, Global};
 
 /// The first fault, by the order of the rules.

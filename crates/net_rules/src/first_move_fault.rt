@@ -19,7 +19,7 @@ use crate::plans::Plans;
 use crate::rules::frames::{first_unlike_node, have_same_frame};
 use crate::rules::held_eids::row_without_way_on;
 use crate::rules::superfluous::superfluous_entry;
-use net_plan::{Certificate, Plan};
+use plan_values::{Certificate, Plan};
 use std::alloc::{AllocError, Global};
 
 /// Whether each rule of a move holds. Otherwise the error is the first fault, or out of memory.

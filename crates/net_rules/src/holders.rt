@@ -6,7 +6,7 @@ ghost use Rattle.net_rules.specs.Following.{EndedBy};
 ghost use Rattle.net_rules.specs.Holders.{IsFirstHolder, HoldersAscend, AreFirstHolders};
 
 use mctp_transport::Eid;
-use net_plan::Plan;
+use plan_values::Plan;
 use std::alloc::{AllocError, Global};
 use std::marker::Model;
 
@@ -26,7 +26,7 @@ pub struct Holders<'a> {
 
 impl<'a> Model for Holders<'a> {
     ghost use Rattle.std.specs.Prelude.{length};
-    ghost use Rattle.net_plan.specs.declared.plan.Plan.{Plan};
+    ghost use Rattle.plan_values.specs.declared.plan.Plan.{Plan};
     ghost use Rattle.net_rules.specs.Holders.{AreFirstHolders};
 
     ghost Value = { Plan };

@@ -1,12 +1,12 @@
 //! The ranges that give a node its ranks, ready for look-ups.
 ghost use Rattle.std.specs.Prelude.{◌≡◌, ◌∷◌, List};
-ghost use Rattle.net_plan.specs.declared.certificate.RankRange.{RankRange};
+ghost use Rattle.plan_values.specs.declared.certificate.RankRange.{RankRange};
 ghost use Rattle.net_tables.specs.Ranks.{rank_in};
 ghost use Rattle.net_rules.specs.RanksByEid.{AreRanksOf};
 
 use mctp_transport::Eid;
-use net_plan::RankRange;
 use net_tables::lookup::range_end;
+use plan_values::RankRange;
 use std::marker::Model;
 
 /// The ranges that give a node its ranks, in any order, with the rank of each endpoint ID.
@@ -19,7 +19,7 @@ pub struct NodeRanges<'a> {
 
 impl<'a> Model for NodeRanges<'a> {
     ghost use Rattle.std.specs.Prelude.{List};
-    ghost use Rattle.net_plan.specs.declared.certificate.RankRange.{RankRange};
+    ghost use Rattle.plan_values.specs.declared.certificate.RankRange.{RankRange};
     ghost use Rattle.net_rules.specs.RanksByEid.{AreRanksOf};
 
     ghost Value = { List RankRange };

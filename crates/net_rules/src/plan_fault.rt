@@ -10,7 +10,7 @@ use crate::plans::Plans;
 use crate::rule::Rule;
 use crate::rules::{eids, held_eids, locators, names, owners, pools, records, rows};
 use crate::spot::Spot;
-use net_plan::Plan;
+use plan_values::Plan;
 use std::alloc::{AllocError, Global};
 
 /// The first spot where the plan breaks the rule.

@@ -6,8 +6,8 @@ ghost use Rattle.net_rules.specs.Stretches.{IsStretch};
 
 use crate::borders::row_border;
 use mctp_transport::Eid;
-use net_plan::Plan;
 use net_tables::lookup::has_row;
+use plan_values::Plan;
 
 /// A plan, and where nodes move from its rows to those of another, that one too.
 #[derive(Clone, Copy)]

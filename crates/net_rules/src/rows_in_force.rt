@@ -6,8 +6,8 @@ ghost use Rattle.net_tables.specs.TwoPlans.{HasRowEver};
 use crate::covered_eids::CoveredEids;
 use crate::plans::Plans;
 use mctp_transport::Eid;
-use net_plan::Plan;
 use net_tables::lookup::rows_at;
+use plan_values::Plan;
 use std::marker::Model;
 
 /// The endpoint IDs for which a node has rows in one of the plans.

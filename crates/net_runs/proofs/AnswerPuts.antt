@@ -6,7 +6,7 @@ use Rattle.std.proofs.lemmas.Option.{same_Some}
 use Rattle.mctp_transport.specs.PacketValues.{PacketValue, Spelled}
 use Rattle.mctp_transport.specs.Sending.{IsPacketOf}
 use Rattle.mctp_transport.proofs.InOrder.{all_from}
-use Rattle.net_plan.specs.declared.plan.Plan.{Plan}
+use Rattle.plan_values.specs.declared.plan.Plan.{Plan}
 use Rattle.net_tables.specs.TwoPlans.{Tables}
 use Rattle.pdr_repository.specs.Answers.{Answers}
 use Rattle.net_tables.specs.Routing.{Holds}

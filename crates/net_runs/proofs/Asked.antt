@@ -10,9 +10,9 @@ use Rattle.mctp_transport.specs.Hearing.{Whole}
 use Rattle.mctp_transport.proofs.PacketLists.{packets_join}
 use Rattle.mctp_transport.proofs.InOrder.{comes_in_order}
 use Rattle.mctp_transport.proofs.Sending.{few_packets, many_packets}
-use Rattle.net_plan.specs.declared.plan.Plan.{Plan}
-use Rattle.net_plan.specs.declared.certificate.Certificate.{Certificate}
-use Rattle.net_plan.specs.declared.terminus.PlannedTerminus.{PlannedTerminus}
+use Rattle.plan_values.specs.declared.plan.Plan.{Plan}
+use Rattle.plan_values.specs.declared.certificate.Certificate.{Certificate}
+use Rattle.plan_values.specs.declared.terminus.PlannedTerminus.{PlannedTerminus}
 use Rattle.pdr_repository.specs.Answers.{IsAsked, Answers}
 use Rattle.net_tables.specs.Routing.{Holds}
 use Rattle.net_tables.specs.Repositories.{terminus_of, records_by_place}

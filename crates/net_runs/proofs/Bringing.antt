@@ -7,7 +7,7 @@ use Rattle.mctp_transport.specs.PacketValues.{PacketValue, KeyValue, key_of}
 use Rattle.mctp_transport.specs.Messages.{Joined}
 use Rattle.mctp_transport.specs.Histories.{History}
 use Rattle.mctp_transport.specs.Hearing.{Answer, Whole, Held, Hears}
-use Rattle.net_plan.specs.declared.certificate.Certificate.{Certificate}
+use Rattle.plan_values.specs.declared.certificate.Certificate.{Certificate}
 use Rattle.net_tables.specs.Routing.{Holds}
 use Rattle.net_runs.specs.States.{NetworkState, with_received, slots, limit}
 use Rattle.net_tables.specs.TwoPlans.{Tables, HasRowAlways}

@@ -9,9 +9,9 @@ use Rattle.std.proofs.lemmas.List.{length-take-le, length-map}
 use Rattle.std.proofs.lemmas.List.Quantifiers.{position-Some}
 use Rattle.std.proofs.lemmas.Map.Steps.{length-le_from_distinct_below}
 use Rattle.mctp_transport.proofs.Slots.{position-none, position-some}
-use Rattle.net_plan.specs.declared.plan.Plan.{Plan}
-use Rattle.net_plan.specs.declared.certificate.Certificate.{Certificate}
-use Rattle.net_plan.specs.declared.terminus.PlannedRecord.{PlannedRecord}
+use Rattle.plan_values.specs.declared.plan.Plan.{Plan}
+use Rattle.plan_values.specs.declared.certificate.Certificate.{Certificate}
+use Rattle.plan_values.specs.declared.terminus.PlannedRecord.{PlannedRecord}
 use Rattle.pdr_repository.specs.Records.{Entry, IsRecordOf, IsLawful, Means, handle_at, handle_of, handle_in}
 use Rattle.pdr_repository.specs.Walks.{Exchange, Collects, NamesTheNext}
 use Rattle.pdr_repository.proofs.Walks.{every_walk_collects}

@@ -12,9 +12,9 @@ use Rattle.mctp_transport.specs.Hearing.{Answer, Whole, Held, Dropped, Hears}
 use Rattle.mctp_transport.proofs.Arrivals.{EachArrival-append, EachArrival-last_of}
 use Rattle.mctp_transport.proofs.Collecting.{comes_from_such}
 use Rattle.mctp_transport.proofs.PacketLists.{joined_payloads}
-use Rattle.mctp_bridge.specs.declared.decision.Decision.TheVariants.{Deliver, Drop, Forward}
-use Rattle.net_plan.specs.declared.certificate.Certificate.{Certificate}
-use Rattle.net_plan.specs.declared.terminus.PlannedTerminus.{PlannedTerminus}
+use Rattle.mctp_routing.specs.declared.decision.Decision.TheVariants.{Here, Drop, Forward}
+use Rattle.plan_values.specs.declared.certificate.Certificate.{Certificate}
+use Rattle.plan_values.specs.declared.terminus.PlannedTerminus.{PlannedTerminus}
 use Rattle.net_tables.specs.Repositories.{terminus_of, records_by_place}
 use Rattle.net_runs.specs.Termini.{TerminusState, WaitingMessage, AreBytes, HoldsBytes, with_waiting}
 use Rattle.net_runs.specs.States.{NetworkState, Flight, at_start, without_flight, with_made, with_input, with_terminus, with_packet, with_packets, with_received, with_switched, unit_of, slots, limit}
@@ -136,7 +136,7 @@ module _ (tables : Tables) where
 
   moves_bytes : (w v : NetworkState) (k : ℕ) (f : Flight) (outcome : OutcomeValue) (new : NetworkState) → IsByteNetwork w → v.history ≡ w.history → v.terminus ≡ w.terminus
       → IsOfBytes f.packet → Moves tables v k f outcome new → ByteTermini new
-  moves_bytes w v k f (Entered j node key answer) new bytes same held packet (Deliver, holds, (number, at, whose, hears, is)) =
+  moves_bytes w v k f (Entered j node key answer) new bytes same held packet (Here, holds, (number, at, whose, hears, is)) =
       let P : NetworkState → Type 0 = ByteTermini in
       let T : (ℕ → Option TerminusState) → Type 0 = λ terminus. (n : ℕ) (t : TerminusState) → terminus n ≡ Some t → IsOfByteValues t in
       let H : (ℕ → History) → Type 0 = λ history. (n : ℕ) → EachArrival IsOfBytes (history n) in

@@ -4,14 +4,14 @@ use Rattle.std.specs.List.{AllByRecursion}
 use Rattle.std.proofs.lemmas.List.Elements.{recursion_from_All}
 use Rattle.std.proofs.lemmas.Option.{same_Some, none-some}
 use Rattle.mctp_transport.specs.PacketValues.{PacketValue}
-use Rattle.net_plan.specs.declared.certificate.Certificate.{Certificate}
+use Rattle.plan_values.specs.declared.certificate.Certificate.{Certificate}
 use Rattle.net_tables.specs.Routing.{Holds, IsBridge}
 use Rattle.net_tables.proofs.TableLaws.{routed, named}
 use Rattle.net_tables.specs.Ranks.{rank}
-use Rattle.mctp_bridge.specs.declared.row.Hop.{Hop}
-use Rattle.mctp_bridge.specs.declared.decision.ForwardFault.{ForwardFault}
-use Rattle.mctp_bridge.specs.declared.decision.ForwardFault.TheVariants.{Unassignable, NoBridge, NoRow}
-use Rattle.mctp_bridge.specs.declared.decision.Decision.TheVariants.{Deliver, Drop, Forward}
+use Rattle.mctp_routing.specs.declared.row.Hop.{Hop}
+use Rattle.mctp_routing.specs.declared.decision.ForwardFault.{ForwardFault}
+use Rattle.mctp_routing.specs.declared.decision.ForwardFault.TheVariants.{Unassignable, NoBridge, NoRow}
+use Rattle.mctp_routing.specs.declared.decision.Decision.TheVariants.{Here, Drop, Forward}
 use Rattle.net_runs.specs.States.{NetworkState, Flight, at_start, destination, without_flight, with_made, rows_now}
 use Rattle.net_tables.specs.TwoPlans.{Tables, HasRowAlways}
 use Rattle.net_runs.specs.Events.{EventValue, Move, OutcomeValue, Stopped, Lost}
@@ -217,7 +217,7 @@ module _ (tables : Tables) (cert : Certificate) (lawful : IsLawful tables cert) 
 
   -- what a move that ends a flight has decided
   stopped_by : (v : NetworkState) (k j : ℕ) (f : Flight) (why : ForwardFault) (new : NetworkState) → Moves tables v k f (Stopped j why) new → IsDecided tables.plan (rows_now tables v f.node) f (Drop why)
-  stopped_by v k j f why new (Deliver, decided, done) = absurd done
+  stopped_by v k j f why new (Here, decided, done) = absurd done
   stopped_by v k j f why new (Drop other, decided, (same, told, is)) = let D : ForwardFault → Type 0 = λ o. IsDecided tables.plan (rows_now tables v f.node) f (Drop o) in subst D (sym told) decided
   stopped_by v k j f why new (Forward hop, decided, done) = absurd done
 

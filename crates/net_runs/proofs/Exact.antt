@@ -9,7 +9,7 @@ use Rattle.mctp_transport.proofs.Collecting.{collected_more, comes_from_such}
 use Rattle.mctp_transport.proofs.Sending.{joins_to_itself}
 use Rattle.net_tables.specs.Routing.{Holds}
 use Rattle.net_runs.specs.States.{NetworkState, Flight, destination, slots, limit}
-use Rattle.net_plan.specs.declared.plan.Plan.{Plan}
+use Rattle.plan_values.specs.declared.plan.Plan.{Plan}
 use Rattle.net_tables.specs.TwoPlans.{Tables, one_plan}
 use Rattle.net_runs.specs.Runs.{RunFrom, PutsIn}
 use Rattle.net_runs.specs.ExactMessages.{IsQuiet, Epoch, IsOfEpoch, TurnOfEpoch, IsTidyFrom, turns_of, TellsAsSent, RunsAsSentBy, RunsAsSent}

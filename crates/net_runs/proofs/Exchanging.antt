@@ -13,10 +13,10 @@ use Rattle.pldm_message.specs.InstanceIds.{IdSet, Gives, TakesBack}
 use Rattle.pldm_message.specs.Pdrs.{PartRequest, get_pdr_request_bytes}
 use Rattle.pdr_repository.specs.Records.{Entry, IsLawful}
 use Rattle.pdr_repository.specs.Walks.{Exchange, Walk}
-use Rattle.pdr_repository.specs.declared.walk_fault.WalkProgress.{WalkProgress}
+use Rattle.pdr_repository.specs.declared.walk_fault.Step.{Step as WalkStep}
 use Rattle.pdr_repository.specs.Walkers.{WalkState, HasTakenIn, asked_under, IsDueAnswer}
 use Rattle.pdr_repository.proofs.Walks.{stands}
-use Rattle.net_plan.specs.declared.certificate.Certificate.{Certificate}
+use Rattle.plan_values.specs.declared.certificate.Certificate.{Certificate}
 use Rattle.net_runs.proofs.Units.{least_unit, five_fit, part_fits}
 use Rattle.net_tables.specs.Routing.{Holds}
 use Rattle.net_tables.specs.Repositories.{records_by_place}
@@ -42,7 +42,7 @@ use Rattle.net_runs.proofs.WalkedGoings.{IsKept, kept_is_lawful, handed_is_kept,
 use Rattle.net_runs.proofs.WalkedSteps.{asked_walker, AsksUnder, asks_under, some_gives}
 
 -- a step leaves the walker with the walk's limits, and waiting for nothing
-taken_state : (old : WalkState) (step : WalkProgress) (new : WalkState) → MayMake old (Ok step) new → HasTaken old (Ok step) new
+taken_state : (old : WalkState) (step : WalkStep) (new : WalkState) → MayMake old (Ok step) new → HasTaken old (Ok step) new
 taken_state old step new (inl ignored) = absurd (let e : Ok step ≡ Err ignored.fault = ignored.told in cc)
 taken_state old step new (inr (inl failed)) = absurd (let e : Ok step ≡ Err failed.fault = failed.told in cc)
 taken_state old step new (inr (inr taken)) = taken

@@ -5,9 +5,9 @@ use Rattle.mctp_transport.specs.PacketValues.{KeyValue}
 use Rattle.mctp_transport.specs.Histories.{Arrived}
 use Rattle.mctp_transport.specs.Hearing.{Answer}
 use Rattle.net_tables.specs.Routing.{Holds}
-use Rattle.mctp_bridge.specs.declared.row.Hop.{Hop}
-use Rattle.mctp_bridge.specs.declared.decision.ForwardFault.{ForwardFault}
-use Rattle.mctp_bridge.specs.declared.decision.Decision.TheVariants.{Deliver, Drop, Forward}
+use Rattle.mctp_routing.specs.declared.row.Hop.{Hop}
+use Rattle.mctp_routing.specs.declared.decision.ForwardFault.{ForwardFault}
+use Rattle.mctp_routing.specs.declared.decision.Decision.TheVariants.{Here, Drop, Forward}
 use Rattle.net_runs.specs.States.{NetworkState, Flight, destination, without_flight, with_made, with_input, with_terminus, rows_now}
 use Rattle.net_tables.specs.TwoPlans.{Tables}
 use Rattle.net_runs.specs.Events.{EventValue, Put, Move, Lose, Expire, AnswerAt, Switch, OutcomeValue, PutIn, Moved, Entered, Stopped, Lost, Expired, Answered, Silent, Switched, Refused}
@@ -64,7 +64,7 @@ this_flight number new old = elim (eqb_tells number number) [ inl same ↦ rw sa
 -- the flights of a network to which this number is another's
 moves_other : (tables : Tables) (v : NetworkState) (k : ℕ) (f : Flight) (outcome : OutcomeValue) (new : NetworkState) (number : ℕ) → number ≢ k → Moves tables v k f outcome new
     → new.flight number ≡ v.flight number
-moves_other tables v k f (Entered j node key answer) new number other (Deliver, holds, (same, at, whose, hears, is)) =
+moves_other tables v k f (Entered j node key answer) new number other (Here, holds, (same, at, whose, hears, is)) =
     let entered : NetworkState = with_input v f.node (Arrived f.packet) in
     ap (λ (u : NetworkState). u.flight number) is ∙ ap (λ flight. flight number) (received_same entered f.node key answer).flight
 moves_other tables v k f (Stopped j told) new number other (Drop why, decided, (same, said, is)) = ap (λ (u : NetworkState). u.flight number) is
@@ -75,7 +75,7 @@ moves_other tables v k f _ new number other (_, decided, done) = absurd done
 -- what comes of a move of the flight itself
 moves_this : (tables : Tables) (w : NetworkState) (number : ℕ) (f : Flight) (outcome : OutcomeValue) (new : NetworkState) → Moves tables (without_flight w number) number f outcome new
     → (is_refusal outcome ≡ false) × (IsEntering tables f number outcome new ⊎ (IsEnding tables w f ⊎ IsMoving tables w f number new))
-moves_this tables w number f (Entered j node key answer) new (Deliver, holds, (same, at, whose, hears, is)) =
+moves_this tables w number f (Entered j node key answer) new (Here, holds, (same, at, whose, hears, is)) =
     let entered : NetworkState = with_input (without_flight w number) f.node (Arrived f.packet) in
     let gone : new.flight number ≡ None =
     ap (λ (u : NetworkState). u.flight number) is ∙ ap (λ flight. flight number) (received_same entered f.node key answer).flight

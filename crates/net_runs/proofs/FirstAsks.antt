@@ -10,11 +10,11 @@ use Rattle.pldm_message.specs.InstanceIds.{IdSet}
 use Rattle.pldm_message.specs.Pdrs.{get_pdr_request_bytes}
 use Rattle.pdr_repository.specs.Walks.{first_part}
 use Rattle.pdr_repository.specs.Walkers.{WalkState, asked_under}
-use Rattle.net_plan.specs.declared.plan.Plan.{Plan}
+use Rattle.plan_values.specs.declared.plan.Plan.{Plan}
 use Rattle.net_runs.proofs.Units.{least_unit, part_fits}
 use Rattle.net_tables.specs.TwoPlans.{Tables, moving}
-use Rattle.net_plan.specs.declared.certificate.Certificate.{Certificate}
-use Rattle.net_plan.specs.declared.terminus.PlannedTerminus.{PlannedTerminus}
+use Rattle.plan_values.specs.declared.certificate.Certificate.{Certificate}
+use Rattle.plan_values.specs.declared.terminus.PlannedTerminus.{PlannedTerminus}
 use Rattle.net_tables.specs.Routing.{Holds}
 use Rattle.net_tables.specs.Repositories.{terminus_of, records_by_place}
 use Rattle.net_runs.specs.Termini.{TerminusState, WaitingMessage}

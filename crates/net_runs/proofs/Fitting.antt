@@ -10,12 +10,12 @@ use Rattle.std.proofs.lemmas.List.Sums.{sum_by-append}
 use Rattle.std.proofs.lemmas.Option.{same_Some, slice_get_within, none-some}
 use Rattle.pldm_message.specs.Messages.{ResponseMessage}
 use Rattle.pldm_message.specs.Pdrs.{PartRequest, Part}
-use Rattle.pldm_message.specs.PdrLaws.{one_get_pdr_response}
+use Rattle.pldm_message.specs.PdrLaws.{one_get_pdr_answer}
 use Rattle.pdr_repository.specs.Records.{Entry, bytes_by_place}
 use Rattle.pdr_repository.specs.Parts.{PartAnswer, offset_of}
 use Rattle.pdr_repository.specs.Walks.{Exchange, exchanges}
 use Rattle.pdr_repository.specs.Faults.{Room, IsTooMuch, Judges}
-use Rattle.pdr_repository.specs.declared.walk_fault.WalkProgress.{WalkProgress}
+use Rattle.pdr_repository.specs.declared.walk_fault.Step.{Step as WalkStep}
 use Rattle.pdr_repository.specs.declared.walk_fault.WalkFault.{WalkFault}
 use Rattle.pdr_repository.specs.declared.walk_fault.WalkFault.TheVariants.{FailedBefore, NotAsked, Unreadable, RecordChanged, OtherCode, WrongFlag, WrongSize, WrongCrc, WrongHandle, DoubledHandle, TooMuch, OutOfMemory}
 use Rattle.pdr_repository.specs.Walkers.{WalkState, IsAnswerIn, Takes, TakesOutcome, room_of, IsDueAnswer, WalksOn}
@@ -63,7 +63,7 @@ exchanges_most count some (e ∷ es) =
 
 -- ---- what is too much
 
-other_told : (f g : WalkFault) → ◌≡◌ {A = Result WalkProgress WalkFault} (Err f) (Err g) → f ≡ g
+other_told : (f g : WalkFault) → ◌≡◌ {A = Result WalkStep WalkFault} (Err f) (Err g) → f ≡ g
 other_told f g e = cc
 
 same_part : (p q : Part) → ◌≡◌ {A = PartAnswer} (Ok p) (Ok q) → p ≡ q
@@ -98,7 +98,7 @@ takes_much old bytes m new spelled (inr (_, inr (_, inr (_, (h, begins, inl (_, 
 takes_much old bytes m new spelled (inr (_, inr (_, inr (_, (h, begins, inr (_, inl (none, out))))))) = absurd (none m spelled)
 takes_much old bytes m new spelled (inr (_, inr (_, inr (_, (h, begins, inr (_, inr (_, (other, r, is, due, out)))))))) =
     let M : ResponseMessage Part → Type 0 = λ a. MuchIn old a.outcome in
-    subst M (one_get_pdr_response other m is.0 spelled.0 (sym is.1 ∙ spelled.1)) (outcome_much old r other.outcome new out)
+    subst M (one_get_pdr_answer other m is.0 spelled.0 (sym is.1 ∙ spelled.1)) (outcome_much old r other.outcome new out)
 
 module _ (records : List Entry) (old : WalkState) (bytes : List ℕ) (xs : List Exchange) (x : Exchange) (least : 8 ≤ old.count) (most : old.count ≤ 4079) (given : IsDueAnswer old bytes records xs x) where
   answer_fits : (new : WalkState) → length records ≤ old.max_records → sum_by (λ (e : Entry). length e.bytes) records ≤ old.max_bytes → ¬ Takes old bytes (Err TooMuch) new
@@ -129,7 +129,7 @@ module _ (records : List Entry) (old : WalkState) (bytes : List ℕ) (xs : List 
 
   -- it is taken, and the walk goes on
   pub record TakesOn : Type 0 where
-    pub step : WalkProgress
+    pub step : WalkStep
     pub new : WalkState
     pub takes : Takes old bytes (Ok step) new
     pub walks : WalksOn records (xs ++ x ∷ []) step new
@@ -139,7 +139,7 @@ module _ (records : List Entry) (old : WalkState) (bytes : List ℕ) (xs : List 
       let t = takes_something old bytes (λ some none. let e : Some x.request ≡ None = sym given.due ∙ none in cc) in
       by t.result t.new t.takes t.memory
     where
-      by : (result : Result WalkProgress WalkFault) (new : WalkState) → Takes old bytes result new → result ≢ Err OutOfMemory → TakesOn
+      by : (result : Result WalkStep WalkFault) (new : WalkState) → Takes old bytes result new → result ≢ Err OutOfMemory → TakesOn
       by (Ok step) new takes memory = record { step = step; new = new; takes = takes; walks = goes_on old new bytes (Ok step) least most takes records xs x given }
       by (Err fault) new takes memory = elim (goes_on old new bytes (Err fault) least most takes records xs x given) [
         | inl much ↦ let T : WalkFault → Type 0 = λ f. Takes old bytes (Err f) new in absurd (answer_fits new few small (subst T much takes))

@@ -3,7 +3,7 @@ use Rattle.std.proofs.Common.{◌≡◌, ℕ, ◌+◌, ◌≤◌, List, [], ◌�
 use Rattle.mctp_transport.specs.PacketValues.{PacketValue}
 use Rattle.mctp_transport.specs.Histories.{Input, Arrived, TimeUp, History, EachArrival}
 use Rattle.mctp_transport.proofs.Arrivals.{EachArrival-append}
-use Rattle.net_plan.specs.declared.certificate.Certificate.{Certificate}
+use Rattle.plan_values.specs.declared.certificate.Certificate.{Certificate}
 use Rattle.net_tables.specs.Routing.{Holds}
 use Rattle.net_tables.proofs.TableLaws.{named}
 use Rattle.net_tables.specs.Ranks.{rank}

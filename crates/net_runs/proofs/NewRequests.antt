@@ -11,7 +11,7 @@ use Rattle.pldm_message.specs.InstanceIds.{Gives}
 use Rattle.pdr_repository.specs.Records.{IsLawful}
 use Rattle.pdr_repository.specs.Walkers.{WalkState, Asks, asked_under}
 use Rattle.net_tables.specs.TwoPlans.{Tables}
-use Rattle.net_plan.specs.declared.certificate.Certificate.{Certificate}
+use Rattle.plan_values.specs.declared.certificate.Certificate.{Certificate}
 use Rattle.net_tables.specs.Routing.{Holds}
 use Rattle.net_tables.specs.Repositories.{records_by_place}
 use Rattle.net_runs.specs.Termini.{WaitingMessage}

@@ -7,8 +7,8 @@ use Rattle.mctp_transport.specs.PacketValues.{PacketValue, KeyValue}
 use Rattle.mctp_transport.specs.Histories.{Input, Arrived, TimeUp, after}
 use Rattle.mctp_transport.specs.Hearing.{Answer, Whole, Held, Dropped}
 use Rattle.net_tables.specs.Routing.{Holds}
-use Rattle.mctp_bridge.specs.declared.row.Hop.{Hop}
-use Rattle.mctp_bridge.specs.declared.decision.Decision.TheVariants.{Deliver, Drop, Forward}
+use Rattle.mctp_routing.specs.declared.row.Hop.{Hop}
+use Rattle.mctp_routing.specs.declared.decision.Decision.TheVariants.{Here, Drop, Forward}
 use Rattle.net_runs.specs.Termini.{WaitingMessage, with_waiting}
 use Rattle.net_runs.specs.States.{NetworkState, Flight, with_flight, without_flight, with_made, with_input, with_terminus, with_packet, with_packets, with_received, with_switched, rows_now}
 use Rattle.net_tables.specs.TwoPlans.{Tables, rows_by}
@@ -153,7 +153,7 @@ module _ (tables : Tables) (w : NetworkState) (puts : PacketValue → Type 0) wh
   -- moving a flight
   pub moves_is_next : (v : NetworkState) (k : ℕ) (f : Flight) (outcome : OutcomeValue) (new : NetworkState) → IsWithin w v → v.switched ≡ w.switched → IsThere w f → (HasNumberedFlights w → k ≤ v.made)
       → Moves tables v k f outcome new → IsNext tables w puts new
-  moves_is_next v k f (Entered j node key answer) new within same there small (Deliver, holds, (number, at, whose, hears, is)) =
+  moves_is_next v k f (Entered j node key answer) new within same there small (Here, holds, (number, at, whose, hears, is)) =
       let P : NetworkState → Type 0 = IsNext tables w puts in
       let entered : NetworkState = with_input v f.node (Arrived f.packet) in
       subst P (sym is) (same_is_next entered (with_received entered f.node key answer) (received_same entered f.node key answer)

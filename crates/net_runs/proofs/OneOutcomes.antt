@@ -9,13 +9,13 @@ use Rattle.mctp_transport.specs.Cutting.{ArePacketsOf}
 use Rattle.mctp_transport.specs.Histories.{Arrived}
 use Rattle.mctp_transport.proofs.PacketLists.{same_packets}
 use Rattle.mctp_transport.proofs.Verdicts.{hears_one}
-use Rattle.mctp_bridge.specs.declared.row.Hop.{Hop}
-use Rattle.mctp_bridge.specs.declared.decision.ForwardFault.TheVariants.{Unassignable, NoBridge, NoRow}
-use Rattle.mctp_bridge.specs.declared.decision.Decision.{Decision}
-use Rattle.mctp_bridge.specs.declared.decision.Decision.TheVariants.{Deliver, Drop, Forward}
-use Rattle.mctp_bridge.specs.Decisions.{Decides}
-use Rattle.net_plan.specs.declared.plan.Plan.{Plan}
-use Rattle.net_plan.specs.declared.certificate.Certificate.{Certificate}
+use Rattle.mctp_routing.specs.declared.row.Hop.{Hop}
+use Rattle.mctp_routing.specs.declared.decision.ForwardFault.TheVariants.{Unassignable, NoBridge, NoRow}
+use Rattle.mctp_routing.specs.declared.decision.Decision.{Decision}
+use Rattle.mctp_routing.specs.declared.decision.Decision.TheVariants.{Here, Drop, Forward}
+use Rattle.mctp_routing.specs.Decisions.{Decides}
+use Rattle.plan_values.specs.declared.plan.Plan.{Plan}
+use Rattle.plan_values.specs.declared.certificate.Certificate.{Certificate}
 use Rattle.pdr_repository.specs.Records as lawful
 use Rattle.pdr_repository.specs.Answers.{Answers}
 use Rattle.net_tables.specs.Routing.{NamesFor}
@@ -72,7 +72,7 @@ next_in plan (Some after) true n e m k apart also (r, row, at, covers, next) (q,
 
 -- the decisions are one, but for the port
 Alike : Decision → Decision → Type 0
-Alike Deliver Deliver = Unit {0}
+Alike Here Here = Unit {0}
 Alike (Drop why) (Drop told) = why ≡ told
 Alike (Forward hop) (Forward other) = hop.next ≡ other.next
 Alike _ _ = ⊥
@@ -80,27 +80,27 @@ Alike _ _ = ⊥
 module _ (holds forwards : Type 0) (routes : Hop → Type 0) (one : (hop other : Hop) → routes hop → routes other → hop.next ≡ other.next) (e : ℕ) where
   alike : (a b : Decision) → Decides holds forwards routes e a → Decides holds forwards routes e b → Alike a b
   unfolding Alike
-  alike Deliver Deliver x y = tt
-  alike Deliver (Drop Unassignable) x y = absurd (y.0 x)
-  alike Deliver (Drop NoBridge) x y = absurd (y.0 x)
-  alike Deliver (Drop NoRow) x y = absurd (y.0 x)
-  alike Deliver (Forward hop) x y = absurd (y.0 x)
-  alike (Drop Unassignable) Deliver x y = absurd (x.0 y)
+  alike Here Here x y = tt
+  alike Here (Drop Unassignable) x y = absurd (y.0 x)
+  alike Here (Drop NoBridge) x y = absurd (y.0 x)
+  alike Here (Drop NoRow) x y = absurd (y.0 x)
+  alike Here (Forward hop) x y = absurd (y.0 x)
+  alike (Drop Unassignable) Here x y = absurd (x.0 y)
   alike (Drop Unassignable) (Drop Unassignable) x y = refl
   alike (Drop Unassignable) (Drop NoBridge) x y = absurd (x.1 y.1)
   alike (Drop Unassignable) (Drop NoRow) x y = absurd (x.1 y.1)
   alike (Drop Unassignable) (Forward hop) x y = absurd (x.1 y.1)
-  alike (Drop NoBridge) Deliver x y = absurd (x.0 y)
+  alike (Drop NoBridge) Here x y = absurd (x.0 y)
   alike (Drop NoBridge) (Drop Unassignable) x y = absurd (y.1 x.1)
   alike (Drop NoBridge) (Drop NoBridge) x y = refl
   alike (Drop NoBridge) (Drop NoRow) x y = absurd (x.2 y.2)
   alike (Drop NoBridge) (Forward hop) x y = absurd (x.2 y.2)
-  alike (Drop NoRow) Deliver x y = absurd (x.0 y)
+  alike (Drop NoRow) Here x y = absurd (x.0 y)
   alike (Drop NoRow) (Drop Unassignable) x y = absurd (y.1 x.1)
   alike (Drop NoRow) (Drop NoBridge) x y = absurd (y.2 x.2)
   alike (Drop NoRow) (Drop NoRow) x y = refl
   alike (Drop NoRow) (Forward hop) x y = absurd (x.3 hop y.3)
-  alike (Forward hop) Deliver x y = absurd (x.0 y)
+  alike (Forward hop) Here x y = absurd (x.0 y)
   alike (Forward hop) (Drop Unassignable) x y = absurd (y.1 x.1)
   alike (Forward hop) (Drop NoBridge) x y = absurd (y.2 x.2)
   alike (Forward hop) (Drop NoRow) x y = absurd (y.3 hop x.3)
@@ -111,7 +111,7 @@ abbrev AreOne : OutcomeValue → OutcomeValue → NetworkState → NetworkState 
 AreOne a b u v = (a ≡ b) × (u ≡ v)
 
 module _ (w : NetworkState) (number : ℕ) (f : Flight) where
-  done_here : (a b : OutcomeValue) (u v : NetworkState) → IsDone w number f a Deliver u → IsDone w number f b Deliver v → AreOne a b u v
+  done_here : (a b : OutcomeValue) (u v : NetworkState) → IsDone w number f a Here u → IsDone w number f b Here v → AreOne a b u v
   done_here (Entered k n key x) (Entered j m other y) u v (number_is, at, whose, hears, is) (number_is', at', whose', hears', is') =
       let flight : k ≡ j = number_is ∙ sym number_is' in
       let node : n ≡ m = at ∙ sym at' in
@@ -140,13 +140,13 @@ module _ (w : NetworkState) (number : ℕ) (f : Flight) where
 
   done_one : (d c : Decision) (a b : OutcomeValue) (u v : NetworkState) → Alike d c → IsDone w number f a d u → IsDone w number f b c v → AreOne a b u v
   unfolding Alike
-  done_one Deliver Deliver a b u v same x y = done_here a b u v x y
-  done_one Deliver (Drop why) a b u v same x y = absurd same
-  done_one Deliver (Forward hop) a b u v same x y = absurd same
-  done_one (Drop why) Deliver a b u v same x y = absurd same
+  done_one Here Here a b u v same x y = done_here a b u v x y
+  done_one Here (Drop why) a b u v same x y = absurd same
+  done_one Here (Forward hop) a b u v same x y = absurd same
+  done_one (Drop why) Here a b u v same x y = absurd same
   done_one (Drop why) (Drop told) a b u v same x y = done_drop why told a b u v same x y
   done_one (Drop why) (Forward hop) a b u v same x y = absurd same
-  done_one (Forward hop) Deliver a b u v same x y = absurd same
+  done_one (Forward hop) Here a b u v same x y = absurd same
   done_one (Forward hop) (Drop why) a b u v same x y = absurd same
   done_one (Forward hop) (Forward other) a b u v same x y = done_on hop other a b u v same x y
 

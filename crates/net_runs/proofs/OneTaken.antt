@@ -5,7 +5,7 @@ use Rattle.mctp_transport.specs.PacketValues.{KeyValue}
 use Rattle.mctp_transport.specs.Hearing.{Whole}
 use Rattle.pldm_message.specs.Messages.{ResponseMessage}
 use Rattle.pldm_message.specs.Pdrs.{Part}
-use Rattle.pldm_message.specs.PdrLaws.{one_get_pdr_response}
+use Rattle.pldm_message.specs.PdrLaws.{one_get_pdr_answer}
 use Rattle.pdr_repository.specs.Walks.{Exchange}
 use Rattle.net_runs.specs.Events.{OutcomeValue, Entered}
 use Rattle.net_runs.specs.Walkers.{WalkerValue, WalkedState, WalkedOutcome, Happened, Handed, answering_key}
@@ -21,7 +21,7 @@ same_message f g n m k l x y e = cc
 exchange_one : (walker : WalkerValue) (message : List ℕ) (x y : Exchange) → IsExchange walker message x → IsExchange walker message y → x ≡ y
 exchange_one walker message x y e f =
     let requests : x.request ≡ y.request = same_Some x.request y.request (sym e.due ∙ f.due) in
-    let messages = one_get_pdr_response (record { head = e.head; outcome = x.answer }) (record { head = f.head; outcome = y.answer }) e.spelled.0 f.spelled.0 (sym e.spelled.1 ∙ f.spelled.1) in
+    let messages = one_get_pdr_answer (record { head = e.head; outcome = x.answer }) (record { head = f.head; outcome = y.answer }) e.spelled.0 f.spelled.0 (sym e.spelled.1 ∙ f.spelled.1) in
     let answers : x.answer ≡ y.answer = ap (λ (m : ResponseMessage Part). m.outcome) messages in
     λ j. record { request = requests j; answer = answers j }
 

@@ -11,20 +11,21 @@ use Rattle.pldm_message.specs.InstanceIds.{IdSet, Gives, TakesBack}
 use Rattle.pldm_message.proofs.OneInstanceIds.{gives_one, takes_back_one}
 use Rattle.pdr_repository.specs.Walkers.{Asks, Takes}
 use Rattle.pdr_repository.proofs.OneTakings.{takes_one, asks_one}
-use Rattle.pdr_repository.specs.declared.walk_fault.WalkProgress.{WalkProgress}
+use Rattle.pdr_repository.specs.declared.walk_fault.Step.{Step as WalkStep}
 use Rattle.pdr_repository.specs.declared.walk_fault.WalkFault.{WalkFault}
-use Rattle.net_plan.specs.declared.plan.Plan.{Plan}
-use Rattle.net_plan.specs.declared.certificate.Certificate.{Certificate}
+use Rattle.plan_values.specs.declared.plan.Plan.{Plan}
+use Rattle.plan_values.specs.declared.certificate.Certificate.{Certificate}
 use Rattle.net_runs.specs.States.{NetworkState, unit_of}
 use Rattle.net_tables.specs.TwoPlans.{Tables}
 use Rattle.net_runs.specs.Events.{EventValue, Put, OutcomeValue, PutIn, Entered, N01, N02, N03, N04, N05, N06, N07}
 use Rattle.net_runs.specs.Networks as network
-use Rattle.net_runs.specs.OneOutcome.{HasOneOutcome, RunsHaveOneOutcome}
-use Rattle.net_runs.specs.OneWalkedOutcome.{HasOneWalkedOutcome, WalkedRunsHaveOneOutcome}
+use Rattle.net_runs.specs.OneOutcome.{HaveRowsApart, HoldsLawfulLists, HasOneOutcome, RunsHaveOneOutcome}
+use Rattle.net_runs.specs.OneWalkedOutcome.{HaveWalkersApart, HasOneWalkedOutcome, WalkedRunsHaveOneOutcome}
 use Rattle.net_runs.specs.Walkers.{WalkerValue, WalkedState, WalkedEvent, Happening, BeginWalk, Ask, TellWalk, WalkedOutcome, Happened, Begun, Asked, ToldWalk, WalkRefused, WalkRefusal, Also, N08, N09, N10, N11, N12, N13, Handed, AreSettled, walked_at_start, fresh_walker, with_walker, asking_key, answering_key, ended_after, standing_of, walk_refusal_number, IsWalkRefused, IsFirstWalkRefusal}
 use Rattle.net_runs.specs.WalkedRuns.{IsAsking, IsHanded, WalkedHappens, WalkedStep, walked_reached}
 use Rattle.net_runs.proofs.Below.{runs_below}
-use Rattle.net_runs.proofs.Soundness.{AreApart, run_sound, start_sound}
+use Rattle.net_runs.proofs.OneOutcomes.{one_outcome}
+use Rattle.net_runs.proofs.Soundness.{IsAlike, run_sound, start_sound}
 use Rattle.net_runs.proofs.OneTaken.{same_message}
 
 -- ---- refusals
@@ -113,10 +114,10 @@ same_node f g n m k l x y e = cc
 same_word : (f g n m : ℕ) (k l : KeyValue) (x y : List ℕ) → ◌≡◌ {A = OutcomeValue} (Entered f n k (Whole x)) (Entered g m l (Whole y)) → k ≡ l
 same_word f g n m k l x y e = cc
 
-GivesBack : WalkerValue → Result WalkProgress WalkFault → IdSet → Type 0
+GivesBack : WalkerValue → Result WalkStep WalkFault → IdSet → Type 0
 GivesBack walker result ids = MatchResult result (λ step. (id : ℕ) × (walker.walk.waiting ≡ Some id) × TakesBack walker.ids id ids) (λ fault. ids ≡ walker.ids)
 
-back_one : (walker : WalkerValue) (result : Result WalkProgress WalkFault) (a b : IdSet) → GivesBack walker result a → GivesBack walker result b → a ≡ b
+back_one : (walker : WalkerValue) (result : Result WalkStep WalkFault) (a b : IdSet) → GivesBack walker result a → GivesBack walker result b → a ≡ b
 unfolding GivesBack
 back_one walker (Ok step) a b (id, waits, back) (other, waits', back') =
     let same : id ≡ other = same_Some id other (sym waits ∙ waits') in
@@ -124,7 +125,7 @@ back_one walker (Ok step) a b (id, waits, back) (other, waits', back') =
     takes_back_one walker.ids other a b (subst T same back) back'
 back_one walker (Err fault) a b x y = x ∙ sym y
 
-module _ (walkers : ℕ → Option WalkerValue) (begun : ℕ) (apart : AreApart walkers begun) (outcome : OutcomeValue) where
+module _ (walkers : ℕ → Option WalkerValue) (apart : (i j : ℕ) (x y : WalkerValue) → walkers i ≡ Some x → walkers j ≡ Some y → IsAlike x y → i ≡ j) (outcome : OutcomeValue) where
   handed_one : (h g : Handed) (next next' : ℕ → Option WalkerValue) → IsHanded walkers outcome h next → IsHanded walkers outcome g next' → (h ≡ g) × (next ≡ next')
   unfolding GivesBack
   handed_one h g next next' x y =
@@ -132,12 +133,12 @@ module _ (walkers : ℕ → Option WalkerValue) (begun : ℕ) (apart : AreApart 
       let node = same_node x.meant.0 y.meant.0 x.walker.node y.walker.node (answering_key x.walker) (answering_key y.walker) x.message y.message told in
       let key = same_word x.meant.0 y.meant.0 x.walker.node y.walker.node (answering_key x.walker) (answering_key y.walker) x.message y.message told in
       let message = same_message x.meant.0 y.meant.0 x.walker.node y.walker.node (answering_key x.walker) (answering_key y.walker) x.message y.message told in
-      let number : h.number ≡ g.number = apart.apart h.number g.number x.walker y.walker x.there y.there (node, ap (λ (k : KeyValue). k.source) key, ap (λ (k : KeyValue). k.tag) key) in
+      let number : h.number ≡ g.number = apart h.number g.number x.walker y.walker x.there y.there (node, ap (λ (k : KeyValue). k.source) key, ap (λ (k : KeyValue). k.tag) key) in
       let walker : y.walker ≡ x.walker = same_Some y.walker x.walker (sym y.there ∙ (ap walkers (sym number) ∙ x.there)) in
       let T : WalkerValue → Type 0 = λ k. Takes k.walk y.message g.result y.walk in
       let M : List ℕ → Type 0 = λ m. Takes x.walker.walk m g.result y.walk in
       let taken = takes_one x.walker.walk h.result g.result x.walk y.walk x.memory y.memory x.message x.takes (subst M (sym message) (subst T walker y.takes)) in
-      let R : Result WalkProgress WalkFault → Type 0 = λ r. GivesBack x.walker r x.ids in
+      let R : Result WalkStep WalkFault → Type 0 = λ r. GivesBack x.walker r x.ids in
       let W : WalkerValue → Type 0 = λ k. GivesBack k g.result y.ids in
       let ids = back_one x.walker g.result x.ids y.ids (subst R taken.0 x.given_back) (subst W walker y.given_back) in (
         λ j. record { number = number j; result = taken.0 j },
@@ -154,7 +155,7 @@ same_state u v network walker begun = λ j. record { network = network j; walker
 AreOne : WalkedOutcome → WalkedOutcome → WalkedState → WalkedState → Type 0
 AreOne a b u v = (a ≡ b) × (u ≡ v)
 
-module _ (tables : Tables) (w : WalkedState) (one : (event : EventValue) → HasOneOutcome tables w.network event) (apart : AreApart w.walker w.begun) where
+module _ (tables : Tables) (w : WalkedState) (one : (event : EventValue) → HasOneOutcome tables w.network event) (apart : HaveWalkersApart w) where
   happens_one : (event : WalkedEvent) (a b : WalkedOutcome) (u v : WalkedState) → WalkedHappens tables w event a u → WalkedHappens tables w event b v → AreOne a b u v
   unfolding AreOne
   happens_one (Happening event) (Happened o None) (Happened p None) u v (step, none, same, begun) (step', none', same', begun') =
@@ -169,7 +170,7 @@ module _ (tables : Tables) (w : WalkedState) (one : (event : EventValue) → Has
   happens_one (Happening event) (Happened o (Some h)) (Happened p (Some g)) u v (step, given, begun) (step', given', begun') =
       let lower = one event o p u.network v.network step step' in
       let O : OutcomeValue → Type 0 = λ x. IsHanded w.walker x h u.walker in
-      let handed = handed_one w.walker w.begun apart p h g u.walker v.walker (subst O lower.0 given) given' in
+      let handed = handed_one w.walker apart p h g u.walker v.walker (subst O lower.0 given) given' in
       (λ j. Happened (lower.0 j) (Some (handed.0 j)), same_state u v lower.1 handed.1 (begun ∙ sym begun'))
   happens_one (Happening event) (Happened o None) _ u v x y = absurd y
   happens_one (Happening event) (Happened o (Some h)) _ u v x y = absurd y
@@ -217,9 +218,14 @@ module _ (tables : Tables) (w : WalkedState) (one : (event : EventValue) → Has
       by (inr (may, _)) (inl (why, is, first, same)) = absurd (may why first.0)
       by (inr (_, x)) (inr (_, y)) = happens_one event a b u v x y
 
+-- over rows that lie apart, where termini hold lawful lists and walkers differ
+pub one_walked_outcome : (tables : Tables) (w : WalkedState) (event : WalkedEvent) → HaveRowsApart tables → HoldsLawfulLists w.network → HaveWalkersApart w → HasOneWalkedOutcome tables w event
+one_walked_outcome tables w event rows lists walkers = step_one tables w (λ e. one_outcome tables w.network e rows lists) walkers event
+
+-- and so in runs
 pub walked_runs_have_one_outcome : (tables : Tables) (cert : Certificate) → RunsHaveOneOutcome tables cert → WalkedRunsHaveOneOutcome tables cert
 walked_runs_have_one_outcome tables cert runs turns event run =
     let w = walked_reached tables.plan cert turns in
     let below = runs_below tables (walked_at_start tables.plan cert) turns run in
     let sound = run_sound tables cert (walked_at_start tables.plan cert) turns (start_sound tables cert) run in
-    step_one tables w (λ e. let O : NetworkState → Type 0 = λ u. HasOneOutcome tables u e in subst O below.reaches (runs below.below e below.run)) sound.walkers event
+    step_one tables w (λ e. let O : NetworkState → Type 0 = λ u. HasOneOutcome tables u e in subst O below.reaches (runs below.below e below.run)) sound.walkers.apart event

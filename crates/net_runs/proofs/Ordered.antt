@@ -88,7 +88,7 @@ module _ (message : List ℕ) (key : KeyValue) (fits : length message ≤ limit)
       let A : KeyValue → Type 0 = λ k. ArePackets (last_of h k) (first ∷ ps) in
       let opened = subst O (sym mine) begun.opened in
       let are = subst A (sym mine) begun.are in
-      let continues : Continues slots limit h p (first ∷ ps) = record { opened = opened; are = are; sequence = follows.sequence; size = follows.fits; fits = size } in
+      let continues : Continues slots limit h p (first ∷ ps) = record { opened = opened; are = are; number = follows.number; size = follows.fits; fits = size } in
       let still = open_more_from slots limit h p (first ∷ ps) follows.later continues going in
       let N : KeyValue → Type 0 = λ k. HasBegun (after h (Arrived p)) k ((first ∷ ps) ++ p ∷ []) in (
         still,
@@ -117,7 +117,7 @@ module _ (message : List ℕ) (key : KeyValue) (fits : length message ≤ limit)
       let A : KeyValue → Type 0 = λ k. ArePackets (last_of h k) (first ∷ ps) in
       let opened = subst O (sym mine) begun.opened in
       let are = subst A (sym mine) begun.are in
-      let continues : Continues slots limit h p (first ∷ ps) = record { opened = opened; are = are; sequence = follows.sequence; size = follows.fits; fits = omega (arith, size, long, fits) } in
+      let continues : Continues slots limit h p (first ∷ ps) = record { opened = opened; are = are; number = follows.number; size = follows.fits; fits = omega (arith, size, long, fits) } in
       let C : List ℕ → Type 0 = λ m. Comes slots limit (after h (Arrived p)) m in
       let whole : message ≡ payloads_of (first ∷ ps) ++ p.payload = joined.whole ∙ payloads_snoc (first ∷ ps) p in
       let comes = subst C (sym whole) (comes_more_from slots limit h p (first ∷ ps) follows.later continues ends) in

@@ -10,7 +10,7 @@ use Rattle.pdr_repository.specs.Walks.{Exchange, WalkPromises, exchanges}
 use Rattle.pdr_repository.proofs.Collecting.{collects_once}
 use Rattle.pdr_repository.proofs.Taking.{fresh_stands}
 use Rattle.pdr_repository.proofs.Walks.{every_walk_collects}
-use Rattle.net_plan.specs.declared.certificate.Certificate.{Certificate}
+use Rattle.plan_values.specs.declared.certificate.Certificate.{Certificate}
 use Rattle.net_tables.specs.Repositories.{records_of, places_of, records_by_place, RecordsHaveOrder}
 use Rattle.net_runs.specs.Termini.{AreBytes}
 use Rattle.net_runs.specs.States.{at_start}

@@ -9,9 +9,9 @@ use Rattle.mctp_transport.specs.Hearing.{Whole}
 use Rattle.mctp_transport.proofs.Arrivals.{EachArrival-append, EachArrival-weaker, EachArrival-last_of, packets_arrived}
 use Rattle.mctp_transport.proofs.LastStarts.{packets_key}
 use Rattle.mctp_transport.proofs.FirstIndexes.{snoc_same}
-use Rattle.net_plan.specs.declared.certificate.Certificate.{Certificate}
+use Rattle.plan_values.specs.declared.certificate.Certificate.{Certificate}
 use Rattle.net_tables.specs.Routing.{Holds}
-use Rattle.mctp_bridge.specs.declared.decision.Decision.TheVariants.{Deliver, Drop, Forward}
+use Rattle.mctp_routing.specs.declared.decision.Decision.TheVariants.{Here, Drop, Forward}
 use Rattle.net_runs.specs.States.{NetworkState, Flight, at_start, without_flight, with_made, slots, limit}
 use Rattle.net_tables.specs.TwoPlans.{Tables}
 use Rattle.net_runs.specs.Events.{EventValue, Put, Move, Lose, Expire, AnswerAt, Switch, OutcomeValue, PutIn, Entered, Lost, Expired, Answered, Silent, Switched, Refused}
@@ -74,7 +74,7 @@ pub record TellsMessage (tables : Tables) (w : NetworkState) (n : ℕ) (key : Ke
 
 moves_tell : (tables : Tables) (w v : NetworkState) (stood k j : ℕ) (f : Flight) (n : ℕ) (key : KeyValue) (message : List ℕ) (new : NetworkState) → w.flight stood ≡ Some f
     → v.history ≡ w.history → Moves tables v k f (Entered j n key (Whole message)) new → TellsMessage tables w n key message
-moves_tell tables w v stood k j f n key message new stands same (Deliver, holds, (number, at, whose, hears, is)) =
+moves_tell tables w v stood k j f n key message new stands same (Here, holds, (number, at, whose, hears, is)) =
     let P : ℕ → Type 0 = λ m. Holds tables.plan m f.packet.destination in
     let Q : (ℕ → History) → Type 0 = λ history. Comes slots limit (after (history f.node) (Arrived f.packet)) message in
     let R : ℕ → Type 0 = λ m. Comes slots limit (after (w.history m) (Arrived f.packet)) message in

@@ -7,13 +7,13 @@ use Rattle.mctp_transport.specs.PacketValues.{PacketValue}
 use Rattle.mctp_transport.specs.Hearing.{Whole}
 use Rattle.mctp_transport.specs.Sending.{IsPacketOf}
 use Rattle.mctp_transport.proofs.Sending.{joins_to_itself}
-use Rattle.pldm_message.specs.Pdrs.{PartRequest, Part, get_pdr_response_bytes}
+use Rattle.pldm_message.specs.Pdrs.{PartRequest, Part, get_pdr_answer_bytes}
 use Rattle.pdr_repository.specs.Records.{Entry, IsLawful}
 use Rattle.pdr_repository.specs.Parts.{PartAnswer, AnswersPart, IsPartOf, offset_of}
 use Rattle.pdr_repository.specs.Walkers.{IsAnswerIn}
 use Rattle.pdr_repository.proofs.OneAnswers.{one_answer}
 use Rattle.net_tables.specs.TwoPlans.{Tables}
-use Rattle.net_plan.specs.declared.certificate.Certificate.{Certificate}
+use Rattle.plan_values.specs.declared.certificate.Certificate.{Certificate}
 use Rattle.net_tables.specs.Routing.{Holds}
 use Rattle.net_tables.specs.Repositories.{records_by_place}
 use Rattle.net_runs.specs.States.{NetworkState, unit_of}
@@ -24,21 +24,21 @@ use Rattle.net_runs.proofs.Such.{told_joins_such}
 use Rattle.net_runs.proofs.UnderWay.{IsUnderWay, IsOfReply, Answering, answer_under}
 use Rattle.pdr_repository.proofs.FivePackets.{one_at_most}
 
-part_is_short : (id next : ℕ) (bytes : List ℕ) (r : PartRequest) (p : Part) → IsPartOf next bytes r p → length (get_pdr_response_bytes (answer_under id (Ok p))) ≤ r.count + 17
+part_is_short : (id next : ℕ) (bytes : List ℕ) (r : PartRequest) (p : Part) → IsPartOf next bytes r p → length (get_pdr_answer_bytes (answer_under id (Ok p))) ≤ r.count + 17
 part_is_short id next bytes r p part =
     let long : length p.bytes ≤ r.count = omega (arith, ap length part.taken, length-take (min r.count 4079) (drop (offset_of r) bytes)) in
     let check = one_at_most p.crc in
     let both = length-append p.bytes (option_to_list p.crc) in
     omega (arith, long, check, both)
 
-pub answer_is_short : (id : ℕ) (records : List Entry) (r : PartRequest) (a : PartAnswer) → AnswersPart records r a → length (get_pdr_response_bytes (answer_under id a)) ≤ r.count + 17
+pub answer_is_short : (id : ℕ) (records : List Entry) (r : PartRequest) (a : PartAnswer) → AnswersPart records r a → length (get_pdr_answer_bytes (answer_under id a)) ≤ r.count + 17
 answer_is_short id records r a (inl (_, is)) = rw is (omega arith)
 answer_is_short id records r a (inr (_, inl (_, is))) = rw is (omega arith)
 answer_is_short id records r a (inr (_, inr (_, inl (_, is)))) = rw is (omega arith)
 answer_is_short id records r a (inr (_, inr (_, inr (_, (place, e, means, inl (_, is)))))) = rw is (omega arith)
 answer_is_short id records r a (inr (_, inr (_, inr (_, (place, e, means, inr (_, inl (_, is))))))) = rw is (omega arith)
 answer_is_short id records r a (inr (_, inr (_, inr (_, (place, e, means, inr (_, inr (_, (p, is, part)))))))) =
-    let P : PartAnswer → Type 0 = λ b. length (get_pdr_response_bytes (answer_under id b)) ≤ r.count + 17 in
+    let P : PartAnswer → Type 0 = λ b. length (get_pdr_answer_bytes (answer_under id b)) ≤ r.count + 17 in
     subst P (sym is) (part_is_short id _ e.bytes r p part)
 
 module _ (tables : Tables) (cert : Certificate) (own eid tag n : ℕ) (alone : (m : ℕ) → Holds tables.plan m eid → m ≡ n) (lawful : IsLawful (records_by_place tables.plan cert n)) (id : ℕ) (r : PartRequest) where
@@ -47,11 +47,11 @@ module _ (tables : Tables) (cert : Certificate) (own eid tag n : ℕ) (alone : (
 
   -- all packets of answers are of one answer
   all_of_one : (a : PartAnswer) → AnswersPart (records_by_place tables.plan cert n) r a → (ps : List PacketValue) → AllByRecursion Reply ps
-      → AllByRecursion (IsPacketOf (unit_of tables.plan) (get_pdr_response_bytes (answer_under id a)) own (Answering tables cert own eid tag n alone lawful) 0) ps
+      → AllByRecursion (IsPacketOf (unit_of tables.plan) (get_pdr_answer_bytes (answer_under id a)) own (Answering tables cert own eid tag n alone lawful) 0) ps
   all_of_one a answered [] all = tt
   all_of_one a answered (p ∷ ps) ((b, other, spelled, is), all) =
       let same : b ≡ a = one_answer (records_by_place tables.plan cert n) r b a lawful other answered in
-      let P : PartAnswer → Type 0 = λ c. IsPacketOf (unit_of tables.plan) (get_pdr_response_bytes (answer_under id c)) own (Answering tables cert own eid tag n alone lawful) 0 p in
+      let P : PartAnswer → Type 0 = λ c. IsPacketOf (unit_of tables.plan) (get_pdr_answer_bytes (answer_under id c)) own (Answering tables cert own eid tag n alone lawful) 0 p in
       (subst P same is, all_of_one a answered ps all)
 
   -- what is told under the key of the answers is the answer
@@ -63,4 +63,4 @@ module _ (tables : Tables) (cert : Certificate) (own eid tag n : ℕ) (alone : (
       let told = step_tells tables w event outcome flight node (Answering tables cert own eid tag n alone lawful) message new step is in
       let (p, ps, (a, answered, spelled, one), joined, all) = told_joins_such tables (Answering tables cert own eid tag n alone lawful) own Reply w node message under.replied holds told in
       let short = answer_is_short id (records_by_place tables.plan cert n) r a answered in
-      (a, answered, (spelled.0, joins_to_itself (unit_of tables.plan) (get_pdr_response_bytes (answer_under id a)) own (Answering tables cert own eid tag n alone lawful) 0 ps message (omega (arith, short, few)) (all_of_one a answered ps all) joined))
+      (a, answered, (spelled.0, joins_to_itself (unit_of tables.plan) (get_pdr_answer_bytes (answer_under id a)) own (Answering tables cert own eid tag n alone lawful) 0 ps message (omega (arith, short, few)) (all_of_one a answered ps all) joined))

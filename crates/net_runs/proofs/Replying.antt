@@ -9,13 +9,13 @@ use Rattle.mctp_transport.specs.Cutting.{ArePacketsOf}
 use Rattle.mctp_transport.specs.Histories.{History}
 use Rattle.mctp_transport.specs.Hearing.{Whole}
 use Rattle.mctp_transport.proofs.PacketLists.{packets_join}
-use Rattle.pldm_message.specs.Pdrs.{PartRequest, IsPartRequest, get_pdr_request_bytes, get_pdr_response_bytes}
+use Rattle.pldm_message.specs.Pdrs.{PartRequest, IsPartRequest, get_pdr_request_bytes, get_pdr_answer_bytes}
 use Rattle.pdr_repository.specs.Records.{Entry, IsLawful}
 use Rattle.pdr_repository.specs.Parts.{PartAnswer, AnswersPart}
 use Rattle.pdr_repository.specs.Answers.{Answers}
 use Rattle.pdr_repository.specs.Walkers.{asked_under, IsAnswerIn, AnswersWalker}
 use Rattle.pdr_repository.proofs.Meeting.{requests_are_answered}
-use Rattle.net_plan.specs.declared.certificate.Certificate.{Certificate}
+use Rattle.plan_values.specs.declared.certificate.Certificate.{Certificate}
 use Rattle.net_tables.specs.Routing.{Holds}
 use Rattle.net_tables.specs.Repositories.{records_by_place}
 use Rattle.net_runs.specs.Termini.{TerminusState, AreBytes, with_waiting}
@@ -145,7 +145,7 @@ module _ (tables : Tables) (cert : Certificate) (lawful : ways.IsLawful tables c
       may N06 refused = omega arith
       may N07 refused = refused
 
-      some_bytes : (a : PartAnswer) → 0 < length (get_pdr_response_bytes (answer_under id a))
+      some_bytes : (a : PartAnswer) → 0 < length (get_pdr_answer_bytes (answer_under id a))
       some_bytes (Ok p) = omega arith
       some_bytes (Err code) = omega arith
 

@@ -1,6 +1,6 @@
 -- Who always has a row has one now, whichever rows it goes by.
 use Rattle.std.proofs.Common.{ℕ, Bool, true, false, Option, Some, None}
-use Rattle.net_plan.specs.declared.plan.Plan.{Plan}
+use Rattle.plan_values.specs.declared.plan.Plan.{Plan}
 use Rattle.net_tables.specs.Routing.{NamesFor}
 use Rattle.net_tables.specs.TwoPlans.{Tables, rows_by, HasRowInBoth, HasRowAlways}
 use Rattle.net_runs.specs.States.{NetworkState, rows_now}

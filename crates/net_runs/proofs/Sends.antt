@@ -11,10 +11,10 @@ use Rattle.mctp_transport.specs.Histories.{Arrived, History, after, Comes}
 use Rattle.mctp_transport.specs.Hearing.{Answer, Whole, Hears}
 use Rattle.mctp_transport.proofs.SomeAnswers.{some_answer}
 use Rattle.mctp_transport.proofs.InOrder.{arrivals, comes_in_order}
-use Rattle.net_plan.specs.declared.plan.Plan.{Plan}
-use Rattle.net_plan.specs.declared.certificate.Certificate.{Certificate}
+use Rattle.plan_values.specs.declared.plan.Plan.{Plan}
+use Rattle.plan_values.specs.declared.certificate.Certificate.{Certificate}
 use Rattle.net_tables.specs.Routing.{Holds}
-use Rattle.mctp_bridge.specs.declared.decision.Decision.TheVariants.{Deliver}
+use Rattle.mctp_routing.specs.declared.decision.Decision.TheVariants.{Here}
 use Rattle.net_runs.specs.States.{NetworkState, at_start, without_flight, with_input, with_packet, with_received, unit_of, slots, limit}
 use Rattle.net_tables.specs.TwoPlans.{one_plan}
 use Rattle.net_runs.specs.Events.{Put, Move, Refusal, N01, N02, N03, N04, N05, N06, N07, PutIn, Entered, IsRefused, most_flights}
@@ -83,7 +83,7 @@ module _ (plan : Plan) (n d : ℕ) (key : KeyValue) (epoch : Epoch) (there : n <
         → Step (one_plan plan) (with_packet w n p) (Move (w.made + 1) false) (Entered (w.made + 1) n key answer) (moved_turn w p answer).after
     moves answer hears =
         let H : ℕ → Type 0 = λ e. Holds plan n e in
-        (may_move, (new_flight n p, put_there, (Deliver, subst H (sym sendable.to) holds, (refl, refl, sym sendable.of_key, hears, refl))))
+        (may_move, (new_flight n p, put_there, (Here, subst H (sym sendable.to) holds, (refl, refl, sym sendable.of_key, hears, refl))))
 
     pub has_heard : (answer : Answer) → HasHeard (moved_turn w p answer).after n (made + 1) (ps ++ p ∷ [])
     has_heard answer =

@@ -9,8 +9,8 @@ use Rattle.mctp_transport.proofs.PacketLists.{all_packets, packets_join, payload
 use Rattle.mctp_transport.proofs.InOrder.{all_from, all_front}
 use Rattle.mctp_transport.proofs.Sending.{few_packets, many_packets, ends_of_six_join}
 use Rattle.std.proofs.lemmas.Option.{slice_get_within}
-use Rattle.net_plan.specs.declared.plan.Plan.{Plan}
-use Rattle.net_plan.specs.declared.certificate.Certificate.{Certificate}
+use Rattle.plan_values.specs.declared.plan.Plan.{Plan}
+use Rattle.plan_values.specs.declared.certificate.Certificate.{Certificate}
 use Rattle.net_runs.proofs.Units.{least_unit, most_unit}
 use Rattle.net_tables.specs.Routing.{Holds}
 use Rattle.net_runs.specs.States.{unit_of, limit}
@@ -26,7 +26,7 @@ message_packets plan message d key =
       source = key.source;
       som = true;
       eom = false;
-      sequence = 0;
+      number = 0;
       owner = key.owner;
       tag = key.tag;
       payload = message;
@@ -56,7 +56,7 @@ module _ (plan : Plan) (n d : ℕ) (key : KeyValue) (message : List ℕ) (there 
       let reserved = are.reserved i p at in
       let to = are.addressed i p at in
       let mine = are.of_key i p at in
-      let sequence = are.numbers i p at in
+      let number = are.numbers i p at in
       let source = ap (λ (k : KeyValue). k.source) mine in
       let tag = ap (λ (k : KeyValue). k.tag) mine in
       let narrow = fits.0 in
@@ -71,7 +71,7 @@ module _ (plan : Plan) (n d : ℕ) (key : KeyValue) (message : List ℕ) (there 
           reserved = omega arith;
           destination = omega arith;
           source = omega arith;
-          sequence = omega arith;
+          number = omega arith;
           tag = omega arith;
           some = some;
           most = within_unit (unit_of plan) message _ i p.payload are.cut (omega arith) payload;

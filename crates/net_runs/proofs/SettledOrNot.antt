@@ -5,7 +5,7 @@ use Rattle.std.proofs.lemmas.Option.{same_Some}
 use Rattle.mctp_transport.specs.PacketValues.{KeyValue, key_of}
 use Rattle.mctp_transport.specs.Histories.{IsOpen}
 use Rattle.mctp_transport.proofs.SomeAnswers.{open_or_not}
-use Rattle.net_plan.specs.declared.plan.Plan.{Plan}
+use Rattle.plan_values.specs.declared.plan.Plan.{Plan}
 use Rattle.net_tables.specs.Routing.{Holds}
 use Rattle.net_runs.specs.Termini.{TerminusState, WaitingMessage}
 use Rattle.net_runs.specs.States.{NetworkState, Flight, destination, slots, limit}

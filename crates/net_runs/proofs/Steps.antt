@@ -11,15 +11,15 @@ use Rattle.mctp_transport.specs.PacketsLeft.{cut}
 use Rattle.mctp_transport.proofs.PacketLists.{all_packets}
 use Rattle.mctp_transport.proofs.SomeAnswers.{some_answer, open_or_not}
 use Rattle.mctp_transport.proofs.Spellings.{spelled_or_not}
-use Rattle.net_plan.specs.declared.plan.Plan.{Plan}
-use Rattle.net_plan.specs.declared.nodes.Node.{Node}
-use Rattle.net_plan.specs.declared.nodes.Row.{Row}
-use Rattle.net_plan.specs.declared.nodes.Kind.TheVariants.{Bridge, Endpoint}
+use Rattle.plan_values.specs.declared.plan.Plan.{Plan}
+use Rattle.plan_values.specs.declared.nodes.Node.{Node}
+use Rattle.plan_values.specs.declared.nodes.Row.{Row}
+use Rattle.plan_values.specs.declared.nodes.Kind.TheVariants.{Bridge, Endpoint}
 use Rattle.net_runs.proofs.Units.{least_unit}
 use Rattle.net_tables.specs.Routing.{Holds, IsBridge, node_at, eid_of, NamesFor}
-use Rattle.mctp_bridge.specs.declared.decision.Decision.{Decision}
-use Rattle.mctp_bridge.specs.declared.decision.ForwardFault.TheVariants.{Unassignable, NoBridge, NoRow}
-use Rattle.mctp_bridge.specs.declared.decision.Decision.TheVariants.{Deliver, Drop, Forward}
+use Rattle.mctp_routing.specs.declared.decision.Decision.{Decision}
+use Rattle.mctp_routing.specs.declared.decision.ForwardFault.TheVariants.{Unassignable, NoBridge, NoRow}
+use Rattle.mctp_routing.specs.declared.decision.Decision.TheVariants.{Here, Drop, Forward}
 use Rattle.net_runs.specs.Termini.{TerminusState, WaitingMessage, AreBytes, HoldsBytes}
 use Rattle.net_runs.specs.States.{NetworkState, Flight, destination, with_flight, without_flight, with_made, with_input, with_terminus, with_packet, with_packets, with_received, with_switched, unit_of, slots, limit, rows_now}
 use Rattle.net_tables.specs.TwoPlans.{Tables}
@@ -113,7 +113,7 @@ assignable_or_not e = both_or_not _ _ (at_most_or_not 8 e) (at_most_or_not e 254
 -- some decision is taken
 some_decision : (plan : Plan) (rows : List Row) (f : Flight) → (decision : Decision) × IsDecided plan rows f decision
 some_decision plan rows f = elim (holds_or_not plan f.node (destination f)) [
-  | inl here ↦ (Deliver, here)
+  | inl here ↦ (Here, here)
   | inr away ↦ elim (assignable_or_not (destination f)) [
     | inr not ↦ (Drop Unassignable, (away, not))
     | inl may ↦ elim (either_or_not _ _ (bridge_or_not plan f.node) (same_or_not f.hops 0)) [
@@ -138,12 +138,12 @@ some_move : (tables : Tables) (w : NetworkState) (number : ℕ) (f : Flight) →
 some_move tables w number f = by (some_decision tables.plan (rows_now tables w f.node) f)
   where
     by : (decision : Decision) × IsDecided tables.plan (rows_now tables w f.node) f decision → SomeMove tables w number f
-    by (Deliver, holds) =
+    by (Here, holds) =
         let heard = some_answer slots limit (w.history f.node) f.packet in
         record {
           outcome = Entered number f.node (key_of f.packet) heard.0;
           new = with_received (with_input w f.node (Arrived f.packet)) f.node (key_of f.packet) heard.0;
-          moves = (Deliver, holds, (refl, refl, refl, heard.1.hears, refl));
+          moves = (Here, holds, (refl, refl, refl, heard.1.hears, refl));
         }
     by (Drop why, decided) = record { outcome = Stopped number why; new = w; moves = (Drop why, decided, (refl, refl, refl)) }
     by (Forward hop, decided) = record {
@@ -185,7 +185,7 @@ some_packets plan answer destination key =
       source = key.source;
       som = true;
       eom = false;
-      sequence = 0;
+      number = 0;
       owner = key.owner;
       tag = key.tag;
       payload = answer;

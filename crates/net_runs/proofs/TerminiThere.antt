@@ -5,10 +5,10 @@ use Rattle.std.proofs.lemmas.Option.{none-some}
 use Rattle.mctp_transport.specs.PacketValues.{KeyValue}
 use Rattle.mctp_transport.specs.Histories.{Arrived}
 use Rattle.mctp_transport.specs.Hearing.{Answer, Whole, Held, Dropped}
-use Rattle.mctp_bridge.specs.declared.decision.Decision.TheVariants.{Deliver, Drop, Forward}
-use Rattle.net_plan.specs.declared.plan.Plan.{Plan}
-use Rattle.net_plan.specs.declared.certificate.Certificate.{Certificate}
-use Rattle.net_plan.specs.declared.terminus.PlannedTerminus.{PlannedTerminus}
+use Rattle.mctp_routing.specs.declared.decision.Decision.TheVariants.{Here, Drop, Forward}
+use Rattle.plan_values.specs.declared.plan.Plan.{Plan}
+use Rattle.plan_values.specs.declared.certificate.Certificate.{Certificate}
+use Rattle.plan_values.specs.declared.terminus.PlannedTerminus.{PlannedTerminus}
 use Rattle.net_tables.specs.Repositories.{terminus_of, records_by_place}
 use Rattle.net_runs.specs.Termini.{TerminusState, WaitingMessage, with_waiting}
 use Rattle.net_runs.specs.States.{NetworkState, Flight, at_start, without_flight, with_made, with_input, with_terminus, with_received}
@@ -40,7 +40,7 @@ module _ (tables : Tables) (cert : Certificate) where
 
   moves_keep : (w : NetworkState) (k : ℕ) (f : Flight) (outcome : OutcomeValue) (new : NetworkState) → TerminiAreThere tables.plan w → Moves tables w k f outcome new
       → TerminiAreThere tables.plan new
-  moves_keep w k f (Entered j node key answer) new kept (Deliver, holds, (number, at, whose, hears, is)) =
+  moves_keep w k f (Entered j node key answer) new kept (Here, holds, (number, at, whose, hears, is)) =
       let P : NetworkState → Type 0 = TerminiAreThere tables.plan in
       subst P (sym is) (received_keeps (with_input w f.node (Arrived f.packet)) f.node key answer kept)
   moves_keep w k f (Stopped j told) new kept (Drop why, decided, (number, same, is)) = let P : NetworkState → Type 0 = TerminiAreThere tables.plan in subst P (sym is) kept

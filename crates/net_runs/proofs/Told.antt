@@ -7,7 +7,7 @@ use Rattle.mctp_transport.specs.Hearing.{Answer, Whole, Hears}
 use Rattle.mctp_transport.proofs.Openness.{last_input}
 use Rattle.mctp_transport.proofs.FirstIndexes.{snoc_same}
 use Rattle.mctp_transport.proofs.Verdicts.{hears_one}
-use Rattle.mctp_bridge.specs.declared.decision.Decision.TheVariants.{Deliver, Drop, Forward}
+use Rattle.mctp_routing.specs.declared.decision.Decision.TheVariants.{Here, Drop, Forward}
 use Rattle.net_runs.specs.States.{NetworkState, Flight, without_flight, with_made, with_input, with_terminus, slots, limit}
 use Rattle.net_tables.specs.TwoPlans.{Tables}
 use Rattle.net_runs.specs.Events.{EventValue, Put, Move, Lose, Expire, AnswerAt, Switch, OutcomeValue, PutIn, Moved, Entered, Stopped, Lost, Expired, Answered, Silent, Switched, Refused}
@@ -38,7 +38,7 @@ module _ (tables : Tables) (n : ℕ) (key : KeyValue) (message : List ℕ) where
 
   moves_told : (v : NetworkState) (k : ℕ) (f : Flight) (outcome : OutcomeValue) (new : NetworkState) → Moves tables v k f outcome new → ComesAt v new n key message
       → IsTold n key message outcome
-  moves_told v k f (Entered j node told answer) new (Deliver, holds, (number, at, whose, hears, is)) comes =
+  moves_told v k f (Entered j node told answer) new (Here, holds, (number, at, whose, hears, is)) comes =
       let entered : NetworkState = with_input v f.node (Arrived f.packet) in
       let kept : new.history n ≡ entered.history n =
       ap (λ (u : NetworkState). u.history n) is ∙ ap (λ history. history n) (received_same entered f.node told answer).history in

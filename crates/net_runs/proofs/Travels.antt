@@ -6,10 +6,10 @@ use Rattle.std.proofs.lemmas.Option.{none-some}
 use Rattle.mctp_transport.specs.PacketValues.{PacketValue, KeyValue, key_of}
 use Rattle.mctp_transport.specs.Histories.{Arrived, History, after}
 use Rattle.mctp_transport.specs.Hearing.{Answer, Whole, Held, Dropped, Hears}
-use Rattle.mctp_bridge.specs.declared.row.Hop.{Hop}
-use Rattle.mctp_bridge.specs.Rows.{Routes}
-use Rattle.mctp_bridge.specs.declared.decision.Decision.TheVariants.{Deliver, Forward}
-use Rattle.net_plan.specs.declared.certificate.Certificate.{Certificate}
+use Rattle.mctp_routing.specs.declared.row.Hop.{Hop}
+use Rattle.mctp_routing.specs.Rows.{Routes}
+use Rattle.mctp_routing.specs.declared.decision.Decision.TheVariants.{Here, Forward}
+use Rattle.plan_values.specs.declared.certificate.Certificate.{Certificate}
 use Rattle.net_tables.specs.Routing.{Holds, IsBridge, NamesFor}
 use Rattle.net_tables.specs.Ranks.{rank}
 use Rattle.net_tables.specs.Tables.{table_row}
@@ -157,7 +157,7 @@ module _ (tables : Tables) (cert : Certificate) (lawful : IsLawful tables cert) 
           let heard_here : u.history g.node ≡ w.history m = ap (λ history. history g.node) come.same.history ∙ ap w.history at in
           let hears_here : E (u.history g.node) g.packet = subst (λ h. E h g.packet) (sym heard_here) (subst (E (w.history m)) (sym come.packet) hears) in
           let step : Step tables u (Move k false) (Entered k g.node (key_of g.packet) answer) new =
-          (may_move u k g come.there, (g, come.there, (Deliver, subst H (sym (ap (λ (q : PacketValue). q.destination) come.packet)) come.holds, (refl, refl, refl, hears_here, refl)))) in
+          (may_move u k g come.there, (g, come.there, (Here, subst H (sym (ap (λ (q : PacketValue). q.destination) come.packet)) come.holds, (refl, refl, refl, hears_here, refl)))) in
           let S : ℕ → PacketValue → Type 0 = λ n q. Step tables u (Move k false) (Entered k n (key_of q) answer) new in
           let told = subst (λ n. S n f.packet) at (subst (S g.node) come.packet step) in
           let same = received_same v g.node (key_of g.packet) answer in

@@ -6,17 +6,17 @@ use Rattle.std.proofs.lemmas.Option.{same_Some}
 use Rattle.mctp_transport.specs.PacketValues.{PacketValue, KeyValue, key_of, Spelled}
 use Rattle.mctp_transport.specs.Sending.{IsPacketOf}
 use Rattle.mctp_transport.proofs.Sending.{joins_to_itself}
-use Rattle.pldm_message.specs.Pdrs.{PartRequest, IsPartRequest, get_pdr_request_bytes, get_pdr_response_bytes, Part}
+use Rattle.pldm_message.specs.Pdrs.{PartRequest, IsPartRequest, get_pdr_request_bytes, get_pdr_answer_bytes, Part}
 use Rattle.pldm_message.specs.Messages.{ResponseMessage}
 use Rattle.pdr_repository.specs.Records.{Entry, IsLawful}
 use Rattle.pdr_repository.specs.Parts.{PartAnswer, AnswersPart}
 use Rattle.pdr_repository.specs.Answers.{Answers}
 use Rattle.pdr_repository.specs.Walkers.{asked_under, IsAnswerIn, AnswersWalker}
 use Rattle.pdr_repository.proofs.Meeting.{requests_are_answered}
-use Rattle.net_plan.specs.declared.plan.Plan.{Plan}
+use Rattle.plan_values.specs.declared.plan.Plan.{Plan}
 use Rattle.net_runs.proofs.Units.{least_unit}
 use Rattle.net_tables.specs.TwoPlans.{Tables}
-use Rattle.net_plan.specs.declared.certificate.Certificate.{Certificate}
+use Rattle.plan_values.specs.declared.certificate.Certificate.{Certificate}
 use Rattle.net_tables.specs.Routing.{Holds}
 use Rattle.net_tables.specs.Repositories.{records_by_place}
 use Rattle.net_runs.specs.Termini.{WaitingMessage}
@@ -54,8 +54,8 @@ module _ (tables : Tables) (cert : Certificate) (own eid tag n : ℕ) (alone : (
 
     abbrev pub IsOfReply : PacketValue → Type 0
     IsOfReply p = (a : PartAnswer) × AnswersPart (records_by_place tables.plan cert n) r a
-        × IsAnswerIn (get_pdr_response_bytes (answer_under id a)) (answer_under id a)
-        × IsPacketOf (unit_of tables.plan) (get_pdr_response_bytes (answer_under id a)) own Answering 0 p
+        × IsAnswerIn (get_pdr_answer_bytes (answer_under id a)) (answer_under id a)
+        × IsPacketOf (unit_of tables.plan) (get_pdr_answer_bytes (answer_under id a)) own Answering 0 p
 
     abbrev pub WaitsAsked : ℕ → WaitingMessage → Type 0
     WaitsAsked m message = Holds tables.plan m eid → message.key ≡ Asking → message.bytes ≡ get_pdr_request_bytes (asked_under id r)
@@ -104,10 +104,10 @@ module _ (tables : Tables) (cert : Certificate) (own eid tag n : ℕ) (alone : (
           let B : List ℕ → Type 0 = λ bytes. Answers by.state.tid (records_by_place tables.plan cert n) bytes (Some by.answer) by.next_tid in
           let answered : AnswersWalker (records_by_place tables.plan cert n) id r (Some by.answer) =
           requests_are_answered by.state.tid by.next_tid id (records_by_place tables.plan cert n) r (Some by.answer) lawful under.request under.small (subst B same (subst A records by.answers)) in
-          let is : by.answer ≡ get_pdr_response_bytes (answer_under id answered.outcome) = same_Some by.answer answered.bytes answered.is ∙ answered.spelled.1 in
+          let is : by.answer ≡ get_pdr_answer_bytes (answer_under id answered.outcome) = same_Some by.answer answered.bytes answered.is ∙ answered.spelled.1 in
           let P : List ℕ → Type 0 = λ bytes. IsPacketOf (unit_of tables.plan) bytes by.oldest.key.source (answer_key by.eid by.oldest.key) 0 p in
-          let Q : ℕ → Type 0 = λ d. IsPacketOf (unit_of tables.plan) (get_pdr_response_bytes (answer_under id answered.outcome)) d (answer_key by.eid by.oldest.key) 0 p in
-          let R : KeyValue → Type 0 = λ k. IsPacketOf (unit_of tables.plan) (get_pdr_response_bytes (answer_under id answered.outcome)) own k 0 p in
+          let Q : ℕ → Type 0 = λ d. IsPacketOf (unit_of tables.plan) (get_pdr_answer_bytes (answer_under id answered.outcome)) d (answer_key by.eid by.oldest.key) 0 p in
+          let R : KeyValue → Type 0 = λ k. IsPacketOf (unit_of tables.plan) (get_pdr_answer_bytes (answer_under id answered.outcome)) own k 0 p in
           (answered.outcome, answered.answered, (answered.spelled.0, refl), subst R key (subst Q its_source (subst P is by.is)))
 
       reply_puts : PutsSuch tables Answering own IsOfReply (IsPutOf tables.plan event outcome new)

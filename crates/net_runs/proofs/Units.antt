@@ -1,6 +1,6 @@
 -- The bounds of a plan's transmission unit, and of a part whose answer is of five packets at most.
 use Rattle.std.proofs.Common.{ℕ, ◌+◌, ◌*◌, ◌≤◌, arith}
-use Rattle.net_plan.specs.declared.plan.Plan.{Plan}
+use Rattle.plan_values.specs.declared.plan.Plan.{Plan}
 use Rattle.net_runs.specs.States.{unit_of}
 use Rattle.net_runs.specs.Walkers.{five_packets}
 

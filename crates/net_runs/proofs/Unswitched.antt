@@ -6,10 +6,10 @@ use Rattle.std.proofs.lemmas.List.Elements.{recursion_from_All}
 use Rattle.mctp_transport.specs.PacketValues.{PacketValue, KeyValue}
 use Rattle.mctp_transport.specs.Histories.{Arrived}
 use Rattle.mctp_transport.specs.Hearing.{Answer, Whole, Held, Dropped}
-use Rattle.mctp_bridge.specs.declared.decision.Decision.TheVariants.{Deliver, Drop, Forward}
-use Rattle.net_plan.specs.declared.plan.Plan.{Plan}
-use Rattle.net_plan.specs.declared.nodes.Row.{Row}
-use Rattle.net_plan.specs.declared.certificate.Certificate.{Certificate}
+use Rattle.mctp_routing.specs.declared.decision.Decision.TheVariants.{Here, Drop, Forward}
+use Rattle.plan_values.specs.declared.plan.Plan.{Plan}
+use Rattle.plan_values.specs.declared.nodes.Row.{Row}
+use Rattle.plan_values.specs.declared.certificate.Certificate.{Certificate}
 use Rattle.net_tables.specs.Routing.{rows_of}
 use Rattle.net_tables.specs.TwoPlans.{Tables, moving, rows_by}
 use Rattle.net_runs.specs.Termini.{with_waiting}
@@ -94,7 +94,7 @@ packets_switched w node (p ∷ ps) = packets_switched (with_packet w node p) nod
 
 moves_switched : (tables : Tables) (v : NetworkState) (k : ℕ) (f : Flight) (outcome : OutcomeValue) (new : NetworkState) → Moves tables v k f outcome new
     → new.switched ≡ v.switched
-moves_switched tables v k f (Entered j node key answer) new (Deliver, holds, (number, at, whose, hears, is)) =
+moves_switched tables v k f (Entered j node key answer) new (Here, holds, (number, at, whose, hears, is)) =
     ap (λ (u : NetworkState). u.switched) is ∙ received_switched (with_input v f.node (Arrived f.packet)) f.node key answer
 moves_switched tables v k f (Stopped j told) new (Drop why, decided, (number, same, is)) = ap (λ (u : NetworkState). u.switched) is
 moves_switched tables v k f (Moved j node hops) new (Forward hop, decided, (number, at, more, is)) = ap (λ (u : NetworkState). u.switched) is

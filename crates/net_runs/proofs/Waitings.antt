@@ -7,7 +7,7 @@ use Rattle.std.proofs.lemmas.Option.{same_Some}
 use Rattle.mctp_transport.specs.PacketValues.{KeyValue}
 use Rattle.mctp_transport.specs.Histories.{Arrived}
 use Rattle.mctp_transport.specs.Hearing.{Answer, Whole, Held, Dropped}
-use Rattle.mctp_bridge.specs.declared.decision.Decision.TheVariants.{Deliver, Drop, Forward}
+use Rattle.mctp_routing.specs.declared.decision.Decision.TheVariants.{Here, Drop, Forward}
 use Rattle.net_tables.specs.TwoPlans.{Tables}
 use Rattle.net_runs.specs.Termini.{TerminusState, WaitingMessage, with_waiting}
 use Rattle.net_runs.specs.States.{NetworkState, Flight, without_flight, with_made, with_input, with_terminus, with_received}
@@ -49,7 +49,7 @@ module _ (tables : Tables) (P : ℕ → WaitingMessage → Type 0) where
 
   moves_waiting : (v : NetworkState) (k : ℕ) (f : Flight) (outcome : OutcomeValue) (new : NetworkState) → EachWaiting P v → Moves tables v k f outcome new
       → ((n : ℕ) (m : WaitingMessage) → IsToldAt outcome n m → P n m) → EachWaiting P new
-  moves_waiting v k f (Entered j node key answer) new each (Deliver, holds, (number, at, whose, hears, is)) told =
+  moves_waiting v k f (Entered j node key answer) new each (Here, holds, (number, at, whose, hears, is)) told =
       let E : NetworkState → Type 0 = EachWaiting P in
       let T : ℕ → Type 0 = λ m. (n : ℕ) (x : WaitingMessage) → IsToldAt (Entered j m key answer) n x → P n x in
       subst E (sym is) (received_waiting (with_input v f.node (Arrived f.packet)) f.node j key answer each (subst T at told))

@@ -18,11 +18,11 @@ use Rattle.std.specs.Option.{option_to_list}
 use Rattle.pdr_repository.specs.Records.{change_in}
 use Rattle.pdr_repository.specs.Parts.{PartAnswer}
 use Rattle.pdr_repository.specs.Walks.{first_part, follows}
-use Rattle.pdr_repository.specs.declared.walk_fault.WalkProgress.{WalkProgress}
+use Rattle.pdr_repository.specs.declared.walk_fault.Step.{Step as WalkStep}
 use Rattle.pdr_repository.specs.declared.walk_fault.WalkFault.{WalkFault}
 use Rattle.pdr_repository.specs.Walkers.{WalkState, asked_under, Asks, IsAnswerIn, Takes, TakesOutcome, Proceeds, Fails}
-use Rattle.net_plan.specs.declared.plan.Plan.{Plan}
-use Rattle.net_plan.specs.declared.certificate.Certificate.{Certificate}
+use Rattle.plan_values.specs.declared.plan.Plan.{Plan}
+use Rattle.plan_values.specs.declared.certificate.Certificate.{Certificate}
 use Rattle.net_runs.proofs.Units.{part_fits}
 use Rattle.net_tables.specs.Routing.{Holds}
 use Rattle.net_runs.specs.Termini.{AreBytes}
@@ -116,32 +116,32 @@ data_are_bytes bytes head p all is =
     right_bytes (part_numbers p) p.bytes (front_bytes (part_numbers p ++ p.bytes) (option_to_list p.crc) tail)
 
 -- what a walker is like after it has taken an answer
-pub record HasAnswered (old : WalkState) (result : Result WalkProgress WalkFault) (new : WalkState) : Type 0 where
-  pub step : WalkProgress
+pub record HasAnswered (old : WalkState) (result : Result WalkStep WalkFault) (new : WalkState) : Type 0 where
+  pub step : WalkStep
   pub told : result ≡ Ok step
   pub waiting : new.waiting ≡ None
   pub due : (s : PartRequest) → new.due ≡ Some s → IsPartRequest s
 
 -- what it is like where it hasn't
-pub record HasNotAnswered (old : WalkState) (result : Result WalkProgress WalkFault) (new : WalkState) : Type 0 where
+pub record HasNotAnswered (old : WalkState) (result : Result WalkStep WalkFault) (new : WalkState) : Type 0 where
   pub fault : WalkFault
   pub told : result ≡ Err fault
   pub waiting : new.waiting ≡ old.waiting
   pub due : new.due ≡ old.due
 
-abbrev Made : WalkState → Result WalkProgress WalkFault → WalkState → Type 0
+abbrev Made : WalkState → Result WalkStep WalkFault → WalkState → Type 0
 Made old result new = HasAnswered old result new ⊎ HasNotAnswered old result new
 
-stays : (old : WalkState) (result : Result WalkProgress WalkFault) (new : WalkState) (fault : WalkFault) → result ≡ Err fault → new.waiting ≡ old.waiting → new.due ≡ old.due → Made old result new
+stays : (old : WalkState) (result : Result WalkStep WalkFault) (new : WalkState) (fault : WalkFault) → result ≡ Err fault → new.waiting ≡ old.waiting → new.due ≡ old.due → Made old result new
 stays old result new fault told waiting due = inr (record { fault = fault; told = told; waiting = waiting; due = due })
 
-fails : (old : WalkState) (result : Result WalkProgress WalkFault) (new : WalkState) (fault : WalkFault) → Fails old fault result new → Made old result new
+fails : (old : WalkState) (result : Result WalkStep WalkFault) (new : WalkState) (fault : WalkFault) → Fails old fault result new → Made old result new
 fails old result new fault (told, is) = stays old result new fault told (ap (λ (v : WalkState). v.waiting) is) (ap (λ (v : WalkState). v.due) is)
 
-ignores : (old : WalkState) (result : Result WalkProgress WalkFault) (new : WalkState) (fault : WalkFault) → result ≡ Err fault → new ≡ old → Made old result new
+ignores : (old : WalkState) (result : Result WalkStep WalkFault) (new : WalkState) (fault : WalkFault) → result ≡ Err fault → new ≡ old → Made old result new
 ignores old result new fault told is = stays old result new fault told (ap (λ (v : WalkState). v.waiting) is) (ap (λ (v : WalkState). v.due) is)
 
-proceeds : (old : WalkState) (r : PartRequest) (p : Part) (result : Result WalkProgress WalkFault) (new : WalkState) → IsPartRequest r → IsPart p → EachByte p.bytes → Proceeds old r p result new
+proceeds : (old : WalkState) (r : PartRequest) (p : Part) (result : Result WalkStep WalkFault) (new : WalkState) → IsPartRequest r → IsPart p → EachByte p.bytes → Proceeds old r p result new
     → Made old result new
 proceeds old r p (Ok step) new lawful part all (says, is) = inl (record {
   step = step;
@@ -151,14 +151,14 @@ proceeds old r p (Ok step) new lawful part all (says, is) = inl (record {
 })
 proceeds old r p (Err fault) new lawful part all (why, is) = ignores old (Err fault) new fault refl is
 
-outcome_made : (old : WalkState) (r : PartRequest) (head : ResponseHeadValue) (a : PartAnswer) (bytes : List ℕ) (result : Result WalkProgress WalkFault) (new : WalkState) → IsPartRequest r → EachByte bytes
+outcome_made : (old : WalkState) (r : PartRequest) (head : ResponseHeadValue) (a : PartAnswer) (bytes : List ℕ) (result : Result WalkStep WalkFault) (new : WalkState) → IsPartRequest r → EachByte bytes
     → IsAnswerIn bytes (record { head = head; outcome = a }) → TakesOutcome old r a result new → Made old result new
 outcome_made old r head (Err code) bytes result new lawful all is (inl (_, out)) = fails old result new _ out
 outcome_made old r head (Err code) bytes result new lawful all is (inr (_, out)) = fails old result new _ out
 outcome_made old r head (Ok p) bytes result new lawful all is (Some fault, judges, out) = fails old result new fault out
 outcome_made old r head (Ok p) bytes result new lawful all is (None, judges, out) = proceeds old r p result new lawful is.0.1 (data_are_bytes bytes head p all is) out
 
-takes_made : (old : WalkState) (bytes : List ℕ) (result : Result WalkProgress WalkFault) (new : WalkState) → ((r : PartRequest) → old.due ≡ Some r → IsPartRequest r) → EachByte bytes
+takes_made : (old : WalkState) (bytes : List ℕ) (result : Result WalkStep WalkFault) (new : WalkState) → ((r : PartRequest) → old.due ≡ Some r → IsPartRequest r) → EachByte bytes
     → Takes old bytes result new → Made old result new
 takes_made old bytes result new lawful all (inl (_, (told, is))) = ignores old result new _ told is
 takes_made old bytes result new lawful all (inr (_, inl (_, (told, is)))) = ignores old result new _ told is
@@ -170,13 +170,13 @@ takes_made old bytes result new lawful all (inr (_, inr (_, inr (_, (h, begins, 
 
 -- ---- a walker that is handed a message, and one that asks
 
-pub handed_is_kept : (plan : Plan) (walker : WalkerValue) (message : List ℕ) (result : Result WalkProgress WalkFault) (walk : WalkState) (ids : IdSet) → IsKept plan walker → EachByte message
+pub handed_is_kept : (plan : Plan) (walker : WalkerValue) (message : List ℕ) (result : Result WalkStep WalkFault) (walk : WalkState) (ids : IdSet) → IsKept plan walker → EachByte message
     → Takes walker.walk message result walk
     → MatchResult result (λ step. (id : ℕ) × (walker.walk.waiting ≡ Some id) × TakesBack walker.ids id ids) (λ fault. ids ≡ walker.ids)
     → IsKept plan (record walker { walk = walk; ids = ids; ended = ended_after walker.ended result })
 handed_is_kept plan walker message result walk ids kept all takes given = by result (takes_made walker.walk message result walk kept.due all takes) given
   where
-    by : (result : Result WalkProgress WalkFault) → Made walker.walk result walk
+    by : (result : Result WalkStep WalkFault) → Made walker.walk result walk
         → MatchResult result (λ step. (id : ℕ) × (walker.walk.waiting ≡ Some id) × TakesBack walker.ids id ids) (λ fault. ids ≡ walker.ids)
         → IsKept plan (record walker { walk = walk; ids = ids; ended = ended_after walker.ended result })
     by (Ok step) (inr made) given = absurd (let e : Ok step ≡ Err made.fault = made.told in cc)
@@ -268,7 +268,7 @@ frame_is_bytes unit p frame all =
     let eom = bit_most p.eom in
     let owner = bit_most p.owner in
     let reserved = frame.reserved in
-    let sequence = frame.sequence in
+    let number = frame.number in
     let tag = frame.tag in
     (omega arith, (frame.destination, (frame.source, (omega arith, all))))
 

@@ -9,10 +9,10 @@ use Rattle.mctp_transport.proofs.PacketLists.{payload_at}
 use Rattle.mctp_transport.proofs.Sending.{few_packets, many_packets}
 use Rattle.pldm_message.specs.InstanceIds.{IdSet, IsFree, Gives, TakesBack, first_place, steps_to}
 use Rattle.pldm_message.specs.Pdrs.{PartRequest, get_pdr_request_bytes}
-use Rattle.pdr_repository.specs.declared.walk_fault.WalkProgress.{WalkProgress}
+use Rattle.pdr_repository.specs.declared.walk_fault.Step.{Step as WalkStep}
 use Rattle.pdr_repository.specs.declared.walk_fault.WalkFault.{WalkFault}
 use Rattle.pdr_repository.specs.Walkers.{asked_under}
-use Rattle.net_plan.specs.declared.plan.Plan.{Plan}
+use Rattle.plan_values.specs.declared.plan.Plan.{Plan}
 use Rattle.net_runs.proofs.Units.{least_unit}
 use Rattle.net_tables.specs.Routing.{Holds}
 use Rattle.net_runs.specs.States.{NetworkState, with_packet, unit_of}
@@ -166,14 +166,14 @@ packets_are_frames unit message d key p small narrow short are =
     let reserved = are.reserved 0 p refl in
     let to = are.addressed 0 p refl in
     let mine = are.of_key 0 p refl in
-    let sequence = are.numbers 0 p refl in
+    let number = are.numbers 0 p refl in
     let source = ap (λ (k : KeyValue). k.source) mine in
     let tag = ap (λ (k : KeyValue). k.tag) mine in
     record {
       reserved = omega arith;
       destination = omega arith;
       source = omega arith;
-      sequence = omega arith;
+      number = omega arith;
       tag = omega arith;
       some = (are.cut.last 0 p.payload (payload_at (p ∷ []) 0 p refl) refl).0;
       most = (are.cut.last 0 p.payload (payload_at (p ∷ []) 0 p refl) refl).1;
@@ -370,7 +370,7 @@ module _ (tables : Tables) (w : WalkedState) (can : CanGoOn tables.plan w) where
         )
   ]
     where
-      given_back : (walker : WalkerValue) (result : Result WalkProgress WalkFault) → MatchResult result (λ step. (id : ℕ) × (walker.walk.waiting ≡ Some id)) (λ fault. Unit {0})
+      given_back : (walker : WalkerValue) (result : Result WalkStep WalkFault) → MatchResult result (λ step. (id : ℕ) × (walker.walk.waiting ≡ Some id)) (λ fault. Unit {0})
           → (ids : IdSet) × MatchResult result (λ step. (id : ℕ) × (walker.walk.waiting ≡ Some id) × TakesBack walker.ids id ids) (λ fault. ids ≡ walker.ids)
       given_back walker (Ok step) (id, waiting) =
           (record { out = λ i. not (nat_eq i id) && walker.ids.out i; last = walker.ids.last }, (id, waiting, record { out = λ i. refl; last = refl }))

@@ -10,14 +10,14 @@ use Rattle.pdr_repository.specs.Records.{IsLawful}
 use Rattle.pdr_repository.specs.Parts.{PartAnswer, AnswersPart}
 use Rattle.pdr_repository.specs.Walks.{Exchange, Walk, Collects, due_after}
 use Rattle.pdr_repository.specs.Walkers.{WalkState, Takes, IsAnswerIn, IsDueAnswer, WalksOn}
-use Rattle.pdr_repository.specs.declared.walk_fault.WalkProgress.{WalkProgress}
+use Rattle.pdr_repository.specs.declared.walk_fault.Step.{Step as WalkStep}
 use Rattle.pdr_repository.specs.declared.walk_fault.WalkFault.{WalkFault}
 use Rattle.pdr_repository.specs.declared.walk_fault.WalkFault.TheVariants.{FailedBefore, NotAsked, TooMuch, OutOfMemory}
 use Rattle.pdr_repository.proofs.Walks.{stands}
 use Rattle.pdr_repository.proofs.Following.{goes_on}
-use Rattle.net_plan.specs.declared.plan.Plan.{Plan}
+use Rattle.plan_values.specs.declared.plan.Plan.{Plan}
 use Rattle.net_tables.specs.TwoPlans.{Tables}
-use Rattle.net_plan.specs.declared.certificate.Certificate.{Certificate}
+use Rattle.plan_values.specs.declared.certificate.Certificate.{Certificate}
 use Rattle.net_tables.specs.Routing.{Holds}
 use Rattle.net_tables.specs.Repositories.{records_by_place}
 use Rattle.net_runs.specs.States.{NetworkState, unit_of}
@@ -41,13 +41,13 @@ pub record Walks (plan : Plan) (cert : Certificate) (n : ℕ) (first walker : Wa
       ⊎ ((walker.walk.failed ≡ false) × (walker.ended ≡ None) × (walker.walk.taken ≡ length taken))
 
 -- of a message no exchange is taken, or this one is
-abbrev pub Grows : WalkerValue → List ℕ → Result WalkProgress WalkFault → List Exchange → List Exchange → Type 0
+abbrev pub Grows : WalkerValue → List ℕ → Result WalkStep WalkFault → List Exchange → List Exchange → Type 0
 Grows walker message result old new =
-    (((step : WalkProgress) → result ≢ Ok step) × (new ≡ old))
-    ⊎ ((x : Exchange) × (step : WalkProgress) × (result ≡ Ok step) × IsExchange walker message x × (new ≡ old ++ x ∷ []))
+    (((step : WalkStep) → result ≢ Ok step) × (new ≡ old))
+    ⊎ ((x : Exchange) × (step : WalkStep) × (result ≡ Ok step) × IsExchange walker message x × (new ≡ old ++ x ∷ []))
 
-not_taken : (result : Result WalkProgress WalkFault) (fault : WalkFault) → result ≡ Err fault → (step : WalkProgress) → result ≢ Ok step
-not_taken result fault told step is = absurd (let e : ◌≡◌ {A = Result WalkProgress WalkFault} (Err fault) (Ok step) = sym told ∙ is in cc)
+not_taken : (result : Result WalkStep WalkFault) (fault : WalkFault) → result ≡ Err fault → (step : WalkStep) → result ≢ Ok step
+not_taken result fault told step is = absurd (let e : ◌≡◌ {A = Result WalkStep WalkFault} (Err fault) (Ok step) = sym told ∙ is in cc)
 
 module _ (tables : Tables) (cert : Certificate) (own n : ℕ) (first : WalkerValue) (home : Holds tables.plan first.node own) (alone : (m : ℕ) → Holds tables.plan m first.eid → m ≡ n)
     (lawful : IsLawful (records_by_place tables.plan cert n)) (least : 8 ≤ first.walk.count) (most : first.walk.count ≤ 4079) (few : first.walk.count + 17 ≤ 5 * (unit_of tables.plan)) where
@@ -77,7 +77,7 @@ module _ (tables : Tables) (cert : Certificate) (own n : ℕ) (first : WalkerVal
   ]
 
   -- what comes of a message: the walker goes on, with a code that it may have, and waits for nothing new
-  pub record GoesWell (w : NetworkState) (walker : WalkerValue) (message : List ℕ) (old : List Exchange) (result : Result WalkProgress WalkFault) (walk : WalkState) : Type 0 where
+  pub record GoesWell (w : NetworkState) (walker : WalkerValue) (message : List ℕ) (old : List Exchange) (result : Result WalkStep WalkFault) (walk : WalkState) : Type 0 where
     pub goes : (next : WalkerValue) → next.node ≡ walker.node → next.eid ≡ walker.eid → next.tag ≡ walker.tag → next.walk ≡ walk → next.ended ≡ ended_after walker.ended result
         → (walks : Walks tables.plan cert n first next) × Grows walker message result old walks.taken
     pub phase : Phase w walk
@@ -102,11 +102,11 @@ module _ (tables : Tables) (cert : Certificate) (own n : ℕ) (first : WalkerVal
       )
 
   -- it makes nothing of the message
-  ignores : (w : NetworkState) (walker : WalkerValue) (message : List ℕ) (result : Result WalkProgress WalkFault) (walk : WalkState) (fault : WalkFault) → (walks : Walks tables.plan cert n first walker) → Phase w walker.walk
+  ignores : (w : NetworkState) (walker : WalkerValue) (message : List ℕ) (result : Result WalkStep WalkFault) (walk : WalkState) (fault : WalkFault) → (walks : Walks tables.plan cert n first walker) → Phase w walker.walk
       → result ≡ Err fault → walk ≡ walker.walk → ended_after walker.ended (Err fault) ≡ walker.ended → HasCode walker (Err fault) → GoesWell w walker message walks.taken result walk
   ignores w walker message result walk fault walks phase told is ended code =
       let P : WalkState → Type 0 = Phase w in
-      let H : Result WalkProgress WalkFault → Type 0 = HasCode walker in
+      let H : Result WalkStep WalkFault → Type 0 = HasCode walker in
       record {
         goes = λ next node eid tag same end.
             let u = unchanged walker next walks node eid tag (same ∙ is) (end ∙ ap (ended_after walker.ended) told ∙ ended) in
@@ -116,7 +116,7 @@ module _ (tables : Tables) (cert : Certificate) (own n : ℕ) (first : WalkerVal
       }
 
   -- the answer is taken, or is too much
-  takes_answer : (w : NetworkState) (walker : WalkerValue) (message : List ℕ) (result : Result WalkProgress WalkFault) (walk : WalkState) (id : ℕ) (r : PartRequest) (a : PartAnswer)
+  takes_answer : (w : NetworkState) (walker : WalkerValue) (message : List ℕ) (result : Result WalkStep WalkFault) (walk : WalkState) (id : ℕ) (r : PartRequest) (a : PartAnswer)
       → (walks : Walks tables.plan cert n first walker) → walker.walk.failed ≡ false → walker.ended ≡ None → walker.walk.taken ≡ length walks.taken → walker.walk.waiting ≡ Some id → walker.walk.due ≡ Some r
       → AnswersPart (records_by_place tables.plan cert n) r a → IsAnswerIn message (answer_under id a) → Takes walker.walk message result walk → result ≢ Err OutOfMemory
       → GoesWell w walker message walks.taken result walk
@@ -140,11 +140,11 @@ module _ (tables : Tables) (cert : Certificate) (own n : ℕ) (first : WalkerVal
             spelled = spelled;
           }
 
-      on : (result : Result WalkProgress WalkFault) → Takes walker.walk message result walk
+      on : (result : Result WalkStep WalkFault) → Takes walker.walk message result walk
           → MatchResult result (λ step. WalksOn (records_by_place tables.plan cert n) (walks.taken ++ x ∷ []) step walk) (λ fault. (fault ≡ TooMuch) ⊎ (fault ≡ OutOfMemory))
       on result takes = goes_on walker.walk walk message result (omega (arith, least, walks.same.count)) (omega (arith, most, walks.same.count)) takes (records_by_place tables.plan cert n) walks.taken x given
 
-      too_much : (fault : WalkFault) → ¬ ◌≡◌ {A = Result WalkProgress WalkFault} (Err fault) (Err OutOfMemory) → (fault ≡ TooMuch) ⊎ (fault ≡ OutOfMemory) → fault ≡ TooMuch
+      too_much : (fault : WalkFault) → ¬ ◌≡◌ {A = Result WalkStep WalkFault} (Err fault) (Err OutOfMemory) → (fault ≡ TooMuch) ⊎ (fault ≡ OutOfMemory) → fault ≡ TooMuch
       too_much fault memory (inl is) = is
       too_much fault memory (inr is) = absurd (memory (ap Err is))
 
@@ -153,13 +153,13 @@ module _ (tables : Tables) (cert : Certificate) (own n : ℕ) (first : WalkerVal
       not_ignored fault is (inr (inl other)) = let e : TooMuch ≡ NotAsked = sym is ∙ other in cc
       not_ignored fault is (inr (inr other)) = let e : TooMuch ≡ OutOfMemory = sym is ∙ other in cc
 
-      same_fault : (f g : WalkFault) → ◌≡◌ {A = Result WalkProgress WalkFault} (Err f) (Err g) → f ≡ g
+      same_fault : (f g : WalkFault) → ◌≡◌ {A = Result WalkStep WalkFault} (Err f) (Err g) → f ≡ g
       same_fault f g e = cc
 
-      not_both : (step : WalkProgress) (f : WalkFault) → ◌≡◌ {A = Result WalkProgress WalkFault} (Ok step) (Err f) → ⊥
+      not_both : (step : WalkStep) (f : WalkFault) → ◌≡◌ {A = Result WalkStep WalkFault} (Ok step) (Err f) → ⊥
       not_both step f e = cc
 
-      by : (result : Result WalkProgress WalkFault) → Takes walker.walk message result walk → result ≢ Err OutOfMemory → MayMake walker.walk result walk → GoesWell w walker message walks.taken result walk
+      by : (result : Result WalkStep WalkFault) → Takes walker.walk message result walk → result ≢ Err OutOfMemory → MayMake walker.walk result walk → GoesWell w walker message walks.taken result walk
       by (Ok step) takes memory (inl ignored) = absurd (not_both step ignored.fault ignored.told)
       by (Ok step) takes memory (inr (inl failed)) = absurd (not_both step failed.fault failed.told)
       by (Ok step) takes memory (inr (inr made)) =
@@ -216,7 +216,7 @@ module _ (tables : Tables) (cert : Certificate) (own n : ℕ) (first : WalkerVal
           }
 
   -- what the walker makes of a message that a step tells at its node under the key of its answers
-  pub hears : (w : NetworkState) (event : EventValue) (outcome : OutcomeValue) (new : NetworkState) (walker : WalkerValue) (message : List ℕ) (result : Result WalkProgress WalkFault) (walk : WalkState)
+  pub hears : (w : NetworkState) (event : EventValue) (outcome : OutcomeValue) (new : NetworkState) (walker : WalkerValue) (message : List ℕ) (result : Result WalkStep WalkFault) (walk : WalkState)
       → (walks : Walks tables.plan cert n first walker) → Phase w walker.walk → Phase new walker.walk → network.Step tables w event outcome new → IsFor walker outcome message
       → Takes walker.walk message result walk → result ≢ Err OutOfMemory → GoesWell new walker message walks.taken result walk
   hears w event outcome new walker message result walk walks before phase step (flight, is) takes memory = elim walks.stands [

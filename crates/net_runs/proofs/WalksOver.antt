@@ -10,14 +10,14 @@ use Rattle.pldm_message.specs.Pdrs.{PartRequest}
 use Rattle.pdr_repository.specs.Records.{IsLawful, bytes_by_place}
 use Rattle.pdr_repository.specs.Walks.{Exchange, Walk, IsBeginning, exchanges, due_after}
 use Rattle.pdr_repository.specs.Walkers.{WalkState, fresh}
-use Rattle.pdr_repository.specs.declared.walk_fault.WalkProgress.{WalkProgress}
+use Rattle.pdr_repository.specs.declared.walk_fault.Step.{Step as WalkStep}
 use Rattle.pdr_repository.specs.declared.walk_fault.WalkFault.{WalkFault}
 use Rattle.pdr_repository.proofs.Collecting.{collects_once}
 use Rattle.pdr_repository.proofs.Taking.{fresh_stands}
 use Rattle.pdr_repository.proofs.Walks.{every_walk_collects}
 use Rattle.net_runs.proofs.Units.{five_fit, part_fits}
 use Rattle.net_tables.specs.TwoPlans.{Tables}
-use Rattle.net_plan.specs.declared.certificate.Certificate.{Certificate}
+use Rattle.plan_values.specs.declared.certificate.Certificate.{Certificate}
 use Rattle.net_tables.specs.Routing.{Holds}
 use Rattle.net_tables.specs.Repositories.{records_of, places_of, records_by_place, RecordsHaveOrder}
 use Rattle.net_runs.specs.States.{NetworkState, unit_of}
@@ -50,7 +50,7 @@ module _ (tables : Tables) (cert : Certificate) (own n k : ℕ) (first : WalkerV
     pub phase : PhaseOf w.network walker.walk
 
   abbrev Codes : WalkerValue → WalkedOutcome → Type 0
-  Codes walker outcome = (o : OutcomeValue) (result : Result WalkProgress WalkFault) → outcome ≡ Happened o (Some (record { number = k; result = result })) → HasCode walker result
+  Codes walker outcome = (o : OutcomeValue) (result : Result WalkStep WalkFault) → outcome ≡ Happened o (Some (record { number = k; result = result })) → HasCode walker result
 
   -- with the outcome no exchange is taken, or this one is
   GrowsBy : WalkedState → WalkedOutcome → List Exchange → List Exchange → Type 0

@@ -1,7 +1,7 @@
 -- Runs in which what is put in is bytes.
 use Rattle.std.specs.Prelude.{◌≡◌, ℕ, List, All}
-use Rattle.net_plan.specs.declared.plan.Plan.{Plan}
-use Rattle.net_plan.specs.declared.certificate.Certificate.{Certificate}
+use Rattle.plan_values.specs.declared.plan.Plan.{Plan}
+use Rattle.plan_values.specs.declared.certificate.Certificate.{Certificate}
 use Rattle.net_tables.specs.Repositories.{records_by_place}
 use Rattle.net_runs.specs.Termini.{AreBytes}
 use Rattle.net_tables.specs.TwoPlans.{Tables}

@@ -3,7 +3,7 @@ use Rattle.std.specs.Prelude.{ℕ, ◌≡◌, ◌⊎◌, ◌-◌, ◌<◌, ◌�
 use Rattle.std.specs.Prelude.{Bool, true, false, Option, Some, None, IsSomeAnd}
 use Rattle.mctp_transport.specs.PacketValues.{PacketValue, KeyValue, Spelled}
 use Rattle.mctp_transport.specs.Hearing.{Answer}
-use Rattle.mctp_bridge.specs.declared.decision.ForwardFault.{ForwardFault}
+use Rattle.mctp_routing.specs.declared.decision.ForwardFault.{ForwardFault}
 use Rattle.net_runs.specs.States.{NetworkState, unit_of}
 use Rattle.net_tables.specs.TwoPlans.{Tables}
 

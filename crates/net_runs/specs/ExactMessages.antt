@@ -5,8 +5,8 @@ use Rattle.mctp_transport.specs.PacketValues.{PacketValue, KeyValue, key_of}
 use Rattle.mctp_transport.specs.Sending.{IsPacketOf}
 use Rattle.mctp_transport.specs.Histories.{Arrived, after, IsOpen, Comes}
 use Rattle.mctp_transport.specs.Hearing.{Whole}
-use Rattle.net_plan.specs.declared.plan.Plan.{Plan}
-use Rattle.net_plan.specs.declared.certificate.Certificate.{Certificate}
+use Rattle.plan_values.specs.declared.plan.Plan.{Plan}
+use Rattle.plan_values.specs.declared.certificate.Certificate.{Certificate}
 use Rattle.net_tables.specs.Routing.{Holds}
 use Rattle.net_runs.specs.Termini.{TerminusState}
 use Rattle.net_runs.specs.States.{NetworkState, Flight, destination, at_start, slots, limit}

@@ -6,9 +6,9 @@ use Rattle.mctp_transport.specs.PacketValues.{PacketValue, KeyValue, key_of}
 use Rattle.mctp_transport.specs.Messages.{Joined}
 use Rattle.mctp_transport.specs.Histories.{EachArrival, Comes}
 use Rattle.mctp_transport.specs.Hearing.{Whole}
-use Rattle.net_plan.specs.declared.plan.Plan.{Plan}
-use Rattle.net_plan.specs.declared.certificate.Certificate.{Certificate}
-use Rattle.net_plan.specs.declared.terminus.PlannedRecord.{PlannedRecord}
+use Rattle.plan_values.specs.declared.plan.Plan.{Plan}
+use Rattle.plan_values.specs.declared.certificate.Certificate.{Certificate}
+use Rattle.plan_values.specs.declared.terminus.PlannedRecord.{PlannedRecord}
 use Rattle.pldm_message.specs.Pdrs.{Part}
 use Rattle.pdr_repository.specs.Records.{Means, handle_in, bytes_by_place}
 use Rattle.pdr_repository.specs.Walks.{Exchange, Walk, IsFinished, Collects}

@@ -6,12 +6,12 @@ use Rattle.pdr_repository.specs.Records.{Entry, bytes_by_place}
 use Rattle.pldm_message.specs.Messages.{ResponseHeadValue}
 use Rattle.pdr_repository.specs.Walkers.{IsAnswerIn}
 use Rattle.pdr_repository.specs.Walks.{Exchange, Walk, Collects, IsBeginning, due_after, exchanges}
-use Rattle.pdr_repository.specs.declared.walk_fault.WalkProgress.{WalkProgress}
+use Rattle.pdr_repository.specs.declared.walk_fault.Step.{Step as WalkStep}
 use Rattle.pdr_repository.specs.declared.walk_fault.WalkFault.{WalkFault}
 use Rattle.pdr_repository.specs.declared.walk_fault.WalkFault.TheVariants.{FailedBefore, NotAsked, TooMuch}
-use Rattle.net_plan.specs.declared.plan.Plan.{Plan}
+use Rattle.plan_values.specs.declared.plan.Plan.{Plan}
 use Rattle.net_tables.specs.TwoPlans.{Tables, one_plan, moving}
-use Rattle.net_plan.specs.declared.certificate.Certificate.{Certificate}
+use Rattle.plan_values.specs.declared.certificate.Certificate.{Certificate}
 use Rattle.net_tables.specs.Routing.{Holds}
 use Rattle.net_tables.specs.Repositories.{terminus_of, records_by_place}
 use Rattle.net_runs.specs.States.{unit_of}
@@ -43,7 +43,7 @@ pub record IsExchange (walker : WalkerValue) (message : List ℕ) (x : Exchange)
 -- The outcome tells that the walker takes an answer, and the message that comes with it is that of the exchange.
 pub record TakesWith (k : ℕ) (w : WalkedState) (outcome : WalkedOutcome) (x : Exchange) : Type 0 where
   pub lower : OutcomeValue
-  pub step : WalkProgress
+  pub step : WalkStep
   pub told : outcome ≡ Happened lower (Some (record { number = k; result = Ok step }))
   pub walker : WalkerValue
   pub there : w.walker k ≡ Some walker
@@ -54,7 +54,7 @@ pub record TakesWith (k : ℕ) (w : WalkedState) (outcome : WalkedOutcome) (x : 
 -- the outcome doesn't tell that the walker takes an answer
 abbrev pub TakesNone : ℕ → WalkedOutcome → Type 0
 TakesNone k outcome =
-    (lower : OutcomeValue) (step : WalkProgress)
+    (lower : OutcomeValue) (step : WalkStep)
     → outcome ≢ Happened lower (Some (record { number = k; result = Ok step }))
 
 -- the exchanges that the walker takes in the turns: one of each turn that tells so, in their order, and no others
@@ -83,7 +83,7 @@ pub record HasWalked (records : List Entry) (k : ℕ) (since : WalkedState) (tur
       ⊎ ((walker.walk.failed ≡ true) × (walker.ended ≡ Some TooMuch))
 
 -- a message that isn't asked for or too much, and then that it had failed before
-abbrev pub HasCode : WalkerValue → Result WalkProgress WalkFault → Type 0
+abbrev pub HasCode : WalkerValue → Result WalkStep WalkFault → Type 0
 HasCode walker result = MatchResult result (λ step. walker.walk.failed ≡ false)
     (λ fault. ((walker.walk.failed ≡ false) × ((fault ≡ NotAsked) ⊎ (fault ≡ TooMuch)))
     ⊎ ((walker.walk.failed ≡ true) × (fault ≡ FailedBefore)))
@@ -103,7 +103,7 @@ pub record WalksThere (tables : Tables) (records : List Entry) (first : WalkerVa
   pub there : w.walker k ≡ Some walker
   pub same : IsSameWalker first walker
   pub walked : HasWalked records k since turns walker
-  pub codes : (event : WalkedEvent) (outcome : OutcomeValue) (result : Result WalkProgress WalkFault)
+  pub codes : (event : WalkedEvent) (outcome : OutcomeValue) (result : Result WalkStep WalkFault)
       (new : WalkedState)
       → KeepsOff tables.plan first event (Happened outcome (Some (record { number = k; result = result })))
       → WalkedStep tables w event (Happened outcome (Some (record { number = k; result = result }))) new

@@ -4,13 +4,13 @@ use Rattle.mctp_transport.specs.PacketValues.{PacketValue, KeyValue, key_of, Spe
 use Rattle.mctp_transport.specs.Cutting.{ArePacketsOf}
 use Rattle.mctp_transport.specs.Histories.{Arrived, TimeUp, IsOpen}
 use Rattle.mctp_transport.specs.Hearing.{Hears}
-use Rattle.net_plan.specs.declared.plan.Plan.{Plan}
-use Rattle.net_plan.specs.declared.nodes.Row.{Row}
+use Rattle.plan_values.specs.declared.plan.Plan.{Plan}
+use Rattle.plan_values.specs.declared.nodes.Row.{Row}
 use Rattle.pdr_repository.specs.Answers.{Answers}
-use Rattle.mctp_bridge.specs.declared.decision.Decision.{Decision}
-use Rattle.mctp_bridge.specs.declared.decision.Decision.TheVariants.{Deliver, Drop, Forward}
-use Rattle.mctp_bridge.specs.Decisions.{Decides}
-use Rattle.mctp_bridge.specs.Rows.{Routes}
+use Rattle.mctp_routing.specs.declared.decision.Decision.{Decision}
+use Rattle.mctp_routing.specs.declared.decision.Decision.TheVariants.{Here, Drop, Forward}
+use Rattle.mctp_routing.specs.Decisions.{Decides}
+use Rattle.mctp_routing.specs.Rows.{Routes}
 use Rattle.net_tables.specs.Routing.{Holds, IsBridge}
 use Rattle.net_tables.specs.Tables.{table_row}
 use Rattle.net_runs.specs.Termini.{TerminusState, WaitingMessage}
@@ -30,7 +30,7 @@ IsDecided plan rows f decision = Decides (Holds plan f.node (destination f)) (Is
 -- What comes of the decision on a flight, which has this number and isn't in the network: its packet enters the node,
 -- it ends, or it is at the next node with one hop more.
 abbrev pub IsDone : NetworkState → ℕ → Flight → OutcomeValue → Decision → NetworkState → Type 0
-IsDone w number f (Entered k node key answer) Deliver new =
+IsDone w number f (Entered k node key answer) Here new =
     (k ≡ number) × (node ≡ f.node) × (key ≡ key_of f.packet) × Hears slots limit (w.history f.node) f.packet answer
     × (new ≡ with_received (with_input w f.node (Arrived f.packet)) f.node key answer)
 IsDone w number f (Stopped k told) (Drop why) new = (k ≡ number) × (told ≡ why) × (new ≡ w)

@@ -1,6 +1,6 @@
 -- That an event leaves one outcome and one next state.
 use Rattle.std.specs.Prelude.{◌≡◌, ℕ, List, Some, IfSome}
-use Rattle.net_plan.specs.declared.certificate.Certificate.{Certificate}
+use Rattle.plan_values.specs.declared.certificate.Certificate.{Certificate}
 use Rattle.pdr_repository.specs.Records.{IsLawful}
 use Rattle.net_tables.specs.Rows.{RowsAreApart}
 use Rattle.net_runs.specs.Termini.{TerminusState}

@@ -3,7 +3,7 @@ use Rattle.std.specs.Prelude.{◌≡◌, ◌≢◌, ◌⊎◌, ℕ, ◌<◌, ◌
 use Rattle.pdr_repository.specs.Records.{bytes_by_place}
 use Rattle.pdr_repository.specs.Walks.{exchanges}
 use Rattle.net_tables.specs.TwoPlans.{Tables, HasRowAlways}
-use Rattle.net_plan.specs.declared.certificate.Certificate.{Certificate}
+use Rattle.plan_values.specs.declared.certificate.Certificate.{Certificate}
 use Rattle.net_tables.specs.Routing.{Holds}
 use Rattle.net_tables.specs.Repositories.{terminus_of, records_by_place}
 use Rattle.net_runs.specs.Termini.{AreBytes}

@@ -1,8 +1,8 @@
 -- Runs of the network: one event after another, of any number.
 use Rattle.std.specs.Prelude.{◌≡◌, ◌≢◌, ◌⊎◌, ◌≤◌, ℕ, List, [], ◌∷◌, Some, All}
 use Rattle.mctp_transport.specs.PacketValues.{PacketValue, Spelled}
-use Rattle.net_plan.specs.declared.plan.Plan.{Plan}
-use Rattle.net_plan.specs.declared.certificate.Certificate.{Certificate}
+use Rattle.plan_values.specs.declared.plan.Plan.{Plan}
+use Rattle.plan_values.specs.declared.certificate.Certificate.{Certificate}
 use Rattle.net_runs.specs.States.{NetworkState, Flight, at_start, unit_of}
 use Rattle.net_tables.specs.TwoPlans.{Tables, one_plan}
 use Rattle.net_runs.specs.Events.{EventValue, OutcomeValue, Put, PutIn, AnswerAt, Answered, Switch}

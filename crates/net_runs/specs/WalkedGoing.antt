@@ -2,8 +2,8 @@
 use Rattle.std.specs.Prelude.{◌≡◌, ◌≢◌, ℕ, ◌<◌, ◌≤◌, List, Some, None, All}
 use Rattle.pldm_message.specs.InstanceIds.{IsFree}
 use Rattle.pldm_message.specs.Pdrs.{PartRequest, IsPartRequest}
-use Rattle.net_plan.specs.declared.plan.Plan.{Plan}
-use Rattle.net_plan.specs.declared.certificate.Certificate.{Certificate}
+use Rattle.plan_values.specs.declared.plan.Plan.{Plan}
+use Rattle.plan_values.specs.declared.certificate.Certificate.{Certificate}
 use Rattle.net_tables.specs.Routing.{Holds}
 use Rattle.net_runs.specs.Termini.{TerminusState, AreBytes, HoldsBytes}
 use Rattle.net_runs.specs.States.{NetworkState, Flight}

@@ -1,7 +1,7 @@
 -- In runs with walkers too, each message comes as it was sent where the packets of its key keep apart.
 use Rattle.std.specs.Prelude.{◌≡◌, ◌⊎◌, ℕ, ◌*◌, ◌≤◌, List, [], ◌∷◌, length, Option, Some, All}
 use Rattle.mctp_transport.specs.PacketValues.{PacketValue, KeyValue, key_of}
-use Rattle.net_plan.specs.declared.plan.Plan.{Plan}
+use Rattle.plan_values.specs.declared.plan.Plan.{Plan}
 use Rattle.net_tables.specs.TwoPlans.{Tables}
 use Rattle.net_tables.specs.Routing.{Holds}
 use Rattle.net_runs.specs.States.{NetworkState, Flight}

@@ -6,9 +6,9 @@ use Rattle.mctp_transport.specs.PacketValues.{PacketValue, KeyValue, key_of}
 use Rattle.mctp_transport.specs.Messages.{Joined}
 use Rattle.mctp_transport.specs.Histories.{Comes}
 use Rattle.mctp_transport.specs.Hearing.{Answer}
-use Rattle.mctp_bridge.specs.declared.decision.ForwardFault.{ForwardFault}
-use Rattle.net_plan.specs.declared.plan.Plan.{Plan}
-use Rattle.net_plan.specs.declared.certificate.Certificate.{Certificate}
+use Rattle.mctp_routing.specs.declared.decision.ForwardFault.{ForwardFault}
+use Rattle.plan_values.specs.declared.plan.Plan.{Plan}
+use Rattle.plan_values.specs.declared.certificate.Certificate.{Certificate}
 use Rattle.net_tables.specs.Routing.{Holds}
 use Rattle.net_tables.specs.Ranks.{rank}
 use Rattle.net_runs.specs.States.{NetworkState, Flight, destination, slots, limit}

@@ -6,9 +6,9 @@ use Rattle.mctp_transport.specs.Hearing.{Whole}
 use Rattle.pldm_message.specs.InstanceIds.{IdSet, Gives, TakesBack}
 use Rattle.pdr_repository.specs.declared.walk_fault.WalkFault.TheVariants.{OutOfMemory}
 use Rattle.pdr_repository.specs.Walkers.{WalkState, Asks, Takes}
-use Rattle.net_plan.specs.declared.plan.Plan.{Plan}
+use Rattle.plan_values.specs.declared.plan.Plan.{Plan}
 use Rattle.net_tables.specs.TwoPlans.{Tables, one_plan}
-use Rattle.net_plan.specs.declared.certificate.Certificate.{Certificate}
+use Rattle.plan_values.specs.declared.certificate.Certificate.{Certificate}
 use Rattle.net_tables.specs.Routing.{Holds}
 use Rattle.net_runs.specs.States.{NetworkState, unit_of}
 use Rattle.net_runs.specs.Events.{Put, Switch, OutcomeValue, PutIn, Brings}

@@ -5,12 +5,12 @@ use Rattle.mctp_transport.specs.PacketValues.{KeyValue}
 use Rattle.mctp_transport.specs.Hearing.{Whole}
 use Rattle.pldm_message.specs.InstanceIds.{IdSet}
 use Rattle.pldm_message.specs.Pdrs.{PartRequest}
-use Rattle.pdr_repository.specs.declared.walk_fault.WalkProgress.{WalkProgress}
+use Rattle.pdr_repository.specs.declared.walk_fault.Step.{Step as WalkStep}
 use Rattle.pdr_repository.specs.declared.walk_fault.WalkFault.{WalkFault}
 use Rattle.pdr_repository.specs.declared.walk_fault.WalkFault.TheVariants.{FailedBefore, NotAsked}
 use Rattle.pdr_repository.specs.Walkers.{WalkState, fresh}
-use Rattle.net_plan.specs.declared.plan.Plan.{Plan}
-use Rattle.net_plan.specs.declared.certificate.Certificate.{Certificate}
+use Rattle.plan_values.specs.declared.plan.Plan.{Plan}
+use Rattle.plan_values.specs.declared.certificate.Certificate.{Certificate}
 use Rattle.net_tables.specs.Routing.{Holds}
 use Rattle.net_runs.specs.States.{NetworkState, at_start, unit_of}
 use Rattle.net_runs.specs.Events.{EventValue, OutcomeValue, Entered, Refusal, N01, N06, most_flights}
@@ -97,7 +97,7 @@ pub data WalkRefusal : Type 0 where
 -- what a walker made of a message that it was handed
 pub record Handed : Type 0 where
   pub number : ℕ
-  pub result : Result WalkProgress WalkFault
+  pub result : Result WalkStep WalkFault
 
 -- whether a walk goes on, is done, or was ended by a fault
 pub data Standing : Type 0 where
@@ -162,7 +162,7 @@ IsFirstWalkRefusal plan w event why = IsWalkRefused plan w event why
     × ((other : WalkRefusal) → walk_refusal_number other < walk_refusal_number why → ¬ IsWalkRefused plan w event other)
 
 -- the fault that has ended a walk, after one answer more
-abbrev pub ended_after : Option WalkFault → Result WalkProgress WalkFault → Option WalkFault
+abbrev pub ended_after : Option WalkFault → Result WalkStep WalkFault → Option WalkFault
 ended_after before (Ok step) = before
 ended_after before (Err FailedBefore) = before
 ended_after before (Err NotAsked) = before

@@ -2,8 +2,8 @@
 ghost use Rattle.std.specs.Prelude.{◌≡◌, ◌↔◌, ℕ, List, Some};
 ghost use Rattle.mctp_transport.specs.PacketValues.{KeyValue};
 ghost use Rattle.pdr_repository.specs.Walks.{Exchange};
-ghost use Rattle.net_plan.specs.declared.plan.Plan.{Plan};
-ghost use Rattle.net_plan.specs.declared.certificate.Certificate.{Certificate};
+ghost use Rattle.plan_values.specs.declared.plan.Plan.{Plan};
+ghost use Rattle.plan_values.specs.declared.certificate.Certificate.{Certificate};
 ghost use Rattle.net_runs.specs.Termini.{TerminusState, HoldsBytes};
 ghost use Rattle.net_runs.specs.States.{NetworkState, at_start, unit_of};
 ghost use Rattle.net_tables.specs.TwoPlans.{Tables, moving};

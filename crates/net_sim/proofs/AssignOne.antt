@@ -2,10 +2,10 @@
 use Rattle.std.proofs.Common.{◌≡◌, ◌≢◌, ℕ, zero, suc, ◌<◌, List, [], ◌∷◌, ◌++◌, length, Option, Some, None, refl, sym, ap, ◌∙◌, subst}
 use Rattle.std.specs.Prelude.{slice_get, slice_set}
 use Rattle.std.proofs.lemmas.List.{length-set}
-use Rattle.net_plan.specs.declared.nodes.Pool.{Pool}
+use Rattle.plan_values.specs.declared.nodes.Pool.{Pool}
 use Rattle.mctp_transport.specs.PacketValues.{IsAssignable}
-use Rattle.mctp_bridge.specs.declared.device_kind.DeviceKind.{DeviceKind}
-use Rattle.mctp_bridge.specs.declared.device_kind.DeviceKind.TheVariants as device
+use Rattle.mctp_transport.specs.declared.device_kind.DeviceKind.{DeviceKind}
+use Rattle.mctp_transport.specs.declared.device_kind.DeviceKind.TheVariants as device
 use Rattle.mctp_control.specs.Ranges.{IsAssignableRange}
 use Rattle.mctp_control.specs.RouteEntries.{EntryValue}
 use Rattle.mctp_control.specs.Requests.{request_bytes}

@@ -1,9 +1,9 @@
 -- An EID lies in a bridge's pool exactly where its holder is behind the bridge.
 use Rattle.std.proofs.Common.{◌≡◌, ◌⊎◌, inl, inr, ◌↔◌, ℕ, zero, suc, ◌<◌, Option, Some, None, refl, sym, ap, ◌∙◌, subst, arith}
 use Rattle.std.proofs.lemmas.Bool.{cases_order}
-use Rattle.net_plan.specs.declared.plan.Plan.{Plan}
-use Rattle.net_plan.specs.declared.certificate.Certificate.{Certificate}
-use Rattle.net_plan.specs.declared.nodes.Pool.{Pool}
+use Rattle.plan_values.specs.declared.plan.Plan.{Plan}
+use Rattle.plan_values.specs.declared.certificate.Certificate.{Certificate}
+use Rattle.plan_values.specs.declared.nodes.Pool.{Pool}
 use Rattle.net_tables.specs.Routing.{Holds, IsBridge}
 use Rattle.net_tables.specs.Ownership.{owner_of, IsOwnedBy, level, pool_of, IsInPoolOf}
 use Rattle.net_rules.specs.Owners.{IsBelowItsOwner}

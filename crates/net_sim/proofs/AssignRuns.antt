@@ -6,10 +6,10 @@ use Rattle.std.specs.Option.{option_and_then}
 use Rattle.std.specs.List.{flat_map}
 use Rattle.std.proofs.lemmas.List.{length-map}
 use Rattle.std.proofs.lemmas.Option.{slice_get-map, slice_get_within, slice_get_cases}
-use Rattle.net_plan.specs.declared.plan.Plan.{Plan}
-use Rattle.net_plan.specs.declared.certificate.Certificate.{Certificate}
-use Rattle.net_plan.specs.declared.nodes.Node.{Node}
-use Rattle.net_plan.specs.declared.nodes.Pool.{Pool}
+use Rattle.plan_values.specs.declared.plan.Plan.{Plan}
+use Rattle.plan_values.specs.declared.certificate.Certificate.{Certificate}
+use Rattle.plan_values.specs.declared.nodes.Node.{Node}
+use Rattle.plan_values.specs.declared.nodes.Pool.{Pool}
 use Rattle.mctp_control.specs.RouteEntries.{EntryValue}
 use Rattle.mctp_control.specs.Ranges.{IsWithin}
 use Rattle.mctp_control.specs.Devices.{PoolHeld, DeviceValue}

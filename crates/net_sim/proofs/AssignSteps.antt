@@ -6,10 +6,10 @@ use Rattle.std.proofs.lemmas.List.{flat_map_more}
 use Rattle.std.proofs.lemmas.Option.{slice_get_past}
 use Rattle.std.proofs.lemmas.List.Elements.{Contains-get_or, Contains-append_left, Contains-push, Contains-push_cases}
 use Rattle.std.proofs.lemmas.List.Quantifiers.{all_pairs_push}
-use Rattle.net_plan.specs.declared.plan.Plan.{Plan}
-use Rattle.net_plan.specs.declared.certificate.Certificate.{Certificate}
-use Rattle.net_plan.specs.declared.certificate.NodeLevel.{NodeLevel}
-use Rattle.net_plan.specs.declared.nodes.Node.{Node}
+use Rattle.plan_values.specs.declared.plan.Plan.{Plan}
+use Rattle.plan_values.specs.declared.certificate.Certificate.{Certificate}
+use Rattle.plan_values.specs.declared.certificate.NodeLevel.{NodeLevel}
+use Rattle.plan_values.specs.declared.nodes.Node.{Node}
 use Rattle.net_tables.specs.Routing.{node_at}
 use Rattle.net_tables.specs.Ownership.{owner_of, IsOwnedBy, given_level, level}
 use Rattle.net_rules.specs.Owners.{IsBelowItsOwner}

@@ -2,10 +2,10 @@
 use Rattle.std.proofs.Common.{◌≡◌, ℕ, suc, ◌+◌, cond, List, [], ◌∷◌, length, Option, Some, None, refl, ◌∙◌, ap, arith}
 use Rattle.std.specs.Prelude.{slice_get, option_map, is_some, count_by}
 use Rattle.std.specs.List.{cons_option, filter_map, range_with_len}
-use Rattle.net_plan.specs.declared.nodes.Node.{Node}
-use Rattle.net_plan.specs.declared.plan.Plan.{Plan}
-use Rattle.net_plan.specs.declared.certificate.Certificate.{Certificate}
-use Rattle.net_plan.specs.declared.terminus.PlannedTerminus.{PlannedTerminus}
+use Rattle.plan_values.specs.declared.nodes.Node.{Node}
+use Rattle.plan_values.specs.declared.plan.Plan.{Plan}
+use Rattle.plan_values.specs.declared.certificate.Certificate.{Certificate}
+use Rattle.plan_values.specs.declared.terminus.PlannedTerminus.{PlannedTerminus}
 use Rattle.std.proofs.lemmas.List.Recursion.{is_count_by}
 use Rattle.net_tables.specs.Repositories.{terminus_of, records_by_place}
 use Rattle.net_runs.specs.Termini.{TerminusState, terminus_at_start}

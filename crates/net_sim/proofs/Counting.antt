@@ -10,7 +10,7 @@ use Rattle.std.proofs.lemmas.Option.{slice_get-get_or, slice_get_past, slice_get
 use Rattle.mctp_transport.specs.PacketValues.{KeyValue, bit}
 use Rattle.mctp_transport.specs.Histories.{same_key}
 use Rattle.mctp_transport.specs.declared.address.Eid.{Eid}
-use Rattle.net_plan.specs.declared.nodes.Node.{Node}
+use Rattle.plan_values.specs.declared.nodes.Node.{Node}
 use Rattle.net_sim.specs.declared.key_counts.KnownEids.{KnownEids}
 use Rattle.net_sim.specs.KeyCounts.{if_there, known_at, place_of, are_these}
 

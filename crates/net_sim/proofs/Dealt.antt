@@ -4,12 +4,12 @@ use Rattle.std.specs.Prelude.{slice_get}
 use Rattle.std.specs.List.{filter_map, range_with_len}
 use Rattle.std.proofs.lemmas.Option.{slice_get_past, slice_get_within, get_or_from_slice_get, none-some}
 use Rattle.std.proofs.lemmas.List.{length-map, map-append, append-nil, append_assoc, drop_more, drop_all}
-use Rattle.net_plan.specs.declared.nodes.Node.{Node}
+use Rattle.plan_values.specs.declared.nodes.Node.{Node}
 use Rattle.mctp_transport.specs.declared.assembler.Assembler.{Assembler}
 use Rattle.mctp_transport.specs.Assembly as assembly
-use Rattle.net_plan.specs.declared.plan.Plan.{Plan}
-use Rattle.net_plan.specs.declared.certificate.Certificate.{Certificate}
-use Rattle.net_plan.specs.declared.terminus.PlannedTerminus.{PlannedTerminus}
+use Rattle.plan_values.specs.declared.plan.Plan.{Plan}
+use Rattle.plan_values.specs.declared.certificate.Certificate.{Certificate}
+use Rattle.plan_values.specs.declared.terminus.PlannedTerminus.{PlannedTerminus}
 use Rattle.net_tables.specs.Repositories.{records_by_place}
 use Rattle.net_runs.specs.Termini.{TerminusState, terminus_at_start}
 use Rattle.net_runs.specs.States.{Flight, at_start}

@@ -2,9 +2,9 @@
 use Rattle.std.proofs.Common.{◌≡◌, ℕ, zero, suc, ◌<◌, ◌≤◌, Bool, true, false, cond, eqb, List, [], ◌∷◌, length, map, Option, Some, None, refl, sym, ◌∙◌, ap, subst, inl, inr, arith}
 use Rattle.std.specs.Prelude.{slice_get, slice_set, option_map, option_and_then, unwrap_or, find, ◌==◌}
 use Rattle.std.proofs.lemmas.List.{map-set, length-map}
-use Rattle.net_plan.specs.declared.certificate.Certificate.{Certificate}
-use Rattle.net_plan.specs.declared.certificate.NodeRanks.{NodeRanks}
-use Rattle.net_plan.specs.declared.certificate.RankRange.{RankRange}
+use Rattle.plan_values.specs.declared.certificate.Certificate.{Certificate}
+use Rattle.plan_values.specs.declared.certificate.NodeRanks.{NodeRanks}
+use Rattle.plan_values.specs.declared.certificate.RankRange.{RankRange}
 use Rattle.net_tables.specs.Ranks.{rank, rank_in, is_in_range}
 use Rattle.std.proofs.lemmas.Bool.{cases_Bool}
 use Rattle.std.proofs.lemmas.Bool.Decides.{eqb_tells}

@@ -2,7 +2,7 @@
 use Rattle.std.proofs.Common.{◌≡◌, ◌≢◌, ℕ, List, true, Option, Some, None, Ok, Err, refl, sym, ◌∙◌, inl, inr}
 use Rattle.std.proofs.lemmas.Bool.Decides.{eqb_tells}
 use Rattle.pldm_message.specs.InstanceIds.{IdSet, TakesBack}
-use Rattle.pdr_repository.specs.declared.walk_fault.WalkProgress.{WalkProgress}
+use Rattle.pdr_repository.specs.declared.walk_fault.Step.{Step as WalkStep}
 use Rattle.pdr_repository.specs.declared.walk_fault.WalkFault.TheVariants.{OutOfMemory}
 use Rattle.pdr_repository.specs.Walkers.{WalkState, Takes}
 use Rattle.net_runs.specs.Walkers.{WalkerValue}
@@ -13,7 +13,7 @@ ok_or_err s f e = cc
 
 module _ (old new : WalkState) (message : List ℕ) where
   -- an answer is taken only where a request is outstanding
-  pub step_was_asked : (step : WalkProgress) → Takes old message (Ok step) new → old.waiting ≢ None
+  pub step_was_asked : (step : WalkStep) → Takes old message (Ok step) new → old.waiting ≢ None
   step_was_asked step (inl (failed, (told, is))) none = ok_or_err step _ told
   step_was_asked step (inr (goes, inl (idle, (told, is)))) none = ok_or_err step _ told
   step_was_asked step (inr (goes, inr (some, rest))) none = some none
@@ -23,7 +23,7 @@ some_of None some = absurd (some refl)
 some_of (Some k) some = (k, refl)
 
 -- An answer gives its ID back, that of the outstanding request.
-pub took_answer : (old : WalkerValue) (message : List ℕ) (step : WalkProgress) (walk : WalkState) (ids : IdSet) (outstanding : Option ℕ) → outstanding ≡ old.walk.waiting
+pub took_answer : (old : WalkerValue) (message : List ℕ) (step : WalkStep) (walk : WalkState) (ids : IdSet) (outstanding : Option ℕ) → outstanding ≡ old.walk.waiting
     → Takes old.walk message (Ok step) walk → ((k : ℕ) → outstanding ≡ Some k → TakesBack old.ids k ids)
     → HasTakenMessage old message (Ok step) (record old { walk = walk; ids = ids })
 took_answer old message step walk ids outstanding waits takes back =
@@ -51,7 +51,7 @@ none_is_out old new k outstanding is alone back id out = elim (eqb_tells id k) [
 ]
 
 -- after an answer no ID is out
-pub none_after_answer : (old : WalkerValue) (message : List ℕ) (step : WalkProgress) (walk : WalkState) (ids : IdSet) (outstanding : Option ℕ) → outstanding ≡ old.walk.waiting
+pub none_after_answer : (old : WalkerValue) (message : List ℕ) (step : WalkStep) (walk : WalkState) (ids : IdSet) (outstanding : Option ℕ) → outstanding ≡ old.walk.waiting
     → ((id : ℕ) → old.ids.out id ≡ true → outstanding ≡ Some id) → Takes old.walk message (Ok step) walk → ((k : ℕ) → outstanding ≡ Some k → TakesBack old.ids k ids)
     → (id : ℕ) → ¬ (ids.out id ≡ true)
 none_after_answer old message step walk ids outstanding waits alone takes back =

@@ -6,7 +6,7 @@ use Rattle.std.proofs.lemmas.Option.{slice_get_within, get_or_from_slice_get}
 use Rattle.mctp_transport.specs.PacketValues.{KeyValue}
 use Rattle.mctp_transport.specs.Packets.{key_value}
 use Rattle.mctp_transport.specs.Hearing.{Whole}
-use Rattle.mctp_bridge.specs.declared.decision.Decision.TheVariants.{Deliver}
+use Rattle.mctp_routing.specs.declared.decision.Decision.TheVariants.{Here}
 use Rattle.net_runs.specs.Events.{Move, OutcomeValue, Entered, Refused, Refusal}
 use Rattle.net_runs.specs.Networks.{Step}
 use Rattle.net_runs.specs.Walkers.{WalkerValue, Happening, Happened, Handed, with_walker, answering_key}
@@ -30,7 +30,7 @@ pub set_same : {A : Type 0} (xs : List A) (i : ℕ) (x : A) → slice_get xs i �
 set_same xs i x there = ap (λ y. slice_set xs i y) (sym (get_or_from_slice_get xs i x x there)) ∙ set-get_or xs i x
 
 -- who listens there is the listener of a move that enters its node
-pub finds_there : (m : DecidedMove) (items : List NetworkWalker) → m.decision ≡ Deliver → (r : Option ℕ)
+pub finds_there : (m : DecidedMove) (items : List NetworkWalker) → m.decision ≡ Here → (r : Option ℕ)
     → MatchOption r (All (λ x. ¬ Listens m.node (key_value m.key) (walker_value x)) items) (λ i. ListensAt m.node (key_value m.key) items i) → FindsListener m items r
 finds_there m items here None none = λ is. none
 finds_there m items here (Some i) listens = (here, listens)
@@ -48,15 +48,15 @@ refuses tables v number keep why plays =
 module _ (router : RouterValue) (v : NetworkValue) (number : ℕ) (keep : Bool) (m : DecidedMove) (d : IsDecidedMove router v.traffic.flights number m) (items : List NetworkWalker)
     (are : v.walkers ≡ map walker_value items) where
   -- memory ran out before it moved
-  pub listener_wants : HasNumberFor v.traffic.flights keep → m.decision ≡ Deliver → (ws : List WalkerValue) → ws ≡ v.walkers → WalkedWants router.tables v (Happening (Move number keep)) (record { traffic = v.traffic; walkers = ws })
+  pub listener_wants : HasNumberFor v.traffic.flights keep → m.decision ≡ Here → (ws : List WalkerValue) → ws ≡ v.walkers → WalkedWants router.tables v (Happening (Move number keep)) (record { traffic = v.traffic; walkers = ws })
   listener_wants few here ws same =
       let (f, there, on) = d in
       happens_wants router.tables v v.traffic ws same (Move number keep)
-      (wants_move router.tables v.traffic number keep f there few v.traffic refl refl refl (inr (decided_as router f m on Deliver here)) refl)
+      (wants_move router.tables v.traffic number keep f there few v.traffic refl refl refl (inr (decided_as router f m on Here here)) refl)
 
   module _ (u : TrafficValue) (ws : List WalkerValue) (outcome : OutcomeValue) (plays : Plays router.tables v.traffic (Move number keep) outcome u) where
     -- no walker is there for what comes
-    pub comes_to_none : ws ≡ v.walkers → (m.decision ≡ Deliver → All (λ x. ¬ Listens m.node (key_value m.key) (walker_value x)) items)
+    pub comes_to_none : ws ≡ v.walkers → (m.decision ≡ Here → All (λ x. ¬ Listens m.node (key_value m.key) (walker_value x)) items)
         → WalkedPlays router.tables v (Happening (Move number keep)) (Happened outcome None) (record { traffic = u; walkers = ws })
     comes_to_none same none =
         happens router.tables v u ws same (Move number keep) outcome plays (λ w next s step k walker message there (flight, is).

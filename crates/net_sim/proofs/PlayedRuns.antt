@@ -3,7 +3,7 @@ use Rattle.std.proofs.Common.{◌≡◌, ℕ, ◌+◌, ◌<◌, List, [], ◌∷
 use Rattle.std.specs.Prelude.{slice_get, option_map}
 use Rattle.std.proofs.lemmas.List.{length-map, map-append, take_more, length_push}
 use Rattle.std.proofs.lemmas.Option.{slice_get-map, slice_get-get_or, get_or_from_slice_get}
-use Rattle.net_plan.specs.declared.event.Event.{Event}
+use Rattle.plan_values.specs.declared.event.Event.{Event}
 use Rattle.net_tables.specs.TwoPlans.{Tables}
 use Rattle.net_runs.specs.Walkers.{WalkedState, WalkedEvent, WalkedOutcome}
 use Rattle.net_runs.specs.WalkedRuns.{WalkedStep, WalkedTurn, WalkedRunFrom, walked_after}

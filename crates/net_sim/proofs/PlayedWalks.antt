@@ -1,7 +1,7 @@
 -- What is played goes on with the walks of the run before it.
 use Rattle.std.proofs.Common.{List, [], ◌∷◌, ◌++◌, Result, subst, MatchResult}
 use Rattle.std.specs.Prelude.{IfOk, Ok, Err}
-use Rattle.net_plan.specs.declared.certificate.Certificate.{Certificate}
+use Rattle.plan_values.specs.declared.certificate.Certificate.{Certificate}
 use Rattle.net_tables.specs.TwoPlans.{Tables}
 use Rattle.net_runs.specs.Walkers.{WalkedState, WalkedEvent, WalkedOutcome, walked_at_start}
 use Rattle.net_runs.specs.WalkedRuns.{WalkedTurn, WalkedRunFrom, WalkedRunOf, walked_after, walked_reached}

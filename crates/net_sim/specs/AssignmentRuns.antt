@@ -1,11 +1,11 @@
 -- The devices of a plan while an assignment is carried out, and what they reply.
 use Rattle.std.specs.Prelude.{◌≡◌, ◌↔◌, ℕ, List, [], ◌∷◌, length, map, slice_get}
 use Rattle.std.specs.Prelude.{slice_set, Option, Some, None, option_map, IsSomeAnd}
-use Rattle.net_plan.specs.declared.plan.Plan.{Plan}
-use Rattle.net_plan.specs.declared.nodes.Kind.TheVariants as planned
-use Rattle.net_plan.specs.declared.nodes.Node.{Node}
-use Rattle.net_plan.specs.declared.nodes.Pool.{Pool}
-use Rattle.mctp_bridge.specs.declared.device_kind.DeviceKind.TheVariants as device
+use Rattle.plan_values.specs.declared.plan.Plan.{Plan}
+use Rattle.plan_values.specs.declared.nodes.Kind.TheVariants as planned
+use Rattle.plan_values.specs.declared.nodes.Node.{Node}
+use Rattle.plan_values.specs.declared.nodes.Pool.{Pool}
+use Rattle.mctp_transport.specs.declared.device_kind.DeviceKind.TheVariants as device
 use Rattle.mctp_control.specs.Ranges.{IsWithin}
 use Rattle.mctp_control.specs.RouteEntries.{EntryValue}
 use Rattle.mctp_control.specs.Requests.{CommandValue, SetsEid, AllocatesEids, request_bytes}

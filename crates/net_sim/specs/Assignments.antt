@@ -2,10 +2,10 @@
 use Rattle.std.specs.Prelude.{◌≡◌, ◌⊎◌, ◌↔◌, ◌==◌, ℕ, ◌<◌, Bool, false, List, [], ◌∷◌, Option}
 use Rattle.std.specs.Prelude.{Some, None, option_map, option_and_then, find, AllPairs, Contains}
 use Rattle.std.specs.List.{list_any, flat_map}
-use Rattle.net_plan.specs.declared.plan.Plan.{Plan}
-use Rattle.net_plan.specs.declared.certificate.Certificate.{Certificate}
-use Rattle.net_plan.specs.declared.nodes.Node.{Node}
-use Rattle.net_plan.specs.declared.nodes.Pool.{Pool}
+use Rattle.plan_values.specs.declared.plan.Plan.{Plan}
+use Rattle.plan_values.specs.declared.certificate.Certificate.{Certificate}
+use Rattle.plan_values.specs.declared.nodes.Node.{Node}
+use Rattle.plan_values.specs.declared.nodes.Pool.{Pool}
 use Rattle.mctp_control.specs.Headers.{HeaderValue}
 use Rattle.mctp_control.specs.Requests.{SetsEid, AllocatesEids, RequestValue, request_value}
 use Rattle.net_tables.specs.Routing.{node_at, ports_of}

@@ -3,7 +3,7 @@ use Rattle.std.specs.Prelude.{◌≡◌, ◌≤◌, ℕ, All, Bool, true, List, 
 use Rattle.mctp_transport.specs.PacketValues.{key_of}
 use Rattle.mctp_transport.specs.Packets.{key_value}
 use Rattle.mctp_transport.specs.declared.packet.Header.{Header}
-use Rattle.mctp_bridge.specs.declared.decision.Decision.TheVariants.{Deliver}
+use Rattle.mctp_routing.specs.declared.decision.Decision.TheVariants.{Here}
 use Rattle.net_runs.specs.States.{Flight}
 use Rattle.net_runs.specs.Events.{most_flights}
 use Rattle.net_runs.specs.Networks.{IsDecided}
@@ -43,5 +43,5 @@ IsRoomAt traffic node header room = (room.told.items ≡ []) × HasRoomAfter hea
 -- where the packet enters its node, the index of the walker that listens there under its key; else there is none
 abbrev pub FindsListener : DecidedMove → List NetworkWalker → Option ℕ → Type 0
 FindsListener m walkers found = MatchOption found
-    (m.decision ≡ Deliver → All (λ walker. ¬ Listens m.node (key_value m.key) (walker_value walker)) walkers)
-    (λ index. (m.decision ≡ Deliver) × ListensAt m.node (key_value m.key) walkers index)
+    (m.decision ≡ Here → All (λ walker. ¬ Listens m.node (key_value m.key) (walker_value walker)) walkers)
+    (λ index. (m.decision ≡ Here) × ListensAt m.node (key_value m.key) walkers index)

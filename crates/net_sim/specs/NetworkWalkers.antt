@@ -4,7 +4,7 @@ use Rattle.mctp_transport.specs.PacketValues.{KeyValue}
 use Rattle.mctp_transport.specs.Hearing.{Whole}
 use Rattle.pldm_message.specs.InstanceIds.{IdSet, Gives, TakesBack}
 use Rattle.pldm_message.specs.InstanceIdValues.{ids_of}
-use Rattle.pdr_repository.specs.declared.walk_fault.WalkProgress.{WalkProgress}
+use Rattle.pdr_repository.specs.declared.walk_fault.Step.{Step as WalkStep}
 use Rattle.pdr_repository.specs.declared.walk_fault.WalkFault.{WalkFault}
 use Rattle.pdr_repository.specs.declared.walk_fault.WalkFault.TheVariants.{OutOfMemory}
 use Rattle.pdr_repository.specs.Walkers.{WalkState, Asks, Takes}
@@ -27,7 +27,7 @@ walker_value w =
 
 -- The walker takes the message, and memory suffices. The ID of the outstanding request is free
 -- again where the message is its answer.
-pub record HasTakenMessage (old : WalkerValue) (message : List ℕ) (result : Result WalkProgress WalkFault)
+pub record HasTakenMessage (old : WalkerValue) (message : List ℕ) (result : Result WalkStep WalkFault)
     (new : WalkerValue) : Type 0 where
   pub walk : WalkState
   pub ids : IdSet

@@ -1,8 +1,8 @@
 -- What a network holds with its walkers, as plain lists, and what its calls do to that.
 use Rattle.std.specs.Prelude.{◌≡◌, ℕ, List, map, take, length, Result, MatchResult}
-use Rattle.net_plan.specs.declared.certificate.Certificate.{Certificate}
-use Rattle.net_plan.specs.declared.event.Event.{Event}
-use Rattle.net_plan.specs.declared.plan.Plan.{Plan}
+use Rattle.plan_values.specs.declared.certificate.Certificate.{Certificate}
+use Rattle.plan_values.specs.declared.event.Event.{Event}
+use Rattle.plan_values.specs.declared.plan.Plan.{Plan}
 use Rattle.net_tables.specs.TwoPlans.{Tables}
 use Rattle.pdr_repository.specs.Records.{Entry}
 use Rattle.net_runs.specs.States.{at_start}

@@ -1,8 +1,8 @@
 -- Events and what comes of them, as plain values.
 use Rattle.std.specs.Prelude.{ℕ, List, codes, option_map}
 use Rattle.mctp_transport.specs.Packets.{key_value}
-use Rattle.net_plan.specs.declared.event.Event.{Event}
-use Rattle.net_plan.specs.declared.event.Event.TheVariants as event
+use Rattle.plan_values.specs.declared.event.Event.{Event}
+use Rattle.plan_values.specs.declared.event.Event.TheVariants as event
 use Rattle.net_runs.specs.Events.{Put, Move, Lose, Expire, AnswerAt, Switch}
 use Rattle.net_runs.specs.Walkers.{WalkedEvent, Happening, BeginWalk, Ask, TellWalk}
 use Rattle.net_runs.specs.Walkers.{WalkedOutcome, Happened, Begun, Asked, ToldWalk, WalkRefused}

@@ -1,5 +1,5 @@
 -- What is promised of the network that is played: of every run with walkers that it may stand for.
-use Rattle.net_plan.specs.declared.certificate.Certificate.{Certificate}
+use Rattle.plan_values.specs.declared.certificate.Certificate.{Certificate}
 use Rattle.net_tables.specs.TwoPlans.{Tables}
 use Rattle.net_runs.specs.WalkedPromises.{WalkedHeadline, WalkedDelivers}
 

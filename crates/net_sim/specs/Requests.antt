@@ -1,6 +1,6 @@
 -- Why an event of a walk is refused, and the requests of walkers, which are put in at their nodes.
 use Rattle.std.specs.Prelude.{◌≡◌, ℕ, List, Option, Some, None}
-use Rattle.net_plan.specs.declared.plan.Plan.{Plan}
+use Rattle.plan_values.specs.declared.plan.Plan.{Plan}
 use Rattle.net_tables.specs.Routing.{Holds}
 use Rattle.net_tables.specs.TwoPlans.{Tables}
 use Rattle.net_runs.specs.States.{NetworkState}

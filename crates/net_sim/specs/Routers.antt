@@ -1,12 +1,12 @@
 -- Routing tables of a network's nodes, and what going on by them keeps.
 use Rattle.std.specs.Prelude.{◌≡◌, ◌≢◌, ◌⊎◌, ℕ, ◌<◌, List, length, slice_get}
 use Rattle.std.specs.Prelude.{Bool, true, false, Option, Some, None, unwrap_or}
-use Rattle.mctp_bridge.specs.declared.row.TableRow as bridge
-use Rattle.mctp_bridge.specs.declared.decision.Decision.{Decision}
-use Rattle.mctp_bridge.specs.declared.decision.Decision.TheVariants.{Deliver, Drop, Forward}
-use Rattle.net_plan.specs.declared.plan.Plan.{Plan}
-use Rattle.net_plan.specs.declared.nodes.Row.{Row}
-use Rattle.net_plan.specs.declared.certificate.Certificate.{Certificate}
+use Rattle.mctp_routing.specs.declared.row.TableRow as bridge
+use Rattle.mctp_routing.specs.declared.decision.Decision.{Decision}
+use Rattle.mctp_routing.specs.declared.decision.Decision.TheVariants.{Here, Drop, Forward}
+use Rattle.plan_values.specs.declared.plan.Plan.{Plan}
+use Rattle.plan_values.specs.declared.nodes.Row.{Row}
+use Rattle.plan_values.specs.declared.certificate.Certificate.{Certificate}
 use Rattle.net_tables.specs.Ranks.{rank}
 use Rattle.net_tables.specs.Tables.{AreTabled}
 use Rattle.net_tables.specs.TwoPlans.{Tables, rows_by}
@@ -48,7 +48,7 @@ TellsIfSwitchable router n false = (router.tables.after ≡ None) ⊎ (slice_get
 
 -- a flight that goes on goes to a node of the plan, of a lower rank
 abbrev pub GoesOnWithinRank : Plan → Certificate → Flight → Decision → Type 0
-GoesOnWithinRank plan cert f Deliver = Unit {0}
+GoesOnWithinRank plan cert f Here = Unit {0}
 GoesOnWithinRank plan cert f (Drop why) = Unit {0}
 GoesOnWithinRank plan cert f (Forward hop) =
     (hop.next < length plan.nodes.items) × (rank cert hop.next (destination f) < rank cert f.node (destination f))

@@ -1,7 +1,7 @@
 -- What a network holds, as plain lists.
 use Rattle.std.specs.Prelude.{◌≡◌, ◌<◌, ◌≤◌, ℕ, length, List, map, option_map, Option, Some, slice_get}
 use Rattle.std.specs.Prelude.{Result, MatchResult}
-use Rattle.net_plan.specs.declared.certificate.Certificate.{Certificate}
+use Rattle.plan_values.specs.declared.certificate.Certificate.{Certificate}
 use Rattle.net_tables.specs.TwoPlans.{Tables}
 use Rattle.pdr_repository.specs.Records.{Entry}
 use Rattle.net_sim.specs.declared.effect.Effect.{Effect}

@@ -1,6 +1,6 @@
 -- What is promised of the walks over a network that is played.
 use Rattle.std.specs.Prelude.{◌≡◌, ◌≢◌, ℕ, List, ◌∷◌, ◌++◌, None, All}
-use Rattle.net_plan.specs.declared.certificate.Certificate.{Certificate}
+use Rattle.plan_values.specs.declared.certificate.Certificate.{Certificate}
 use Rattle.net_tables.specs.Routing.{Holds}
 use Rattle.net_tables.specs.Repositories.{terminus_of, records_by_place}
 use Rattle.net_tables.specs.TwoPlans.{Tables}

@@ -12,8 +12,8 @@ use crate::assigning::requests::{allocate_pool, set_eid};
 pub use assignment::Assignment;
 pub use laws::one_assignment;
 use net_check::Checked;
-use net_plan::{Certificate, Node, Plan};
 use net_tables::lookup::{is_on_bus, level_of};
+use plan_values::{Certificate, Node, Plan};
 use std::alloc::{AllocError, Global};
 
 /// The requests that give each owned node its endpoint ID and, where it has one, its pool: Set Endpoint ID, then

@@ -1,14 +1,14 @@
 //! Termini dealt to the nodes of a plan.
 ghost use Rattle.std.specs.Prelude.{◌≡◌, ◌∷◌, List, IfOk, count_by, is_some, length, map, option_map};
 ghost use Rattle.std.specs.Vec.Iter.{into_iter_items};
-ghost use Rattle.net_plan.specs.declared.nodes.Node.{Node};
-ghost use Rattle.net_plan.specs.declared.certificate.Certificate.{Certificate};
+ghost use Rattle.plan_values.specs.declared.nodes.Node.{Node};
+ghost use Rattle.plan_values.specs.declared.certificate.Certificate.{Certificate};
 ghost use Rattle.net_sim.specs.TerminusQueues.{queue_state};
 ghost use Rattle.net_sim.specs.Dealing.{resting, dealt, planned_termini};
 
 use crate::terminus_queue::TerminusQueue;
-use net_plan::{Node, Plan};
 use pdr_repository::Terminus;
+use plan_values::{Node, Plan};
 use std::alloc::{AllocError, Global};
 use std::vec::IntoIter;
 

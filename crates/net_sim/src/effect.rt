@@ -1,6 +1,6 @@
 //! What an event does to the packets of a network.
 use crate::refusal::Refusal;
-use mctp_bridge::ForwardFault;
+use mctp_routing::ForwardFault;
 use mctp_transport::{DropCause, Key};
 
 /// What an event does to the packets of a network, their assemblers and the termini. Nodes are places in the plan's

@@ -14,7 +14,7 @@ use crate::kept_packet::KeptPacket;
 use crate::key_counts::{KeyCounts, KnownEids};
 use crate::payload::room_for_payload;
 use mctp_transport::{Eid, Key, PacketView};
-use net_plan::Node;
+use plan_values::Node;
 use std::alloc::{AllocError, Global};
 
 /// A packet on its way.

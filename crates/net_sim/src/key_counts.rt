@@ -2,7 +2,7 @@
 ghost use Rattle.std.specs.Prelude.{◌≡◌, map, IfOk};
 
 use mctp_transport::{Eid, Key};
-use net_plan::Node;
+use plan_values::Node;
 use std::alloc::{AllocError, Global};
 
 /// The most endpoint IDs that are known: as many as a plan has nodes.

@@ -15,8 +15,8 @@ use arrayvec::ArrayVec;
 pub use laws::requests_come_as_sent;
 use mctp_transport::PacketView;
 use net_check::{AcceptedNetwork, Checked, CheckedMove};
-use net_plan::{Event, Plan};
 use pdr_repository::{MAX_ANSWER, Terminus};
+use plan_values::{Event, Plan};
 use std::alloc::{AllocError, Global};
 
 /// What came of a list of events.

@@ -8,7 +8,7 @@ ghost use Rattle.net_runs.specs.Walkers.{fresh_walker, asking_key, answering_key
 
 use crate::standing::Standing;
 use mctp_transport::{Eid, Key, Tag};
-use pdr_repository::{MAX_RECORDS, WalkFault, WalkProgress, Walker};
+use pdr_repository::{MAX_RECORDS, Step, WalkFault, Walker};
 use pldm_message::{GetPdrRequest, InstanceId, InstanceIds};
 use std::alloc::{AllocError, Global};
 
@@ -160,7 +160,7 @@ impl NetworkWalker {
 
     /// Takes a message that came under the key of its answers, where room was made before. The instance ID of the
     /// outstanding request is free again where the message is its answer.
-    pub fn take(&mut self, message: &[u8]) -> Result<WalkProgress, WalkFault>
+    pub fn take(&mut self, message: &[u8]) -> Result<Step, WalkFault>
         requires { IsReady self.old }
         ensures { HasTakenMessage (walker_value self.old) message.now result (walker_value self.new) }
     {

@@ -12,8 +12,8 @@ use crate::refusal::Refusal;
 use crate::waiting::{Waiting, WaitingMessages};
 use arrayvec::ArrayVec;
 use mctp_transport::Key;
-use net_plan::Node;
 use pdr_repository::{MAX_ANSWER, Terminus};
+use plan_values::Node;
 use std::alloc::{AllocError, Global};
 
 /// The terminus of a node, and the messages that wait there, oldest first.

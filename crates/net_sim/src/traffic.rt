@@ -23,8 +23,8 @@ use crate::terminus_queue::TerminusQueue;
 use mctp_transport::{Assembler, Eid, idle_assemblers};
 pub use moving::DecidedMove;
 use net_check::AcceptedNetwork;
-use net_plan::Plan;
 use pdr_repository::Terminus;
+use plan_values::Plan;
 use std::alloc::{AllocError, Global};
 
 /// What a network of a checked plan, or of a checked move, holds beside its walkers: the packets on their way, the

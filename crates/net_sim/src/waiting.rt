@@ -6,7 +6,7 @@ ghost use Rattle.net_sim.specs.Tallies.{AreCounted};
 
 use crate::key_counts::{KeyCounts, KnownEids};
 use mctp_transport::{Eid, Key};
-use net_plan::Node;
+use plan_values::Node;
 use std::alloc::{AllocError, Global};
 use std::collections::VecDeque;
 

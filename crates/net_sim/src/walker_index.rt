@@ -39,6 +39,7 @@ impl WalkerIndex {
     {
         match self.by_place.insert((node, eid.value, tag.value), index) {
             Ok(_) => Ok(()),
+            // no memory: the map could not grow.
             Err(_) => Err(AllocError),
         }
     }

@@ -2,8 +2,8 @@
 use Rattle.std.proofs.Common.{◌≡◌, ℕ, Some, None, sym, ◌∙◌, subst}
 use Rattle.std.specs.Prelude.{◌↔◌}
 use Rattle.std.proofs.lemmas.Option.{same_Some, none-some}
-use Rattle.net_plan.specs.declared.plan.Plan.{Plan}
-use Rattle.net_plan.specs.declared.nodes.Pool.{Pool}
+use Rattle.plan_values.specs.declared.plan.Plan.{Plan}
+use Rattle.plan_values.specs.declared.nodes.Pool.{Pool}
 use Rattle.net_tables.specs.Ownership.{pool_of, IsInPool, IsInPoolOf}
 
 pub in_pool_of : (plan : Plan) (n e : ℕ) (pool : Pool) → Some pool ≡ pool_of plan n → IsInPool pool e ↔ IsInPoolOf plan n e

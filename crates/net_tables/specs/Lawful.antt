@@ -1,7 +1,7 @@
 -- What runs need of a network's tables, whichever rows each node goes by.
 use Rattle.std.specs.Prelude.{◌≡◌, ◌≢◌, ◌⊎◌, ℕ, ◌<◌, Bool}
 use Rattle.mctp_transport.specs.PacketValues.{IsAssignable}
-use Rattle.net_plan.specs.declared.certificate.Certificate.{Certificate}
+use Rattle.plan_values.specs.declared.certificate.Certificate.{Certificate}
 use Rattle.net_tables.specs.Routing.{Holds, NamesFor, IsBridge}
 use Rattle.net_tables.specs.TwoPlans.{Tables, rows_by, HasRowAlways}
 use Rattle.net_tables.specs.Ranks.{rank}

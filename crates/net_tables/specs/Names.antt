@@ -1,12 +1,12 @@
 -- The names of a plan's nodes and buses, the words of kinds, and the addresses of ports.
 use Rattle.std.specs.Prelude.{◌≡◌, ◌≢◌, ◌<◌, ℕ, ◌==◌, List, [], Option, Some}
 use Rattle.std.specs.Prelude.{None, codes, find, option_map, slice_get, string_bytes, unwrap_or}
-use Rattle.mctp_bridge.specs.declared.device_kind.DeviceKind.{DeviceKind}
-use Rattle.mctp_bridge.specs.declared.device_kind.DeviceKind.TheVariants as device
-use Rattle.net_plan.specs.declared.plan.Plan.{Plan}
-use Rattle.net_plan.specs.declared.nodes.Kind.{Kind}
-use Rattle.net_plan.specs.declared.nodes.Kind.TheVariants.{Bridge, Endpoint}
-use Rattle.net_plan.specs.declared.nodes.Port.{Port}
+use Rattle.mctp_transport.specs.declared.device_kind.DeviceKind.{DeviceKind}
+use Rattle.mctp_transport.specs.declared.device_kind.DeviceKind.TheVariants as device
+use Rattle.plan_values.specs.declared.plan.Plan.{Plan}
+use Rattle.plan_values.specs.declared.nodes.Kind.{Kind}
+use Rattle.plan_values.specs.declared.nodes.Kind.TheVariants.{Bridge, Endpoint}
+use Rattle.plan_values.specs.declared.nodes.Port.{Port}
 use Rattle.net_tables.specs.Routing.{node_at, ports_of}
 
 -- a node's name; none beyond the plan

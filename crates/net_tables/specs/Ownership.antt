@@ -1,10 +1,10 @@
 -- The owners, the pools and the levels of nodes, as a plan and its certificate give them.
 use Rattle.std.specs.Prelude.{◌≡◌, ℕ, ◌+◌, ◌<◌, ◌≤◌, ◌==◌, List, Option, Some, option_map, unwrap_or, find}
 use Rattle.std.specs.Option.{option_and_then}
-use Rattle.net_plan.specs.declared.plan.Plan.{Plan}
-use Rattle.net_plan.specs.declared.nodes.Pool.{Pool}
-use Rattle.net_plan.specs.declared.certificate.Certificate.{Certificate}
-use Rattle.net_plan.specs.declared.certificate.NodeLevel.{NodeLevel}
+use Rattle.plan_values.specs.declared.plan.Plan.{Plan}
+use Rattle.plan_values.specs.declared.nodes.Pool.{Pool}
+use Rattle.plan_values.specs.declared.certificate.Certificate.{Certificate}
+use Rattle.plan_values.specs.declared.certificate.NodeLevel.{NodeLevel}
 use Rattle.net_tables.specs.Routing.{node_at}
 
 -- the node that owns n; none where none does, and beyond the plan

@@ -8,9 +8,9 @@ ghost use Rattle.net_tables.specs.Ownership.{owner_of, given_level, level, pool_
 ghost use Rattle.net_tables.specs.Ranks.{rank_in, ranges_of};
 ghost use Rattle.net_tables.specs.Repositories.{terminus_of, records_of, places_of};
 
-use mctp_bridge::DeviceKind;
+use mctp_routing::DeviceKind;
 use mctp_transport::Eid;
-use net_plan::{
+use plan_values::{
     Bus, Certificate, Kind, Plan, PlannedRecord, PlannedTerminus, Pool, Port, RankRange,
     RecordPlace, Row,
 };

@@ -1,13 +1,13 @@
 //! The rows of a plan's nodes as routing tables, ready for look-ups.
 ghost use Rattle.std.specs.Prelude.{◌≡◌, IfOk, length, map};
 ghost use Rattle.std.specs.List.Sorted.{IsPermutation};
-ghost use Rattle.mctp_bridge.specs.Rows.{HasSameRoutes, IsTable};
+ghost use Rattle.mctp_routing.specs.Rows.{HasSameRoutes, IsTable};
 ghost use Rattle.net_tables.specs.Rows.{RowsAreApart, RowsAreInRange};
 ghost use Rattle.net_tables.specs.Tables.{AreRows, AreTabled, table_row};
 
 use crate::lookup::rows_at;
-use mctp_bridge::{Hop, RangeTable, TableFault};
-use net_plan::{Plan, Row};
+use mctp_routing::{Hop, RangeTable, TableFault};
+use plan_values::{Plan, Row};
 use std::alloc::{AllocError, Global};
 
 /// The routing tables of the plan's nodes, in their order.
@@ -41,17 +41,17 @@ pub fn routing_table(alloc: Global, rows: &[Row]) -> Result<RangeTable, AllocErr
 }
 
 /// The rows as those of a routing table.
-fn table_rows(alloc: Global, rows: &[Row]) -> Result<Vec<mctp_bridge::TableRow>, AllocError>
+fn table_rows(alloc: Global, rows: &[Row]) -> Result<Vec<mctp_routing::TableRow>, AllocError>
     ensures { IfOk result (λ copied. copied.items ≡ map table_row rows.now) }
 {
     rows.iter().map(table_row).collect(alloc)
 }
 
 /// The row as one of a routing table.
-fn table_row(row: &Row) -> mctp_bridge::TableRow
+fn table_row(row: &Row) -> mctp_routing::TableRow
     ensures { result ≡ table_row row.now }
 {
-    mctp_bridge::TableRow {
+    mctp_routing::TableRow {
         first: row.first,
         size: row.size,
         hop: Hop {

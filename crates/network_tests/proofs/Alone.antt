@@ -4,10 +4,10 @@ use Rattle.std.specs.Prelude.{option_map, slice_get, IfOk}
 use Rattle.std.specs.List.{filter_map, range_with_len}
 use Rattle.std.proofs.lemmas.Bool.{cases_lt, cases_order}
 use Rattle.std.proofs.lemmas.Option.{same_Some, none-some, slice_get_past, slice_get_within}
-use Rattle.net_plan.specs.declared.plan.Plan.{Plan}
-use Rattle.net_plan.specs.declared.certificate.Certificate.{Certificate}
-use Rattle.net_plan.specs.declared.terminus.PlannedRecord.{PlannedRecord}
-use Rattle.net_plan.specs.declared.terminus.PlannedTerminus.{PlannedTerminus}
+use Rattle.plan_values.specs.declared.plan.Plan.{Plan}
+use Rattle.plan_values.specs.declared.certificate.Certificate.{Certificate}
+use Rattle.plan_values.specs.declared.terminus.PlannedRecord.{PlannedRecord}
+use Rattle.plan_values.specs.declared.terminus.PlannedTerminus.{PlannedTerminus}
 use Rattle.pdr_repository.specs.Records.{Entry, IsLawful}
 use Rattle.net_tables.specs.Repositories.{terminus_of, records_of, places_of, entry_of, by_place, records_by_place, HaveOrder}
 use Rattle.net_rules.specs.Rules.{Accepts}

@@ -1,7 +1,7 @@
 -- Runs from the start of a plan of which one node has a terminus.
 use Rattle.std.specs.Prelude.{◌≡◌, ◌≢◌, ℕ, List, map, None}
-use Rattle.net_plan.specs.declared.plan.Plan.{Plan}
-use Rattle.net_plan.specs.declared.certificate.Certificate.{Certificate}
+use Rattle.plan_values.specs.declared.plan.Plan.{Plan}
+use Rattle.plan_values.specs.declared.certificate.Certificate.{Certificate}
 use Rattle.net_runs.specs.Walkers.{WalkedEvent, WalkedOutcome}
 use Rattle.net_tables.specs.Repositories.{terminus_of}
 use Rattle.net_runs.specs.WalkedRuns.{WalkedTurn, WalkedRun}

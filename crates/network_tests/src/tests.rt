@@ -1,4 +1,4 @@
-//! Tests over the public calls of `net_json`, `net_check` and `net_sim`: of what no command prints, and of growths of
+//! Tests over the public calls of `net_plan`, `net_check` and `net_sim`: of what no command prints, and of growths of
 //! memory that are refused. Which texts are read, what the rules find and what comes of lists of events the rows in
 //! `tests/` tell of the program: `explain.rows`, `rules.rows`, `runs.rows` and `walks.rows` first.
 mod asking_again;
@@ -20,3 +20,4 @@ mod refused_texts;
 mod refused_walks;
 mod streams;
 mod termini;
+mod two_kinds;

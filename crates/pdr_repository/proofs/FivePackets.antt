@@ -4,13 +4,13 @@ use Rattle.std.specs.Option.{option_to_list}
 use Rattle.mctp_transport.specs.PacketValues.{PacketValue}
 use Rattle.mctp_transport.proofs.Sending.{few_packets, many_packets}
 use Rattle.pldm_message.specs.Messages.{ResponseHeadValue}
-use Rattle.pldm_message.specs.Pdrs.{PartRequest, Part, part_numbers, get_pdr_response_bytes}
+use Rattle.pldm_message.specs.Pdrs.{PartRequest, Part, part_numbers, get_pdr_answer_bytes}
 use Rattle.pdr_repository.specs.Records.{Entry}
 use Rattle.pdr_repository.specs.Parts.{PartAnswer, AnswersPart}
 use Rattle.pdr_repository.specs.FivePackets.{AreSentFor, FitFive, PassFive}
 
 -- the header, the completion code and the numbers are 16 bytes
-length_of : (head : ResponseHeadValue) (p : Part) → length (get_pdr_response_bytes (record { head = head; outcome = Ok p })) ≡ 16 + length p.bytes + length (option_to_list p.crc)
+length_of : (head : ResponseHeadValue) (p : Part) → length (get_pdr_answer_bytes (record { head = head; outcome = Ok p })) ≡ 16 + length p.bytes + length (option_to_list p.crc)
 length_of head p = omega (arith, length-append (part_numbers p) p.bytes, length-append p.bytes (option_to_list p.crc))
 
 pub one_at_most : (check : Option ℕ) → length (option_to_list check) ≤ 1
@@ -33,7 +33,7 @@ not_longer records r p (inr (_, inr (_, inr (_, (place, e, _, inr (_, inr (_, (q
     let taken : length q.bytes ≤ r.count = omega (arith, ap length part.taken, length-take {A = ℕ}) in
     subst (λ (s : Part). length s.bytes ≤ r.count) (sym same) taken
 
-five : (unit : ℕ) (head : ResponseHeadValue) (a : PartAnswer) (packets : List PacketValue) → length (get_pdr_response_bytes (record { head = head; outcome = a })) ≤ 5 * unit
+five : (unit : ℕ) (head : ResponseHeadValue) (a : PartAnswer) (packets : List PacketValue) → length (get_pdr_answer_bytes (record { head = head; outcome = a })) ≤ 5 * unit
     → AreSentFor unit (record { head = head; outcome = a }) packets → length packets ≤ 5
 five unit head a packets short (d, key, start, are) = few_packets unit 5 _ d key start packets are short
 
@@ -53,8 +53,8 @@ fit_five unit count least room records r m packets few answered sent = fit_at un
 -- and more don't
 pub pass_five : (unit count : ℕ) → 5 * unit < count + 17 → PassFive unit count
 pass_five unit count over m p packets is long check (d, key, start, are) =
-    let P : PartAnswer → Type 0 = λ a. length (get_pdr_response_bytes (record { head = m.head; outcome = a })) ≡ 16 + length p.bytes + length (option_to_list p.crc) in
-    let whole : length (get_pdr_response_bytes m) ≡ 16 + length p.bytes + length (option_to_list p.crc) = subst P (sym is) (length_of m.head p) in
+    let P : PartAnswer → Type 0 = λ a. length (get_pdr_answer_bytes (record { head = m.head; outcome = a })) ≡ 16 + length p.bytes + length (option_to_list p.crc) in
+    let whole : length (get_pdr_answer_bytes m) ≡ 16 + length p.bytes + length (option_to_list p.crc) = subst P (sym is) (length_of m.head p) in
     let one = one_there p.crc check in
     let most = many_packets unit _ d key start packets are in
     let room : 5 * unit < length packets * unit = omega arith in

@@ -9,17 +9,17 @@ use Rattle.pldm_message.specs.Headers.{HeaderValue, BeginsWith, IsHeader, header
 use Rattle.pldm_message.specs.HeaderLaws.{one_header}
 use Rattle.pldm_message.specs.Messages.{ResponseMessage, answer_header}
 use Rattle.pldm_message.specs.Pdrs.{PartRequest, Part}
-use Rattle.pldm_message.specs.PdrLaws.{one_get_pdr_response}
+use Rattle.pldm_message.specs.PdrLaws.{one_get_pdr_answer}
 use Rattle.pdr_repository.specs.Crc.{IsCrc}
 use Rattle.pdr_repository.specs.Records.{Entry, IsLawful, handle_in, handle_at, bytes_by_place}
 use Rattle.pdr_repository.specs.Parts.{PartAnswer, AnswersPart, IsPartOf}
 use Rattle.pdr_repository.specs.Walks.{Exchange, Walk, Collects, IsFinished, due_after, follows, data_of, flag_of, HasFlag}
 use Rattle.pdr_repository.specs.Faults.{Room, Judges, IsLast, HasWrongFlag, HasWrongSize, HasWrongCrc, HasWrongHandle, HasDoubledHandle}
-use Rattle.pdr_repository.specs.declared.walk_fault.WalkProgress.{WalkProgress}
+use Rattle.pdr_repository.specs.declared.walk_fault.Step.{Step as WalkStep}
 use Rattle.pdr_repository.specs.declared.walk_fault.WalkFault.{WalkFault}
 use Rattle.pdr_repository.specs.declared.walk_fault.WalkFault.TheVariants.{TooMuch, OutOfMemory}
 use Rattle.pdr_repository.specs.Walkers.{WalkState, HasTakenIn, Fails, Proceeds, state_after, completed, data_with, room_of, Takes, TakesOutcome, IsAnswerIn, IsDueAnswer, WalksOn, TakesDueAnswer, Tells, TellsStep}
-use Rattle.pdr_repository.specs.declared.walk_fault.WalkProgress.TheVariants.{Done}
+use Rattle.pdr_repository.specs.declared.walk_fault.Step.TheVariants.{Done}
 use Rattle.pdr_repository.proofs.Headers.{HasHeader, lawful_header}
 use Rattle.pdr_repository.proofs.Collecting.{start_more, middle_more, whole_more, end_more, one_rest, collects_once}
 use Rattle.pdr_repository.proofs.Dues.{IsDue, FlagBy, More, Complete}
@@ -177,7 +177,7 @@ same_header h m bytes begins spelled =
     ap (λ (g : HeaderValue). g.instance) (one_header h (answer_header GetPdr m.head) begins.0 lawful (sym begins.1 ∙ front))
 
 -- a message that is an answer under the outstanding ID is taken as that answer
-takes_outcome : (old new : WalkState) (r : PartRequest) (m : ResponseMessage Part) (bytes : List ℕ) (result : Result WalkProgress WalkFault) → old.failed ≡ false → old.due ≡ Some r
+takes_outcome : (old new : WalkState) (r : PartRequest) (m : ResponseMessage Part) (bytes : List ℕ) (result : Result WalkStep WalkFault) → old.failed ≡ false → old.due ≡ Some r
     → old.waiting ≡ Some m.head.instance → IsAnswerIn bytes m → Takes old bytes result new → TakesOutcome old r m.outcome result new
 takes_outcome old new r m bytes result goes due waiting spelled (inl (failed, _)) = absurd (let f : true ≡ false = sym failed ∙ goes in cc)
 takes_outcome old new r m bytes result goes due waiting spelled (inr (_, inl (none, _))) = absurd (let f : None ≡ Some m.head.instance = sym none ∙ waiting in cc)
@@ -189,10 +189,10 @@ takes_outcome old new r m bytes result goes due waiting spelled (inr (_, inr (_,
 takes_outcome old new r m bytes result goes due waiting spelled (inr (_, inr (_, inr (_, (h, begins, inr (_, inr (_, (n, s, other, asked, rest)))))))) =
     let P : PartRequest → Type 0 = λ q. TakesOutcome old q m.outcome result new in
     let Q : ResponseMessage Part → Type 0 = λ a. TakesOutcome old s a.outcome result new in
-    subst P (same_Some s r (sym asked ∙ due)) (subst Q (one_get_pdr_response n m other.0 spelled.0 (sym other.1 ∙ spelled.1)) rest)
+    subst P (same_Some s r (sym asked ∙ due)) (subst Q (one_get_pdr_answer n m other.0 spelled.0 (sym other.1 ∙ spelled.1)) rest)
 
 -- a walker that stands for a walk has collected its beginning
-walks_on : (records : List Entry) (xs : List Exchange) (step : WalkProgress) (new : WalkState) → IsLawful records → 8 ≤ new.count → new.count ≤ 4079 → Walk records new.count xs → HasTakenIn new xs
+walks_on : (records : List Entry) (xs : List Exchange) (step : WalkStep) (new : WalkState) → IsLawful records → 8 ≤ new.count → new.count ≤ 4079 → Walk records new.count xs → HasTakenIn new xs
     → (step ≡ Done → new.due ≡ None) → WalksOn records xs step new
 walks_on records xs step new lawful least most walk stands done =
     let all = every_walk_collects records new.count xs lawful least most walk in
@@ -206,19 +206,19 @@ walks_on records xs step new lawful least most walk stands done =
       exact = λ is. all.exact.0 (finished is);
     }
 
-proceeds : (records : List Entry) (xs : List Exchange) (x : Exchange) (old new : WalkState) (p : Part) (result : Result WalkProgress WalkFault) → IsLawful records → 8 ≤ old.count → old.count ≤ 4079
+proceeds : (records : List Entry) (xs : List Exchange) (x : Exchange) (old new : WalkState) (p : Part) (result : Result WalkStep WalkFault) → IsLawful records → 8 ≤ old.count → old.count ≤ 4079
     → Walk records old.count (xs ++ x ∷ []) → HasTakenIn (state_after old x.request p) (xs ++ x ∷ []) → Proceeds old x.request p result new → Tells result old new
     → MatchResult result (λ step. WalksOn records (xs ++ x ∷ []) step new) (λ fault. (fault ≡ TooMuch) ⊎ (fault ≡ OutOfMemory))
 proceeds records xs x old new p (Ok step) lawful least most walk after (_, is) told =
     let P : WalkState → Type 0 = λ w. HasTakenIn w (xs ++ x ∷ []) in
     let count : new.count ≡ old.count = ap (λ (w : WalkState). w.count) is in
     let W : ℕ → Type 0 = λ n. Walk records n (xs ++ x ∷ []) in
-    let T : WalkProgress → Type 0 = λ s. TellsStep s old new in
+    let T : WalkStep → Type 0 = λ s. TellsStep s old new in
     walks_on records (xs ++ x ∷ []) step new lawful (omega arith) (omega arith) (subst W (sym count) walk) (subst P (sym is) after) (λ done. (subst T done told).2)
 proceeds records xs x old new p (Err fault) lawful least most walk after (is, same) told = inr is
 
 -- the outcome of the request that is due in a walk
-goes_on_outcome : (old new : WalkState) (bytes : List ℕ) (result : Result WalkProgress WalkFault) (records : List Entry) (xs : List Exchange) (x : Exchange) → 8 ≤ old.count → old.count ≤ 4079
+goes_on_outcome : (old new : WalkState) (bytes : List ℕ) (result : Result WalkStep WalkFault) (records : List Entry) (xs : List Exchange) (x : Exchange) → 8 ≤ old.count → old.count ≤ 4079
     → IsDueAnswer old bytes records xs x → (w : Within records old.count xs) → TakesOutcome old x.request x.answer result new → Tells result old new
     → MatchResult result (λ step. WalksOn records (xs ++ x ∷ []) step new) (λ fault. (fault ≡ TooMuch) ⊎ (fault ≡ OutOfMemory))
 goes_on_outcome old new bytes result records xs x least most given w takes told =
@@ -255,7 +255,7 @@ goes_on_outcome old new bytes result records xs x least most given w takes told 
       | inr is ↦ proceeds records xs x old new p result given.lawful least most on after (subst P is out.2) told
     ]
 
-pub goes_on : (old new : WalkState) (bytes : List ℕ) (result : Result WalkProgress WalkFault) → 8 ≤ old.count → old.count ≤ 4079 → Takes old bytes result new → TakesDueAnswer old bytes result new
+pub goes_on : (old new : WalkState) (bytes : List ℕ) (result : Result WalkStep WalkFault) → 8 ≤ old.count → old.count ≤ 4079 → Takes old bytes result new → TakesDueAnswer old bytes result new
 goes_on old new bytes result least most takes records xs x given =
     let asked : due_after old.count xs ≡ Some x.request = sym given.stands.due ∙ given.due in
     let outcome = takes_outcome old new x.request (record { head = given.head; outcome = x.answer }) bytes result given.stands.goes given.due given.waiting given.spelled takes in

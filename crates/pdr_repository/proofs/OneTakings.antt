@@ -7,16 +7,16 @@ use Rattle.pldm_message.specs.Headers.{HeaderValue, BeginsWith}
 use Rattle.pldm_message.specs.HeaderLaws.{one_header}
 use Rattle.pldm_message.specs.Messages.{ResponseMessage}
 use Rattle.pldm_message.specs.Pdrs.{PartRequest, IsPartRequest, Part, get_pdr_request_bytes}
-use Rattle.pldm_message.specs.PdrLaws.{one_get_pdr_response}
+use Rattle.pldm_message.specs.PdrLaws.{one_get_pdr_answer}
 use Rattle.pdr_repository.specs.Parts.{PartAnswer}
 use Rattle.pdr_repository.specs.Faults.{Judges, Room}
-use Rattle.pdr_repository.specs.declared.walk_fault.WalkProgress.{WalkProgress}
+use Rattle.pdr_repository.specs.declared.walk_fault.Step.{Step as WalkStep}
 use Rattle.pdr_repository.specs.declared.walk_fault.WalkFault.{WalkFault}
 use Rattle.pdr_repository.specs.declared.walk_fault.WalkFault.TheVariants.{FailedBefore, NotAsked, Unreadable, RecordChanged, OtherCode, OutOfMemory}
 use Rattle.pdr_repository.specs.Walkers.{WalkState, Asks, asked_under, Takes, TakesOutcome, TakesMessage, Proceeds, Ignores, Fails, IsAnswerIn, room_of}
 
 abbrev Answered : Type 0
-Answered = Result WalkProgress WalkFault
+Answered = Result WalkStep WalkFault
 
 abbrev pub AreOne : Answered → Answered → WalkState → WalkState → Type 0
 AreOne a b u v = (a ≡ b) × (u ≡ v)
@@ -68,7 +68,7 @@ module _ (old : WalkState) (a b : Answered) (u v : WalkState) (some : a ≢ Err 
       read : (m : ResponseMessage Part) × (r : PartRequest) × IsAnswerIn bytes m × (old.due ≡ Some r) × TakesOutcome old r m.outcome a u
           → (m : ResponseMessage Part) × (r : PartRequest) × IsAnswerIn bytes m × (old.due ≡ Some r) × TakesOutcome old r m.outcome b v → AreOne a b u v
       read (m, r, spelled, due, x) (n, s, spelled', due', y) =
-          let same : n ≡ m = one_get_pdr_response n m spelled'.0 spelled.0 (sym spelled'.1 ∙ spelled.1) in
+          let same : n ≡ m = one_get_pdr_answer n m spelled'.0 spelled.0 (sym spelled'.1 ∙ spelled.1) in
           let request : s ≡ r = same_Some s r (sym due' ∙ due) in
           let M : ResponseMessage Part → Type 0 = λ k. TakesOutcome old s k.outcome b v in
           let R : PartRequest → Type 0 = λ q. TakesOutcome old q m.outcome b v in

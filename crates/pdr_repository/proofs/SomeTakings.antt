@@ -8,7 +8,7 @@ use Rattle.pdr_repository.specs.Crc.{IsCrc}
 use Rattle.pdr_repository.specs.Records.{handle_in, data_length_in}
 use Rattle.pdr_repository.specs.Parts.{PartAnswer}
 use Rattle.pdr_repository.specs.Faults.{IsLast, IsFlagFor, HasWrongFlag, HasWrongSize, HasWrongCrc, HasWrongHandle, HasDoubledHandle, Room, IsTooMuch, Judges}
-use Rattle.pdr_repository.specs.declared.walk_fault.WalkProgress.{WalkProgress}
+use Rattle.pdr_repository.specs.declared.walk_fault.Step.{Step as WalkStep}
 use Rattle.pdr_repository.specs.declared.walk_fault.WalkFault.{WalkFault}
 use Rattle.pdr_repository.specs.declared.walk_fault.WalkFault.TheVariants.{FailedBefore, NotAsked, Unreadable, RecordChanged, OtherCode, WrongFlag, WrongSize, WrongCrc, WrongHandle, DoubledHandle, TooMuch, OutOfMemory}
 use Rattle.pdr_repository.specs.Walkers.{WalkState, Takes, TakesMessage, TakesOutcome, room_of, state_after, step_after}
@@ -98,23 +98,23 @@ some_judgement room records before r p = elim (wrong_flag_or_not r p) [
 
 -- something comes of them, not for want of memory; a step only where a request is outstanding
 pub record SomeTaking (old : WalkState) (bytes : List ℕ) : Type 0 where
-  pub result : Result WalkProgress WalkFault
+  pub result : Result WalkStep WalkFault
   pub new : WalkState
   pub takes : Takes old bytes result new
   pub memory : result ≢ Err OutOfMemory
   pub answers : MatchResult result (λ step. (id : ℕ) × (old.waiting ≡ Some id)) (λ fault. Unit {0})
 
 -- what comes of a message under the outstanding ID
-record SomeOutcome (P : Result WalkProgress WalkFault → WalkState → Type 0) : Type 0 where
-  result : Result WalkProgress WalkFault
+record SomeOutcome (P : Result WalkStep WalkFault → WalkState → Type 0) : Type 0 where
+  result : Result WalkStep WalkFault
   new : WalkState
   is : P result new
   memory : result ≢ Err OutOfMemory
 
-other_fault : (fault : WalkFault) → Some fault ≢ Some OutOfMemory → ◌≢◌ {A = Result WalkProgress WalkFault} (Err fault) (Err OutOfMemory)
+other_fault : (fault : WalkFault) → Some fault ≢ Some OutOfMemory → ◌≢◌ {A = Result WalkStep WalkFault} (Err fault) (Err OutOfMemory)
 other_fault fault other e = other (ap Some (same fault OutOfMemory e))
   where
-    same : (f g : WalkFault) → ◌≡◌ {A = Result WalkProgress WalkFault} (Err f) (Err g) → f ≡ g
+    same : (f g : WalkFault) → ◌≡◌ {A = Result WalkStep WalkFault} (Err f) (Err g) → f ≡ g
     same f g e = cc
 
 some_outcome : (old : WalkState) (r : PartRequest) (a : PartAnswer) → SomeOutcome (TakesOutcome old r a)
@@ -178,7 +178,7 @@ takes_something old bytes outstanding = failed old.failed refl
                   }
             ]
               where
-                under_it : (result : Result WalkProgress WalkFault) → MatchResult result (λ step. (id : ℕ) × (old.waiting ≡ Some id)) (λ fault. Unit {0})
+                under_it : (result : Result WalkStep WalkFault) → MatchResult result (λ step. (id : ℕ) × (old.waiting ≡ Some id)) (λ fault. Unit {0})
                 under_it (Ok step) = (id, under)
                 under_it (Err fault) = tt
 

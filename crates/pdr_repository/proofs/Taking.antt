@@ -7,7 +7,7 @@ use Rattle.pldm_message.specs.Headers.{HeaderValue, BeginsWith}
 use Rattle.pldm_message.specs.Pdrs.{PartRequest, Part}
 use Rattle.pdr_repository.specs.Walks.{IsStretch, follows}
 use Rattle.pdr_repository.specs.Faults.{IsLast}
-use Rattle.pdr_repository.specs.declared.walk_fault.WalkProgress.{WalkProgress}
+use Rattle.pdr_repository.specs.declared.walk_fault.Step.{Step as WalkStep}
 use Rattle.pdr_repository.specs.declared.walk_fault.WalkFault.{WalkFault}
 use Rattle.pdr_repository.specs.Walkers.{WalkState, HasTakenIn, fresh, Proceeds, state_after, Ignores, Takes, TakesMessage}
 use Rattle.pdr_repository.specs.declared.walk_fault.WalkFault.TheVariants.{NotAsked}
@@ -27,12 +27,12 @@ same_follows : (r s : PartRequest) (p : Part) → r.count ≡ s.count → IsLast
 same_follows r s p counts (inl four) = rw (four, counts) refl
 same_follows r s p counts (inr five) = rw (five, counts) refl
 
-pub completes_for : (old : WalkState) (r s : PartRequest) (p : Part) (result : Result WalkProgress WalkFault) (new : WalkState) → r.count ≡ s.count → IsLast p → Proceeds old r p result new → Proceeds old s p result new
+pub completes_for : (old : WalkState) (r s : PartRequest) (p : Part) (result : Result WalkStep WalkFault) (new : WalkState) → r.count ≡ s.count → IsLast p → Proceeds old r p result new → Proceeds old s p result new
 completes_for old r s p (Err fault) new counts last proceeds = proceeds
 completes_for old r s p (Ok step) new counts last (is, state) = (is, state ∙ ap (λ d. record (state_after old r p) { due = d }) (same_follows r s p counts last))
 
 -- a message with a header, while a request is outstanding
-pub takes_headed : (old : WalkState) (bytes : List ℕ) (result : Result WalkProgress WalkFault) (new : WalkState) (h : HeaderValue) (id : ℕ) → old.failed ≡ false → old.waiting ≡ Some id → BeginsWith h bytes
+pub takes_headed : (old : WalkState) (bytes : List ℕ) (result : Result WalkStep WalkFault) (new : WalkState) (h : HeaderValue) (id : ℕ) → old.failed ≡ false → old.waiting ≡ Some id → BeginsWith h bytes
     → First (old.waiting ≢ Some h.instance) (Ignores old NotAsked result new) (TakesMessage old bytes result new) → Takes old bytes result new
 takes_headed old bytes result new h id goes waiting begins rest = inr (
   (λ failed. let e : true ≡ false = sym failed ∙ goes in cc),

@@ -7,8 +7,8 @@ use Rattle.pldm_message.specs.Pdrs.{PartRequest, Part, get_pdr_request_bytes}
 use Rattle.pdr_repository.specs.Parts.{PartAnswer}
 use Rattle.pdr_repository.specs.Walks.{first_part, follows}
 use Rattle.pdr_repository.specs.Faults.{Judges, HasWrongFlag}
-use Rattle.pdr_repository.specs.declared.walk_fault.WalkProgress.{WalkProgress}
-use Rattle.pdr_repository.specs.declared.walk_fault.WalkProgress.TheVariants.{Record, Done}
+use Rattle.pdr_repository.specs.declared.walk_fault.Step.{Step as WalkStep}
+use Rattle.pdr_repository.specs.declared.walk_fault.Step.TheVariants.{Record, Done}
 use Rattle.pdr_repository.specs.declared.walk_fault.WalkFault.{WalkFault}
 use Rattle.pdr_repository.specs.Walkers.{WalkState, HasTakenIn, Asks, AsksWhatIsDue, asked_under, Proceeds, Fails, TakesOutcome, Takes, TellsStep, Tells, state_after, step_after, room_of}
 
@@ -39,11 +39,11 @@ completes : (old : WalkState) (r : PartRequest) (p : Part) (bytes : List ℕ) �
     → (state_after old r p).records ≡ old.records ++ bytes ∷ [] → follows r (Ok p) ≡ (if p.next == 0 then None else Some (first_part r.count p.next)) → TellsStep (step_after p) old (state_after old r p)
 completes old r p bytes says more due = elim (eqb_tells p.next 0) [
   | inl none ↦
-      let P : WalkProgress → Type 0 = λ s. TellsStep s old (state_after old r p) in
+      let P : WalkStep → Type 0 = λ s. TellsStep s old (state_after old r p) in
       let done : step_after p ≡ Done = says ∙ rw none.0 refl in
       subst P (sym done) (bytes, more, due ∙ rw none.0 refl)
   | inr some ↦
-      let P : WalkProgress → Type 0 = λ s. TellsStep s old (state_after old r p) in
+      let P : WalkStep → Type 0 = λ s. TellsStep s old (state_after old r p) in
       let one_more : step_after p ≡ Record = says ∙ rw some.0 refl in
       let asks : follows r (Ok p) ≡ Some (first_part r.count p.next) = due ∙ rw some.0 refl in
       subst P (sym one_more) (bytes, more, λ over. let e : Some (first_part r.count p.next) ≡ None = sym asks ∙ over in cc)
@@ -55,29 +55,29 @@ told old r p (inr (inl is)) = rw is (append-nil old.records, λ none. cc)
 told old r p (inr (inr (inl is))) = completes old r p (old.under_way ++ p.bytes) (rw is refl) (rw is refl) (rw is refl)
 told old r p (inr (inr (inr is))) = completes old r p p.bytes (rw is refl) (rw is refl) (rw is refl)
 
-told_after : (old new : WalkState) (r : PartRequest) (p : Part) (result : Result WalkProgress WalkFault) → Flags p → Proceeds old r p result new → Tells result old new
+told_after : (old new : WalkState) (r : PartRequest) (p : Part) (result : Result WalkStep WalkFault) → Flags p → Proceeds old r p result new → Tells result old new
 told_after old new r p (Err fault) flagged proceeds = tt
 told_after old new r p (Ok step) flagged (says, state) =
-    let P : WalkProgress → Type 0 = λ s. TellsStep s old new in
+    let P : WalkStep → Type 0 = λ s. TellsStep s old new in
     let Q : WalkState → Type 0 = λ w. TellsStep (step_after p) old w in
     subst P (sym says) (subst Q (sym state) (told old r p flagged))
 
-nothing_said : (old new : WalkState) (fault : WalkFault) (result : Result WalkProgress WalkFault) → result ≡ Err fault → Tells result old new
+nothing_said : (old new : WalkState) (fault : WalkFault) (result : Result WalkStep WalkFault) → result ≡ Err fault → Tells result old new
 nothing_said old new fault result is = rw is tt
 
-by_fault : (old new : WalkState) (r : PartRequest) (p : Part) (result : Result WalkProgress WalkFault) (fault : Option WalkFault) → Judges (room_of old) old.records old.under_way r p fault
+by_fault : (old new : WalkState) (r : PartRequest) (p : Part) (result : Result WalkStep WalkFault) (fault : Option WalkFault) → Judges (room_of old) old.records old.under_way r p fault
     → MatchOption fault (Proceeds old r p result new) (λ f. Fails old f result new) → Tells result old new
 by_fault old new r p result (Some fault) judges out = nothing_said old new fault result out.0
 by_fault old new r p result None (inl (_, e)) out = absurd (let f : None ≡ Some _ = e in cc)
 by_fault old new r p result None (inr (right, _)) out = told_after old new r p result (flags r p right) out
 
-by_outcome : (old new : WalkState) (r : PartRequest) (a : PartAnswer) (result : Result WalkProgress WalkFault) → TakesOutcome old r a result new → Tells result old new
+by_outcome : (old new : WalkState) (r : PartRequest) (a : PartAnswer) (result : Result WalkStep WalkFault) → TakesOutcome old r a result new → Tells result old new
 by_outcome old new r (Err code) result (inl (_, out)) = nothing_said old new _ result out.0
 by_outcome old new r (Err code) result (inr (_, out)) = nothing_said old new _ result out.0
 by_outcome old new r (Ok p) result (fault, judges, out) = by_fault old new r p result fault judges out
 
 -- each step says what was taken
-pub tells : (old new : WalkState) (bytes : List ℕ) (result : Result WalkProgress WalkFault) → Takes old bytes result new → Tells result old new
+pub tells : (old new : WalkState) (bytes : List ℕ) (result : Result WalkStep WalkFault) → Takes old bytes result new → Tells result old new
 tells old new bytes result (inl (_, out)) = nothing_said old new _ result out.0
 tells old new bytes result (inr (_, inl (_, out))) = nothing_said old new _ result out.0
 tells old new bytes result (inr (_, inr (_, inl (_, out)))) = nothing_said old new _ result out.0

@@ -3,7 +3,7 @@ use Rattle.std.proofs.Common.{◌≡◌, ◌≢◌, ◌⊎◌, ◌+◌, ◌<◌,
 use Rattle.std.specs.Prelude.{OnErr}
 use Rattle.pldm_message.specs.Pdrs.{PartRequest, Part}
 use Rattle.pdr_repository.specs.Faults.{IsLast, Judges, Room}
-use Rattle.pdr_repository.specs.declared.walk_fault.WalkProgress.{WalkProgress}
+use Rattle.pdr_repository.specs.declared.walk_fault.Step.{Step as WalkStep}
 use Rattle.pdr_repository.specs.declared.walk_fault.WalkFault.{WalkFault}
 use Rattle.pdr_repository.specs.declared.walk_fault.WalkFault.TheVariants.{WrongFlag, WrongSize, OutOfMemory}
 use Rattle.pdr_repository.specs.declared.walker.Walker.{Walker}
@@ -26,16 +26,16 @@ as_asked room records before r p (inr (_, inl (_, is))) = absurd (let e : None �
 as_asked room records before r p (inr (_, inr (fits, _))) = let short : ¬ (r.count < length p.bytes) = λ long. fits (inr (inl long)) in omega arith
 
 -- another fault
-pub other_fault : (P : Type 0) (result : Result WalkProgress WalkFault) (f : WalkFault) → result ≡ Err f → f ≢ OutOfMemory → result ≡ Err OutOfMemory → P
+pub other_fault : (P : Type 0) (result : Result WalkStep WalkFault) (f : WalkFault) → result ≡ Err f → f ≢ OutOfMemory → result ≡ Err OutOfMemory → P
 other_fault P result f is other wants = absurd (other (cc))
 
-pub lacks_at_last : (w : Walker) (p : Part) (result : Result WalkProgress WalkFault) → length p.bytes ≤ w.count → IsLast p
+pub lacks_at_last : (w : Walker) (p : Part) (result : Result WalkStep WalkFault) → length p.bytes ≤ w.count → IsLast p
     → OnErr result ((vec_capacity w.under_way < vec_len w.under_way + length p.bytes) ⊎ (vec_capacity w.collected.records ≤ vec_len w.collected.records)) → result ≡ Err OutOfMemory → LacksRoom w p
 lacks_at_last w p (Ok step) short last full wants = absurd (cc)
 lacks_at_last w p (Err f) short last (inl bytes) wants = (short, inl bytes)
 lacks_at_last w p (Err f) short last (inr list) wants = (short, inr (last, list))
 
-pub lacks_before : (w : Walker) (p : Part) (result : Result WalkProgress WalkFault) → length p.bytes ≤ w.count → OnErr result (vec_capacity w.under_way < vec_len w.under_way + length p.bytes)
+pub lacks_before : (w : Walker) (p : Part) (result : Result WalkStep WalkFault) → length p.bytes ≤ w.count → OnErr result (vec_capacity w.under_way < vec_len w.under_way + length p.bytes)
     → result ≡ Err OutOfMemory → LacksRoom w p
 lacks_before w p (Ok step) short full wants = absurd (cc)
 lacks_before w p (Err f) short full wants = (short, inl full)

@@ -3,7 +3,7 @@ use Rattle.std.specs.Prelude.{◌≡◌, ℕ, ◌<◌, ◌≤◌, List, length, 
 use Rattle.mctp_transport.specs.PacketValues.{PacketValue, KeyValue}
 use Rattle.mctp_transport.specs.Cutting.{ArePacketsOf}
 use Rattle.pldm_message.specs.Messages.{ResponseMessage}
-use Rattle.pldm_message.specs.Pdrs.{PartRequest, Part, get_pdr_response_bytes}
+use Rattle.pldm_message.specs.Pdrs.{PartRequest, Part, get_pdr_answer_bytes}
 use Rattle.pdr_repository.specs.Records.{Entry}
 use Rattle.pdr_repository.specs.Parts.{AnswersPart}
 
@@ -11,7 +11,7 @@ use Rattle.pdr_repository.specs.Parts.{AnswersPart}
 abbrev pub AreSentFor : ℕ → ResponseMessage Part → List PacketValue → Type 0
 AreSentFor unit m packets =
     (destination : ℕ) × (key : KeyValue) × (start : ℕ)
-    × ArePacketsOf unit (get_pdr_response_bytes m) destination key start packets
+    × ArePacketsOf unit (get_pdr_answer_bytes m) destination key start packets
 
 -- What is answered to a request for at most so many bytes has at most five packets.
 abbrev pub FitFive : ℕ → ℕ → Type 0

@@ -8,14 +8,14 @@ use Rattle.pldm_message.specs.declared.kind.RequestKind.TheVariants.{Request}
 use Rattle.pldm_message.specs.Headers.{HeaderValue, BeginsWith}
 use Rattle.pldm_message.specs.Messages.{RequestMessage, ResponseMessage, ResponseHeadValue}
 use Rattle.pldm_message.specs.Pdrs.{PartRequest, IsPartRequest, Part, IsGetPdrResponse}
-use Rattle.pldm_message.specs.Pdrs.{get_pdr_request_bytes, get_pdr_response_bytes}
+use Rattle.pldm_message.specs.Pdrs.{get_pdr_request_bytes, get_pdr_answer_bytes}
 use Rattle.pdr_repository.specs.Records.{Entry, IsLawful, bytes_by_place}
 use Rattle.pdr_repository.specs.Parts.{PartAnswer, AnswersPart}
 use Rattle.pdr_repository.specs.Answers.{Answers}
 use Rattle.pdr_repository.specs.Walks.{Exchange, Walk, Collects, IsBeginning, exchanges, follows, due_after}
 use Rattle.pdr_repository.specs.Faults.{Judges, Room}
-use Rattle.pdr_repository.specs.declared.walk_fault.WalkProgress.{WalkProgress}
-use Rattle.pdr_repository.specs.declared.walk_fault.WalkProgress.TheVariants.{More, Record, Done}
+use Rattle.pdr_repository.specs.declared.walk_fault.Step.{Step as WalkStep}
+use Rattle.pdr_repository.specs.declared.walk_fault.Step.TheVariants.{More, Record, Done}
 use Rattle.pdr_repository.specs.declared.walk_fault.WalkFault.{WalkFault}
 use Rattle.pdr_repository.specs.declared.walk_fault.WalkFault.TheVariants.{FailedBefore, NotAsked}
 use Rattle.pdr_repository.specs.declared.walk_fault.WalkFault.TheVariants.{Unreadable, RecordChanged}
@@ -77,11 +77,11 @@ Asks old id request new =
     × (request ≡ Some (get_pdr_request_bytes (asked_under id r))) × (new ≡ record old { waiting = Some id }))
 
 -- nothing changes
-abbrev pub Ignores : WalkState → WalkFault → Result WalkProgress WalkFault → WalkState → Type 0
+abbrev pub Ignores : WalkState → WalkFault → Result WalkStep WalkFault → WalkState → Type 0
 Ignores old fault result new = (result ≡ Err fault) × (new ≡ old)
 
 -- the walker has failed, and keeps what it has collected
-abbrev pub Fails : WalkState → WalkFault → Result WalkProgress WalkFault → WalkState → Type 0
+abbrev pub Fails : WalkState → WalkFault → Result WalkStep WalkFault → WalkState → Type 0
 Fails old fault result new = (result ≡ Err fault) × (new ≡ record old { failed = true; taken = old.taken + 1 })
 
 -- the record that a part completes, if it does
@@ -103,18 +103,18 @@ state_after old r p = record old {
 }
 
 -- whether the record goes on, is complete, or was the last
-abbrev pub step_after : Part → WalkProgress
+abbrev pub step_after : Part → WalkStep
 step_after p = if p.flag == 0 then More else (if p.flag == 1 then More else (if p.next == 0 then Done else Record))
 
 -- the part is taken, or memory was refused and nothing changes
-abbrev pub Proceeds : WalkState → PartRequest → Part → Result WalkProgress WalkFault → WalkState → Type 0
+abbrev pub Proceeds : WalkState → PartRequest → Part → Result WalkStep WalkFault → WalkState → Type 0
 Proceeds old r p result new =
     MatchResult result (λ step. (step ≡ step_after p) × (new ≡ state_after old r p))
     (λ fault. (fault ≡ OutOfMemory) × (new ≡ old))
 
 -- what is done with the outcome of the request: a completion code, the first fault of the part, or else the part is
 -- taken
-abbrev pub TakesOutcome : WalkState → PartRequest → PartAnswer → Result WalkProgress WalkFault → WalkState → Type 0
+abbrev pub TakesOutcome : WalkState → PartRequest → PartAnswer → Result WalkStep WalkFault → WalkState → Type 0
 TakesOutcome old r (Err code) result new =
     First (code ≡ 0x83) (Fails old RecordChanged result new) (Fails old OtherCode result new)
 TakesOutcome old r (Ok p) result new =
@@ -123,10 +123,10 @@ TakesOutcome old r (Ok p) result new =
 
 -- the bytes are this answer to a GetPDR request
 abbrev pub IsAnswerIn : List ℕ → ResponseMessage Part → Type 0
-IsAnswerIn bytes m = Spells IsGetPdrResponse get_pdr_response_bytes m bytes
+IsAnswerIn bytes m = Spells IsGetPdrResponse get_pdr_answer_bytes m bytes
 
 -- what is done with a message under the outstanding ID: it is no answer, or its outcome decides
-abbrev pub TakesMessage : WalkState → List ℕ → Result WalkProgress WalkFault → WalkState → Type 0
+abbrev pub TakesMessage : WalkState → List ℕ → Result WalkStep WalkFault → WalkState → Type 0
 TakesMessage old bytes result new =
     First ((m : ResponseMessage Part) → ¬ IsAnswerIn bytes m) (Fails old Unreadable result new)
     ((m : ResponseMessage Part) × (r : PartRequest) × IsAnswerIn bytes m × (old.due ≡ Some r)
@@ -134,7 +134,7 @@ TakesMessage old bytes result new =
 
 -- What is done with bytes, in the order of the tests: failed before, nothing outstanding, no header,
 -- another instance ID; then by the message.
-abbrev pub Takes : WalkState → List ℕ → Result WalkProgress WalkFault → WalkState → Type 0
+abbrev pub Takes : WalkState → List ℕ → Result WalkStep WalkFault → WalkState → Type 0
 Takes old bytes result new =
     First (old.failed ≡ true) (Ignores old FailedBefore result new)
     (First (old.waiting ≡ None) (Ignores old NotAsked result new)
@@ -145,12 +145,12 @@ Takes old bytes result new =
 
 -- What the step says: the record goes on, a record is complete and another is to be asked for, or the last record is
 -- complete.
-abbrev pub TellsStep : WalkProgress → WalkState → WalkState → Type 0
+abbrev pub TellsStep : WalkStep → WalkState → WalkState → Type 0
 TellsStep More old new = (new.records ≡ old.records) × (new.due ≢ None)
 TellsStep Record old new = (bytes : List ℕ) × (new.records ≡ old.records ++ bytes ∷ []) × (new.due ≢ None)
 TellsStep Done old new = (bytes : List ℕ) × (new.records ≡ old.records ++ bytes ∷ []) × (new.due ≡ None)
 
-abbrev pub Tells : Result WalkProgress WalkFault → WalkState → WalkState → Type 0
+abbrev pub Tells : Result WalkStep WalkFault → WalkState → WalkState → Type 0
 Tells result old new = MatchResult result (λ step. TellsStep step old new) (λ fault. Unit {0})
 
 -- these bytes are an answer of a terminus with these records to the request that is
@@ -168,7 +168,7 @@ pub record IsDueAnswer (old : WalkState) (bytes : List ℕ) (records : List Entr
 
 -- The walker stands for these exchanges, which are a walk: it has collected a beginning of the records by place, and at
 -- the last step all of them, after exactly so many exchanges.
-pub record WalksOn (records : List Entry) (xs : List Exchange) (step : WalkProgress) (new : WalkState) : Type 0 where
+pub record WalksOn (records : List Entry) (xs : List Exchange) (step : WalkStep) (new : WalkState) : Type 0 where
   pub walk : Walk records new.count xs
   pub stands : HasTakenIn new xs
   pub beginning : IsBeginning new.records (bytes_by_place records)
@@ -176,7 +176,7 @@ pub record WalksOn (records : List Entry) (xs : List Exchange) (step : WalkProgr
   pub exact : step ≡ Done → length xs ≡ exchanges new.count records
 
 -- Against such answers there is no fault but that there is too much or no memory, and a walker that takes one walks on.
-abbrev pub TakesDueAnswer : WalkState → List ℕ → Result WalkProgress WalkFault → WalkState → Type 0
+abbrev pub TakesDueAnswer : WalkState → List ℕ → Result WalkStep WalkFault → WalkState → Type 0
 TakesDueAnswer old bytes result new =
     (records : List Entry) (xs : List Exchange) (x : Exchange) → IsDueAnswer old bytes records xs x
     → MatchResult result (λ step. WalksOn records (xs ++ x ∷ []) step new)

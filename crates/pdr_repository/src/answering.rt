@@ -14,8 +14,8 @@ use crate::terminus::MAX_ANSWER;
 use arrayvec::ArrayVec;
 use mctp_transport::Wire;
 use pldm_message::{
-    Command, CompletionCode, ErrorResponse, GetPdrResponse, GetPldmTypesResponse, GetTidResponse,
-    InstanceId, MessageKind, PldmHeader, PldmType, ResponseHead, SetTidResponse, Tid,
+    Command, CompletionCode, ErrorResponse, GetPdrAnswer, GetPldmTypesAnswer, GetTidAnswer,
+    InstanceId, MessageKind, PldmHeader, PldmType, ResponseHead, SetTidAnswer, Tid,
 };
 
 /// The header of a request that is to be answered.
@@ -91,19 +91,19 @@ fn reply<R: Repository>(
     match command {
         Command::SetTid => {
             let outcome = set_tid(tid, request);
-            write(&SetTidResponse { head, outcome }, out);
+            write(&SetTidAnswer { head, outcome }, out);
         }
         Command::GetTid => {
             let outcome = get_tid(*tid, request);
-            write(&GetTidResponse { head, outcome }, out);
+            write(&GetTidAnswer { head, outcome }, out);
         }
         Command::GetPldmTypes => {
             let outcome = get_pldm_types(request);
-            write(&GetPldmTypesResponse { head, outcome }, out);
+            write(&GetPldmTypesAnswer { head, outcome }, out);
         }
         Command::GetPdr => {
             let outcome = get_pdr(records, request);
-            write(&GetPdrResponse { head, outcome }, out);
+            write(&GetPdrAnswer { head, outcome }, out);
         }
     }
 }

@@ -28,5 +28,5 @@ pub use laws::{
 pub use list_terminus::ListTerminus;
 pub use parts::{MAX_PART, five_packets};
 pub use terminus::{MAX_ANSWER, Terminus};
-pub use walk_fault::{WalkFault, WalkProgress};
+pub use walk_fault::{Step, WalkFault};
 pub use walker::Walker;

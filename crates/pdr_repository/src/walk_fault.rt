@@ -6,7 +6,7 @@ use std::fmt;
 
 /// What an answer led to.
 #[derive(Clone, Copy, Debug, PartialEq, Eq)]
-pub enum WalkProgress {
+pub enum Step {
     /// The record goes on.
     More,
     /// A record is complete, and another is to be asked for.

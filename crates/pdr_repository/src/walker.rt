@@ -8,14 +8,14 @@ mod judging;
 mod pieces;
 
 use crate::parts::change_of;
-use crate::walk_fault::{WalkFault, WalkProgress};
+use crate::walk_fault::{Step, WalkFault};
 use collected::Collected;
 use due::Due;
 use judging::{Limits, is_last, judge};
 use mctp_transport::Wire;
 use pieces::record_length;
 use pldm_message::{
-    CompletionCode, GetPdrRequest, GetPdrResponse, InstanceId, PdrPart, PldmHeader, TransferFlag,
+    CompletionCode, GetPdrAnswer, GetPdrRequest, InstanceId, PdrPart, PldmHeader, TransferFlag,
     TransferOperation,
 };
 use std::alloc::{AllocError, Global};
@@ -118,7 +118,7 @@ impl Walker {
     }
 
     /// Takes a part that goes on, of which no fault was found.
-    fn go_on(&mut self, due: Due, given: &PdrPart) -> Result<WalkProgress, WalkFault>
+    fn go_on(&mut self, due: Due, given: &PdrPart) -> Result<Step, WalkFault>
         requires some { 0 < length given.now.bytes.now }
         requires few { self.old.taken ≤ self.old.bytes }
         requires fits { self.old.bytes + length given.now.bytes.now ≤ self.old.max_bytes }
@@ -135,6 +135,7 @@ impl Walker {
                 .reserve_exact(record_length(given.bytes).min(most));
         }
         if self.under_way.extend_from_slice(given.bytes).is_err() {
+            // no memory: the record under way could not grow.
             return Err(WalkFault::OutOfMemory);
         }
         self.bytes += given.bytes.len();
@@ -151,11 +152,11 @@ impl Walker {
             operation: TransferOperation::NEXT_PART,
             record_change_number,
         });
-        Ok(WalkProgress::More)
+        Ok(Step::More)
     }
 
     /// Takes a part that completes a record, of which no fault was found.
-    fn complete(&mut self, given: &PdrPart) -> Result<WalkProgress, WalkFault>
+    fn complete(&mut self, given: &PdrPart) -> Result<Step, WalkFault>
         requires some { 0 < length given.now.bytes.now }
         requires few { self.old.taken ≤ self.old.bytes }
         requires fits { self.old.bytes + length given.now.bytes.now ≤ self.old.max_bytes }
@@ -168,6 +169,7 @@ impl Walker {
         if self.collected.reserve().is_err()
             || self.under_way.extend_from_slice(given.bytes).is_err()
         {
+            // no memory: the list of records or the one under way could not grow.
             return Err(WalkFault::OutOfMemory);
         }
         self.bytes += given.bytes.len();
@@ -177,7 +179,7 @@ impl Walker {
         self.collected.push_reserved(bytes);
         if given.next_record_handle == 0 {
             self.due = None;
-            return Ok(WalkProgress::Done);
+            return Ok(Step::Done);
         }
         self.due = Some(Due {
             record_handle: given.next_record_handle,
@@ -185,7 +187,7 @@ impl Walker {
             operation: TransferOperation::FIRST_PART,
             record_change_number: 0,
         });
-        Ok(WalkProgress::Record)
+        Ok(Step::Record)
     }
 
     /// The first fault of a part.
@@ -209,7 +211,7 @@ impl Walker {
     }
 
     /// Fails from now on.
-    fn fail(&mut self, fault: WalkFault) -> Result<WalkProgress, WalkFault>
+    fn fail(&mut self, fault: WalkFault) -> Result<Step, WalkFault>
         requires { self.old.failed ≡ false }
         ensures { Fails (state_of self.old) fault result (state_of self.new) }
     {
@@ -219,7 +221,7 @@ impl Walker {
     }
 
     /// Takes the part that an answer gives.
-    fn take_part(&mut self, due: Due, given: &PdrPart) -> Result<WalkProgress, WalkFault>
+    fn take_part(&mut self, due: Due, given: &PdrPart) -> Result<Step, WalkFault>
         requires due { self.old.due ≡ Some due }
         requires goes { self.old.failed ≡ false }
         ensures takes { TakesOutcome (state_of self.old) (request_of self.old.count due) (Ok (part given.now)) result (state_of self.new) }
@@ -242,7 +244,7 @@ impl Walker {
         &mut self,
         due: Due,
         outcome: &Result<PdrPart, CompletionCode>,
-    ) -> Result<WalkProgress, WalkFault>
+    ) -> Result<Step, WalkFault>
         requires due { self.old.due ≡ Some due }
         requires goes { self.old.failed ≡ false }
         ensures takes { TakesOutcome (state_of self.old) (request_of self.old.count due) (outcome_value part outcome.now) result (state_of self.new) }
@@ -259,13 +261,13 @@ impl Walker {
     }
 
     /// Takes a message under the outstanding ID.
-    fn take_message(&mut self, due: Due, answer: &[u8]) -> Result<WalkProgress, WalkFault>
+    fn take_message(&mut self, due: Due, answer: &[u8]) -> Result<Step, WalkFault>
         requires due { self.old.due ≡ Some due }
         requires goes { self.old.failed ≡ false }
         ensures takes { TakesMessage (state_of self.old) answer.now result (state_of self.new) }
         ensures wants { result ≡ Err WalkFault.OutOfMemory → BringsTooMuch self.old answer.now }
     {
-        match GetPdrResponse::read(answer) {
+        match GetPdrAnswer::read(answer) {
             Ok(read) => self.take_outcome(due, &read.outcome),
             Err(_) => self.fail(WalkFault::Unreadable),
         }
@@ -277,6 +279,7 @@ impl Walker {
         ensures state { state_of self.new ≡ state_of self.old }
         ensures room { OnOk result (HasRoom self.new) }
         ensures full { OnErr result (¬ HasRoom self.old) }
+        ensures lacks { OnErr result (¬ HasRoom self.new) }
     {
         self.collected.reserve()?;
         self.under_way.reserve(usize::from(self.count))
@@ -286,7 +289,7 @@ impl Walker {
     /// suffice for the part that they bring.
     ///
     /// A terminus over a lawful list answers so that there is no fault but G09 and out of memory.
-    pub fn take(&mut self, answer: &[u8]) -> Result<WalkProgress, WalkFault>
+    pub fn take(&mut self, answer: &[u8]) -> Result<Step, WalkFault>
         ensures takes { Takes (state_of self.old) answer.now result (state_of self.new) }
         ensures tells { Tells result (state_of self.old) (state_of self.new) }
         ensures goes_on { TakesDueAnswer (state_of self.old) answer.now result (state_of self.new) }
@@ -297,7 +300,7 @@ impl Walker {
     }
 
     /// Takes bytes, by the tests in their order. What `take` promises beside is drawn from this for all tests at once.
-    fn take_bytes(&mut self, answer: &[u8]) -> Result<WalkProgress, WalkFault>
+    fn take_bytes(&mut self, answer: &[u8]) -> Result<Step, WalkFault>
         ensures takes { Takes (state_of self.old) answer.now result (state_of self.new) }
         ensures wants { result ≡ Err WalkFault.OutOfMemory → BringsTooMuch self.old answer.now }
     {

@@ -5,8 +5,8 @@ use Rattle.net_rules.specs.Certificates.{NamesObstacle, HasNoCertificate}
 use Rattle.net_rules.specs.declared.certify_error.CertifyError.{CertifyError}
 use Rattle.net_rules.specs.declared.certify_error.CertifyError.TheVariants as error
 use Rattle.net_rules.specs.Rules.{Accepts}
-use Rattle.net_plan.specs.declared.certificate.Certificate.{Certificate}
-use Rattle.net_plan.specs.declared.plan.Plan.{Plan}
+use Rattle.plan_values.specs.declared.certificate.Certificate.{Certificate}
+use Rattle.plan_values.specs.declared.plan.Plan.{Plan}
 use Rattle.plan_commands.specs.Drawing.{loop_nodes, owner_loop_nodes, loop_eid, IsDrawnSo, IsLoopDrawing}
 
 -- the drawing of a plan that has a certificate

@@ -6,14 +6,14 @@ use Rattle.std.proofs.lemmas.List.{length-map, length-take, length-drop, length_
 use Rattle.std.proofs.lemmas.List.Sums.{sum_by_more_le}
 use Rattle.pldm_message.specs.Messages.{ResponseMessage}
 use Rattle.pldm_message.specs.Pdrs.{PartRequest, IsPartRequest, Part, get_pdr_request_bytes}
-use Rattle.pldm_message.specs.PdrLaws.{one_get_pdr_response}
+use Rattle.pldm_message.specs.PdrLaws.{one_get_pdr_answer}
 use Rattle.pdr_repository.specs.Records.{Entry, IsLawful, bytes_by_place}
 use Rattle.pdr_repository.specs.Parts.{PartAnswer, AnswersPart}
 use Rattle.pdr_repository.specs.Answers.{Answers, answer_of}
 use Rattle.pdr_repository.specs.Walks.{Exchange, Walk, IsFinished, exchanges, due_after}
 use Rattle.pdr_repository.specs.Faults.{Room, Judges, IsTooMuch}
-use Rattle.pdr_repository.specs.declared.walk_fault.WalkProgress.{WalkProgress}
-use Rattle.pdr_repository.specs.declared.walk_fault.WalkProgress.TheVariants.{Done}
+use Rattle.pdr_repository.specs.declared.walk_fault.Step.{Step as WalkStep}
+use Rattle.pdr_repository.specs.declared.walk_fault.Step.TheVariants.{Done}
 use Rattle.pdr_repository.specs.declared.walk_fault.WalkFault.{WalkFault}
 use Rattle.pdr_repository.specs.declared.walk_fault.WalkFault.TheVariants as fault
 use Rattle.pdr_repository.specs.Walkers.{WalkState, Asks, asked_under, Fails, Proceeds, state_after, room_of, Takes, TakesOutcome, IsAnswerIn, IsDueAnswer, WalksOn, TakesDueAnswer, Tells, AnswersWalker}
@@ -29,21 +29,21 @@ answered_bytes : (said : Bool) (out bytes : List ℕ) → answer_of said out ≡
 answered_bytes true out bytes is = same_Some out bytes is
 answered_bytes false out bytes is = absurd (let e : None ≡ Some bytes = is in cc)
 
-no_step : (step : WalkProgress) (f : WalkFault) → Ok step ≡ Err f → ⊥
+no_step : (step : WalkStep) (f : WalkFault) → Ok step ≡ Err f → ⊥
 no_step step f e = cc
 
 -- what is held after an answer that was taken
-after_part : (old new : WalkState) (r : PartRequest) (p : Part) (step : WalkProgress) (found : Option WalkFault)
+after_part : (old new : WalkState) (r : PartRequest) (p : Part) (step : WalkStep) (found : Option WalkFault)
     → MatchOption found (Proceeds old r p (Ok step) new) (λ f. Fails old f (Ok step) new) → new ≡ state_after old r p
 after_part old new r p step None out = out.1
 after_part old new r p step (Some f) out = absurd (no_step step f out.0)
 
-after_outcome : (old new : WalkState) (r : PartRequest) (a : PartAnswer) (step : WalkProgress) → TakesOutcome old r a (Ok step) new → (p : Part) × (new ≡ state_after old r p)
+after_outcome : (old new : WalkState) (r : PartRequest) (a : PartAnswer) (step : WalkStep) → TakesOutcome old r a (Ok step) new → (p : Part) × (new ≡ state_after old r p)
 after_outcome old new r (Err code) step (inl (_, out)) = absurd (no_step step _ out.0)
 after_outcome old new r (Err code) step (inr (_, out)) = absurd (no_step step _ out.0)
 after_outcome old new r (Ok p) step (found, _, out) = (p, after_part old new r p step found out)
 
-after_answer : (old new : WalkState) (bytes : List ℕ) (step : WalkProgress) → Takes old bytes (Ok step) new → (r : PartRequest) × (p : Part) × (new ≡ state_after old r p)
+after_answer : (old new : WalkState) (bytes : List ℕ) (step : WalkStep) → Takes old bytes (Ok step) new → (r : PartRequest) × (p : Part) × (new ≡ state_after old r p)
 after_answer old new bytes step (inl (_, out)) = absurd (no_step step _ out.0)
 after_answer old new bytes step (inr (_, inl (_, out))) = absurd (no_step step _ out.0)
 after_answer old new bytes step (inr (_, inr (_, inl (_, out)))) = absurd (no_step step _ out.0)
@@ -75,10 +75,10 @@ judged_too_much room records before r p found is (inr (_, inr (_, inr (_, inr (_
 judged_too_much room records before r p found is (inr (_, inr (_, inr (_, inr (_, inr (_, inr (_, e))))))) = absurd (let h : None ≡ Some fault.TooMuch = sym e ∙ is in cc)
 
 -- a step's fault
-one_fault : (result : Result WalkProgress WalkFault) (f g : WalkFault) → result ≡ Err f → result ≡ Err g → f ≡ g
+one_fault : (result : Result WalkStep WalkFault) (f g : WalkFault) → result ≡ Err f → result ≡ Err g → f ≡ g
 one_fault result f g a b = cc
 
-other_fault : (f : WalkFault) → (f ≡ fault.TooMuch → ⊥) → (result : Result WalkProgress WalkFault) → result ≡ Err fault.TooMuch → result ≡ Err f → ⊥
+other_fault : (f : WalkFault) → (f ≡ fault.TooMuch → ⊥) → (result : Result WalkStep WalkFault) → result ≡ Err fault.TooMuch → result ≡ Err f → ⊥
 other_fault f other result much is = other (one_fault result f fault.TooMuch is much)
 
 part_too_much : (old new : WalkState) (r : PartRequest) (p : Part) (found : Option WalkFault) → Judges (room_of old) old.records old.under_way r p found
@@ -179,14 +179,14 @@ module _ (records : List Entry) (lawful : IsLawful records) (few : length record
       })
 
   -- an answer that is taken
-  taken_on : (asked new : WalkState) (xs : List Exchange) (x : Exchange) (out : List ℕ) (step : WalkProgress) → IsUnderWay records count asked xs → Takes asked out (Ok step) new
+  taken_on : (asked new : WalkState) (xs : List Exchange) (x : Exchange) (out : List ℕ) (step : WalkStep) → IsUnderWay records count asked xs → Takes asked out (Ok step) new
       → Tells (Ok step) asked new → WalksOn records (xs ++ x ∷ []) step new → IsFurther records count xs step new
   taken_on asked new xs x out step way takes told on =
       let after = after_answer asked new out step takes in
       let one_more : new.taken ≡ asked.taken + 1 = ap (λ (w : WalkState). w.taken) after.2 in
       let same : new.count ≡ count = ap (λ (w : WalkState). w.count) after.2 ∙ way.same_count in
       let W : ℕ → Type 0 = λ n. Walk records n (xs ++ x ∷ []) in
-      let T : WalkProgress → Type 0 = λ s. Tells (Ok s) asked new in
+      let T : WalkStep → Type 0 = λ s. Tells (Ok s) asked new in
       record {
         exchanges = xs ++ x ∷ [];
         under_way = record {
@@ -209,11 +209,11 @@ module _ (records : List Entry) (lawful : IsLawful records) (few : length record
       let R : WalkFault → Type 0 = λ g. Takes asked out (Err g) new in
       let much = answer_too_much asked new out (subst R is takes) in
       let n : ResponseMessage Part = record { head = given.head; outcome = x.answer } in
-      let same : much.message ≡ n = one_get_pdr_response much.message n much.spelled.0 given.spelled.0 (sym much.spelled.1 ∙ given.spelled.1) in
+      let same : much.message ≡ n = one_get_pdr_answer much.message n much.spelled.0 given.spelled.0 (sym much.spelled.1 ∙ given.spelled.1) in
       let outcome : x.answer ≡ Ok much.part = ap (λ (m : ResponseMessage Part). m.outcome) (sym same) ∙ much.given in
       inr (is, passes asked xs x much.part way given.due given.answered outcome much.too_much)
 
-  pub exchanged : (old asked new : WalkState) (id tid next_tid : ℕ) (xs : List Exchange) (request out read : List ℕ) (said : Bool) (result : Result WalkProgress WalkFault) → id < 32 → read ≡ out → IsUnderWay records count old xs
+  pub exchanged : (old asked new : WalkState) (id tid next_tid : ℕ) (xs : List Exchange) (request out read : List ℕ) (said : Bool) (result : Result WalkStep WalkFault) → id < 32 → read ≡ out → IsUnderWay records count old xs
       → Asks old id (Some request) asked → Answers tid records request (answer_of said out) next_tid → Takes asked read result new → Tells result asked new → TakesDueAnswer asked read result new
       → MatchResult result (λ step. IsFurther records count xs step new) (λ f. (f ≡ fault.OutOfMemory) ⊎ ((f ≡ fault.TooMuch) × (16777216 < bytes_of records)))
   exchanged old asked new id tid next_tid xs request out read said result small same way asks answers takes told goes = by result takes told (goes records xs x given)
@@ -247,7 +247,7 @@ module _ (records : List Entry) (lawful : IsLawful records) (few : length record
             spelled = subst A (sym (same ∙ answered_bytes said out replied.bytes replied.is)) replied.spelled;
           }
 
-      by : (result : Result WalkProgress WalkFault) → Takes asked read result new → Tells result asked new
+      by : (result : Result WalkStep WalkFault) → Takes asked read result new → Tells result asked new
           → MatchResult result (λ step. WalksOn records (xs ++ x ∷ []) step new) (λ f. (f ≡ fault.TooMuch) ⊎ (f ≡ fault.OutOfMemory))
           → MatchResult result (λ step. IsFurther records count xs step new) (λ f. (f ≡ fault.OutOfMemory) ⊎ ((f ≡ fault.TooMuch) × (16777216 < bytes_of records)))
       by (Ok step) takes told further = taken_on asked new xs x read step on takes told further
@@ -278,7 +278,7 @@ module _ (records : List Entry) (lawful : IsLawful records) (few : length record
 
 -- the same of an exchange in a loop, whose terminus keeps its records
 module _ (records all : List Entry) (lawful : IsLawful all) (few : length all ≤ 4096) (count : ℕ) (least : 8 ≤ count) (most : count ≤ 4079) (same : records ≡ all)
-    (old new : WalkState) (xs : List Exchange) (step : WalkProgress) (way : IsUnderWay all count old xs) (goes : (ys : List Exchange) → IsUnderWay records count old ys → IsFurther records count ys step new) where
+    (old new : WalkState) (xs : List Exchange) (step : WalkStep) (way : IsUnderWay all count old xs) (goes : (ys : List Exchange) → IsUnderWay records count old ys → IsFurther records count ys step new) where
   on : IsFurther all count xs step new
   on =
       let P : List Entry → Type 0 = λ rs. IsUnderWay rs count old xs in

@@ -5,14 +5,14 @@ use Rattle.std.specs.List.{flat_map, list_all}
 use Rattle.std.proofs.lemmas.Bool.{ltb-true}
 use Rattle.std.proofs.lemmas.Option.{same_Some, none-some, slice_get_within}
 use Rattle.std.proofs.lemmas.List.Elements.{All-nil, All-cons, All-append}
-use Rattle.net_plan.specs.declared.plan.Plan.{Plan}
-use Rattle.net_plan.specs.declared.certificate.Certificate.{Certificate}
-use Rattle.net_plan.specs.declared.nodes.Node.{Node}
-use Rattle.net_plan.specs.declared.nodes.Pool.{Pool}
-use Rattle.net_plan.specs.declared.nodes.Port.{Port}
-use Rattle.net_plan.specs.NodeValues.{node_value}
-use Rattle.net_plan.specs.Placed.{are_placed, is_placed, is_owner_placed}
-use Rattle.net_plan.proofs.Placed.{list_all_values}
+use Rattle.plan_values.specs.declared.plan.Plan.{Plan}
+use Rattle.plan_values.specs.declared.certificate.Certificate.{Certificate}
+use Rattle.plan_values.specs.declared.nodes.Node.{Node}
+use Rattle.plan_values.specs.declared.nodes.Pool.{Pool}
+use Rattle.plan_values.specs.declared.nodes.Port.{Port}
+use Rattle.plan_values.specs.NodeValues.{node_value}
+use Rattle.plan_values.specs.Placed.{are_placed, is_placed, is_owner_placed}
+use Rattle.plan_values.proofs.Placed.{list_all_values}
 use Rattle.net_tables.specs.Routing.{node_at}
 use Rattle.net_sim.specs.Assignments.{AssignmentValue, IsAssignmentOf, is_on_bus, shared_bus, pool_requests, requests_by, requests_of, requests_to}
 use Rattle.plan_commands.specs.Assigning.{IsNamed}

@@ -1,8 +1,8 @@
 -- What answers a question about a plan and its certificate.
 use Rattle.std.specs.Prelude.{◌≡◌, ◌⊎◌, ℕ, List, ⊤}
 use Rattle.net_rules.specs.Rules.{Accepts}
-use Rattle.net_plan.specs.declared.certificate.Certificate.{Certificate}
-use Rattle.net_plan.specs.declared.plan.Plan.{Plan}
+use Rattle.plan_values.specs.declared.certificate.Certificate.{Certificate}
+use Rattle.plan_values.specs.declared.plan.Plan.{Plan}
 use Rattle.net_reached.specs.Matrices.{IsMatrix}
 use Rattle.command_questions.specs.declared.certified.Question.{Question}
 use Rattle.command_questions.specs.declared.certified.Question.TheVariants as question

@@ -1,7 +1,7 @@
 -- A walk of the program over a terminus, one exchange after another.
 use Rattle.std.specs.Prelude.{◌≡◌, ◌≢◌, ◌⊎◌, ◌+◌, ◌<◌, ℕ, List, length, Result, MatchResult}
-use Rattle.pdr_repository.specs.declared.walk_fault.WalkProgress.{WalkProgress}
-use Rattle.pdr_repository.specs.declared.walk_fault.WalkProgress.TheVariants.{Done}
+use Rattle.pdr_repository.specs.declared.walk_fault.Step.{Step as WalkStep}
+use Rattle.pdr_repository.specs.declared.walk_fault.Step.TheVariants.{Done}
 use Rattle.pdr_repository.specs.Records.{Entry, bytes_by_place}
 use Rattle.pdr_repository.specs.Walks.{Exchange, Walk, IsFinished, exchanges}
 use Rattle.pdr_repository.specs.Walkers.{WalkState, HasTakenIn}
@@ -20,7 +20,7 @@ pub record IsUnderWay (records : List Entry) (count : ℕ) (w : WalkState) (xs :
   pub taken : w.taken ≡ length xs
 
 -- The walk is finished, or it is one exchange further.
-pub record IsFurther (records : List Entry) (count : ℕ) (xs : List Exchange) (step : WalkProgress)
+pub record IsFurther (records : List Entry) (count : ℕ) (xs : List Exchange) (step : WalkStep)
     (new : WalkState) : Type 0 where
   pub exchanges : List Exchange
   pub under_way : IsUnderWay records count new exchanges
@@ -32,7 +32,7 @@ abbrev pub EndsEarlyFor : List Entry → Refused → Type 0
 EndsEarlyFor records refused = (refused ≡ NoMemory) ⊎ ((refused ≡ TooMuch) × (16777216 < bytes_of records))
 
 -- what an exchange leads to, of each walk that is under way
-abbrev pub Goes : List Entry → WalkState → Result WalkProgress Refused → WalkState → Type 0
+abbrev pub Goes : List Entry → WalkState → Result WalkStep Refused → WalkState → Type 0
 Goes records old result new =
     (count : ℕ) (xs : List Exchange) → IsUnderWay records count old xs
     → MatchResult result (λ step. IsFurther records count xs step new) (EndsEarlyFor records)

@@ -4,8 +4,8 @@ use Rattle.net_rules.specs.Certificates.{NamesObstacle, HasNoCertificate}
 use Rattle.net_rules.specs.declared.certify_error.CertifyError.{CertifyError}
 use Rattle.net_rules.specs.declared.certify_error.CertifyError.TheVariants as error
 use Rattle.net_rules.specs.Rules.{Accepts}
-use Rattle.net_plan.specs.declared.certificate.Certificate.{Certificate}
-use Rattle.net_plan.specs.declared.plan.Plan.{Plan}
+use Rattle.plan_values.specs.declared.certificate.Certificate.{Certificate}
+use Rattle.plan_values.specs.declared.plan.Plan.{Plan}
 use Rattle.mctp_transport.specs.declared.address.Eid.{Eid}
 use Rattle.command_questions.specs.declared.drawn_rows.DrawnRows.{DrawnRows}
 use Rattle.command_questions.specs.declared.drawn_rows.DrawnRows.TheVariants as rows

@@ -1,6 +1,6 @@
 -- What `lint` prints of a plan.
 use Rattle.std.specs.Prelude.{◌≡◌, ◌≢◌, ℕ, List, []}
-use Rattle.net_plan.specs.declared.plan.Plan.{Plan}
+use Rattle.plan_values.specs.declared.plan.Plan.{Plan}
 use Rattle.net_questions.specs.declared.finding.Finding.{Finding}
 use Rattle.net_questions.specs.Findings.{AreFindings, IsSo}
 use Rattle.command_answers.specs.declared.status.Status.{Status}

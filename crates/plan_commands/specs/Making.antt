@@ -1,13 +1,13 @@
 -- What the end of `make` says of the board that it read, and of the plan and the certificate that it wrote.
 use Rattle.std.specs.Prelude.{◌≡◌, ◌⊎◌, ℕ, List, Some, codes, slice_get, string_bytes, ⊤}
 use Rattle.std.specs.Io.KnownBytes.{Appends}
-use Rattle.net_json.specs.declared.error.PlanError.TheVariants as error
-use Rattle.net_json.specs.Stream.{TakesMoreThan}
-use Rattle.net_json.specs.Texts.{Gave}
+use Rattle.net_plan.specs.declared.error.PlanError.TheVariants as error
+use Rattle.net_plan.specs.Stream.{TakesMoreThan}
+use Rattle.net_plan.specs.Texts.{Gave}
 use Rattle.board.specs.declared.board.RecordFile.{RecordFile}
 use Rattle.board_made.specs.declared.answer.BoardAnswer.{BoardAnswer}
 use Rattle.board_made.specs.declared.answer.BoardAnswer.TheVariants.{Made, NoPlan, Unread}
-use Rattle.net_plan.specs.declared.plan.Plan.{Plan}
+use Rattle.plan_values.specs.declared.plan.Plan.{Plan}
 use Rattle.plan_commands.specs.declared.make.FileFault.{FileFault}
 use Rattle.plan_commands.specs.declared.make.FileFault.TheVariants as fault
 use Rattle.board_made.specs.Made.{IsMadeOf, IsUnmadeOf, IsUnreadLine}

@@ -1,13 +1,13 @@
 -- What `certifymove` prints of two plans.
 use Rattle.std.specs.Prelude.{◌≡◌, ◌≤◌, ℕ, List, length}
-use Rattle.net_plan.specs.declared.plan.Plan.{Plan}
-use Rattle.net_plan.specs.declared.certificate.Certificate.{Certificate}
-use Rattle.net_json.specs.CertificateJson.{certificate_text}
-use Rattle.net_json.specs.CertificateText.{IsCertificateOf}
-use Rattle.net_plan.specs.CertificateValues.{certificate_value}
-use Rattle.net_plan.specs.PlanValues.{node_names, plan_value}
-use Rattle.net_json.specs.Texts.{IsJsonTextOf}
-use Rattle.net_plan.specs.WellFormed.{IsWellFormed}
+use Rattle.plan_values.specs.declared.plan.Plan.{Plan}
+use Rattle.plan_values.specs.declared.certificate.Certificate.{Certificate}
+use Rattle.net_plan.specs.CertificateJson.{certificate_text}
+use Rattle.net_plan.specs.CertificateText.{IsCertificateOf}
+use Rattle.plan_values.specs.CertificateValues.{certificate_value}
+use Rattle.plan_values.specs.PlanValues.{node_names, plan_value}
+use Rattle.net_plan.specs.Texts.{IsJsonTextOf}
+use Rattle.plan_values.specs.WellFormed.{IsWellFormed}
 use Rattle.net_rules.specs.declared.move_obstacle.MoveObstacle.{MoveObstacle}
 use Rattle.net_rules.specs.MoveObstacles.{IsExactForMove}
 use Rattle.net_rules.specs.MoveRules.{AcceptsMove}

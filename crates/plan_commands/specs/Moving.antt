@@ -1,8 +1,8 @@
 -- What the end of `move` says of the plans and the certificate that it read, and of what it wrote.
 use Rattle.std.specs.Prelude.{◌≡◌, ℕ, List}
 use Rattle.net_rules.specs.MoveRules.{AcceptsMove}
-use Rattle.net_plan.specs.declared.plan.Plan.{Plan}
-use Rattle.net_plan.specs.declared.certificate.Certificate.{Certificate}
+use Rattle.plan_values.specs.declared.plan.Plan.{Plan}
+use Rattle.plan_values.specs.declared.certificate.Certificate.{Certificate}
 use Rattle.command_answers.specs.declared.status.Status.{Status}
 use Rattle.command_answers.specs.declared.status.Status.TheVariants as status
 use Rattle.command_answers.specs.Answers.{Stream}

@@ -1,6 +1,6 @@
 -- What answers a question about a plan.
 use Rattle.std.specs.Prelude.{◌≡◌, ℕ, List}
-use Rattle.net_plan.specs.declared.plan.Plan.{Plan}
+use Rattle.plan_values.specs.declared.plan.Plan.{Plan}
 use Rattle.command_questions.specs.declared.planned.PlanQuestion.{PlanQuestion}
 use Rattle.command_questions.specs.declared.planned.PlanQuestion.TheVariants as question
 use Rattle.command_answers.specs.declared.status.Status.{Status}

@@ -2,10 +2,10 @@
 use Rattle.std.specs.Prelude.{◌≡◌, ◌≢◌, ◌⊎◌, ℕ, Bool, true, false, List, [], ◌++◌, codes, All}
 use Rattle.std.specs.Fmt.{decimal}
 use Rattle.std.specs.Str.{IsUtf8}
-use Rattle.net_plan.specs.declared.plan.Plan.{Plan}
-use Rattle.net_plan.specs.declared.certificate.Certificate.{Certificate}
-use Rattle.net_json.specs.Stream.{TakesMoreThan}
-use Rattle.net_json.specs.Texts.{Gave}
+use Rattle.plan_values.specs.declared.plan.Plan.{Plan}
+use Rattle.plan_values.specs.declared.certificate.Certificate.{Certificate}
+use Rattle.net_plan.specs.Stream.{TakesMoreThan}
+use Rattle.net_plan.specs.Texts.{Gave}
 use Rattle.net_reached.specs.declared.reading.BadLine.{BadLine}
 use Rattle.net_reached.specs.declared.reading.WishError.TheVariants.{Unread}
 use Rattle.net_reached.specs.declared.wish.Wish.{Wish}

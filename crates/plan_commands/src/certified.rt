@@ -2,7 +2,7 @@
 ghost use Rattle.std.specs.Prelude.{◌≡◌, ◌⊎◌, true, false, IfOk, IfErr};
 ghost use Rattle.std.specs.Cow.{cow_str_bytes};
 ghost use Rattle.net_check.specs.Errors.{NamesFirstFault};
-ghost use Rattle.net_json.specs.Stream.{HasRoom};
+ghost use Rattle.net_plan.specs.Stream.{HasRoom};
 ghost use Rattle.command_answers.specs.declared.status.Status.TheVariants.{Fault};
 ghost use Rattle.command_answers.specs.declared.refused.Refused.TheVariants as refused;
 ghost use Rattle.command_answers.specs.Answers.{stream, IsWithoutPlan};
@@ -21,9 +21,9 @@ use command_answers::{
 };
 use command_questions::Question;
 use net_check::{CheckError, Checked, check};
-use net_json::{Sink, Source};
-use net_plan::{Certificate, Plan};
+use net_plan::{Sink, Source};
 use net_reached::matrix_text;
+use plan_values::{Certificate, Plan};
 use std::alloc::Global;
 use std::borrow::CowStr;
 

@@ -1,7 +1,7 @@
 //! The command `certifymove`: the certificate of a move from one plan to another, or why there is none.
 ghost use Rattle.std.specs.Prelude.{◌≡◌, IfOk};
 ghost use Rattle.std.specs.Cow.{cow_str_bytes};
-ghost use Rattle.net_json.specs.Stream.{HasRoom};
+ghost use Rattle.net_plan.specs.Stream.{HasRoom};
 ghost use Rattle.command_answers.specs.Answers.{stream, IsWithoutPlan};
 ghost use Rattle.plan_commands.specs.MoveCertifying.{CertifiesMove, CertifiesMoveSo};
 ghost use Rattle.command_answers.specs.Moves.{ArePlansUnread};
@@ -9,9 +9,9 @@ ghost use Rattle.command_answers.specs.Told.{Concludes};
 
 use command_answers::{Answer, Status, read_plans, refuse, tell_made};
 use net_check::certify_move;
-use net_json::{Sink, Source, text_of_certificate};
-use net_plan::Plan;
+use net_plan::{Sink, Source, text_of_certificate};
 use plan_texts::move_obstacle_line;
+use plan_values::Plan;
 use std::alloc::{AllocError, Global};
 
 /// Answers on `output` with the certificate of a move from one plan to another, or with the line of what rules

@@ -9,8 +9,8 @@ use command_answers::Answer;
 use command_questions::DrawnRows;
 use mctp_transport::Eid;
 use net_check::{CertifyError, Checked, certify};
-use net_plan::Plan;
 use plan_texts::{bundle_drawing, drawing, way_drawing};
+use plan_values::Plan;
 use std::alloc::{AllocError, Global};
 
 /// The drawing of a checked plan with its certificate.

@@ -5,6 +5,7 @@
 mod assign;
 mod certified;
 mod certify_move;
+mod commands;
 mod draw;
 mod lint;
 mod listing;
@@ -20,6 +21,7 @@ mod walk;
 pub use certified::run_certified;
 pub use certify_move::run_certify_move;
 pub use command_questions::{DrawnRows, PlanQuestion, Question, RecordFiles};
+pub use commands::{run_assign, run_certify, run_check, run_walk};
 pub use make::{run_make, run_make_certified};
 pub use moving::run_move;
 pub use planned::run_planned;

@@ -4,8 +4,8 @@ ghost use Rattle.std.specs.Cow.{cow_str_bytes};
 ghost use Rattle.plan_commands.specs.Linting.{IsLinted};
 
 use command_answers::Answer;
-use net_plan::Plan;
 use net_questions::lint;
+use plan_values::Plan;
 use question_texts::lint_lines;
 use std::alloc::{AllocError, Global};
 

@@ -9,7 +9,7 @@ ghost use Rattle.plan_commands.specs.FaultListing.{IsFaultListOf, IsListed};
 use command_answers::{Answer, PlanText, Refused};
 use fault_texts::{fault_lines, obstacle_list};
 use net_check::{CheckError, certify, faults};
-use net_plan::Certificate;
+use plan_values::Certificate;
 use std::alloc::{AllocError, Global};
 
 /// Every fault of a plan, or what else rules certificates of it out. The name is that of the plan's file.

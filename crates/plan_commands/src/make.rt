@@ -2,7 +2,7 @@
 ghost use Rattle.std.specs.Prelude.{◌≡◌, ℕ, List, IfOk, IfErr, OnOk, string_bytes};
 ghost use Rattle.std.specs.Cow.{cow_str_bytes};
 ghost use Rattle.std.specs.Io.KnownBytes.{Appends};
-ghost use Rattle.net_json.specs.Stream.{HasRoom};
+ghost use Rattle.net_plan.specs.Stream.{HasRoom};
 ghost use Rattle.command_answers.specs.declared.status.Status.TheVariants.{Fault};
 ghost use Rattle.command_answers.specs.declared.refused.Refused.TheVariants as refused;
 ghost use Rattle.command_answers.specs.Answers.{stream};
@@ -12,7 +12,7 @@ ghost use Rattle.command_answers.specs.Told.{ConcludesOnBoth, ConcludesOnOutput}
 use board_made::{BoardAnswer, RecordFile, answer_board, files_of_board, unread_file};
 use command_answers::{Answer, Input, Refused, Status, tell};
 use command_questions::RecordFiles;
-use net_json::{PlanError, Sink, Source, TEXT_LIMIT, TextFault, read_within, write_whole};
+use net_plan::{PlanError, Sink, Source, TEXT_LIMIT, TextFault, read_within, write_whole};
 use std::alloc::{AllocError, AllocFailed, Global};
 
 /// Prints on `output` the plan that is made of a board, or why none is, also where the board can't be read.
@@ -215,6 +215,7 @@ fn unread(alloc: Global, name: &str, why: &str) -> FileFault
 {
     match unread_file(alloc, name, why) {
         Ok(line) => FileFault::Unread(line),
+        // no memory: there was no room for the line.
         Err(_) => FileFault::OutOfMemory,
     }
 }

@@ -1,6 +1,6 @@
 //! The command `move`: whether the nodes of a running network may go from the rows of one plan to those of another.
 ghost use Rattle.std.specs.Prelude.{◌≡◌, IfOk};
-ghost use Rattle.net_json.specs.Stream.{HasRoom};
+ghost use Rattle.net_plan.specs.Stream.{HasRoom};
 ghost use Rattle.std.specs.Cow.{cow_str_bytes};
 ghost use Rattle.command_answers.specs.Answers.{stream, IsWithoutPlan};
 ghost use Rattle.plan_commands.specs.Moving.{AnswersMoveOn, AnswersMoveSo};
@@ -9,8 +9,8 @@ ghost use Rattle.command_answers.specs.Told.{Concludes};
 
 use command_answers::{Answer, Status, move_fault_answer, read_move, refuse, tell_made};
 use net_check::check_move;
-use net_json::{Sink, Source};
-use net_plan::{Certificate, Plan};
+use net_plan::{Sink, Source};
+use plan_values::{Certificate, Plan};
 use std::alloc::{AllocError, Global};
 
 /// Answers on `output` whether the nodes of the plan before may switch, one after another in any order, to the rows of

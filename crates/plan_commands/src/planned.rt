@@ -1,7 +1,7 @@
 //! Commands that read a plan alone, and answer a question about it.
 ghost use Rattle.std.specs.Prelude.{◌≡◌, IfOk};
 ghost use Rattle.std.specs.Cow.{cow_str_bytes};
-ghost use Rattle.net_json.specs.Stream.{HasRoom};
+ghost use Rattle.net_plan.specs.Stream.{HasRoom};
 ghost use Rattle.command_answers.specs.Answers.{stream, IsPlanUnread};
 ghost use Rattle.command_answers.specs.Told.{Concludes};
 ghost use Rattle.plan_commands.specs.Planned.{IsSaidOf, SaysSo};
@@ -14,7 +14,7 @@ use command_answers::{
     Answer, PlanText, Status, certificate_of_plan, given_plan_text, refuse, tell_made,
 };
 use command_questions::PlanQuestion;
-use net_json::{Sink, Source};
+use net_plan::{Sink, Source};
 use std::alloc::{AllocError, Global};
 
 /// Answers a question about a plan on `output`. Where the plan can't be read, says so on `errors`.

@@ -2,18 +2,18 @@
 ghost use Rattle.std.specs.Prelude.{◌≡◌, ◌++◌, codes, IfOk, IfErr, string_bytes};
 ghost use Rattle.std.specs.Fmt.{decimal};
 ghost use Rattle.std.specs.Cow.{cow_str_bytes};
-ghost use Rattle.net_json.specs.Stream.{HasRoom};
+ghost use Rattle.net_plan.specs.Stream.{HasRoom};
 ghost use Rattle.command_answers.specs.declared.status.Status.TheVariants.{Unreadable};
 ghost use Rattle.command_answers.specs.declared.refused.Refused.TheVariants as refused;
-ghost use Rattle.command_answers.specs.Answers.{stream, AreUnread, IsWithoutPlan};
+ghost use Rattle.command_answers.specs.Answers.{stream, AreUnread, IsWithoutPlan, AreWithoutCertificate};
 ghost use Rattle.plan_commands.specs.Requiring.{AnswersWishes, unread_wanted, unread_line_text, IsRequiredOn, RequiresOn, RequiresOf, RequiresSo};
 ghost use Rattle.command_answers.specs.Told.{ConcludesOnBoth};
 
 use command_answers::{Answer, Refused, Status, fault_answer, read_inputs, refuse, tell};
 use net_check::{Checked, check};
-use net_json::{Sink, Source, TEXT_LIMIT, TextFault, read_within};
-use net_plan::{Certificate, Plan};
+use net_plan::{Sink, Source, TEXT_LIMIT, TextFault, read_within};
 use net_reached::{BadLine, Wish, WishError, unmet_wishes, wish_lines, wishes_of_text};
+use plan_values::{Certificate, Plan};
 use std::alloc::{AllocError, Global};
 
 /// Says on `output` that a plan's nodes reach whom a text wants them to reach, or gives the lines of the text of which
@@ -40,6 +40,8 @@ pub fn run_require<P: Source, C: Source, W: Source, O: Sink, E: Sink>(
         (output.new ≡ output.old) (errors.new ≡ errors.old) }
     ensures in_order { IsWithoutPlan (stream P.account plan.old plan.new)
         → (certificate.new ≡ certificate.old) × (wanted.new ≡ wanted.old) }
+    ensures certified_in_order { AreWithoutCertificate (stream P.account plan.old plan.new) (stream C.account certificate.old certificate.new)
+        → wanted.new ≡ wanted.old }
 {
     match read_inputs(alloc, plan, certificate) {
         Ok((plan, certificate)) => {

@@ -5,7 +5,7 @@ ghost use Rattle.plan_commands.specs.Making.{IsRowed};
 
 use board_made::{RowsAnswer, answer_rows};
 use command_answers::Answer;
-use net_plan::Plan;
+use plan_values::Plan;
 use std::alloc::{AllocError, Global};
 
 /// The plan with rows by which all its nodes reach each other, or why there is none.

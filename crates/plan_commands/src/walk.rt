@@ -14,9 +14,9 @@ use collecting::collect;
 use command_answers::{Refused, named_terminus};
 use command_questions::PartSize;
 use net_check::Checked;
-use net_plan::{Certificate, Plan, PlannedTerminus};
 use ordering::terminus_by_place;
 use plan_texts::walk_text;
+use plan_values::{Certificate, Plan, PlannedTerminus};
 use std::alloc::Global;
 
 /// What is told of a walk over the terminus of the node of this name, by parts of so many bytes.

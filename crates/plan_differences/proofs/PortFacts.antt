@@ -2,8 +2,8 @@
 use Rattle.std.proofs.Common.{◌≡◌, ◌<◌, ◌+◌, ℕ, suc, List, [], ◌∷◌, ◌++◌, length, map, take, get_or, ap, sym, ◌∙◌, arith}
 use Rattle.std.proofs.Math.Seq.{take-suc}
 use Rattle.std.proofs.lemmas.List.{length-take, map-append}
-use Rattle.net_plan.specs.declared.nodes.Port.{Port}
-use Rattle.net_plan.specs.declared.plan.Plan.{Plan}
+use Rattle.plan_values.specs.declared.nodes.Port.{Port}
+use Rattle.plan_values.specs.declared.plan.Plan.{Plan}
 use Rattle.plan_differences.specs.declared.fact.Fact.{Fact}
 use Rattle.plan_differences.specs.Facts.{fact_value, port_fact, port_facts}
 

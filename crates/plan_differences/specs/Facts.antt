@@ -1,16 +1,16 @@
 -- What a plan says, thing by thing, where buses and nodes stand by their names.
 use Rattle.std.specs.Prelude.{ℕ, suc, List, [], ◌∷◌, ◌++◌, Option, Some, None, map, option_map}
 use Rattle.std.specs.List.{flat_map}
-use Rattle.net_plan.specs.NodeValues.{name_bytes}
-use Rattle.net_plan.specs.declared.nodes.Bus.{Bus}
-use Rattle.net_plan.specs.declared.nodes.Kind.{Kind}
-use Rattle.net_plan.specs.declared.nodes.Node.{Node}
-use Rattle.net_plan.specs.declared.nodes.Pool.{Pool}
-use Rattle.net_plan.specs.declared.nodes.Port.{Port}
-use Rattle.net_plan.specs.declared.nodes.Row.{Row}
-use Rattle.net_plan.specs.declared.plan.Plan.{Plan}
-use Rattle.net_plan.specs.declared.terminus.PlannedRecord.{PlannedRecord}
-use Rattle.net_plan.specs.declared.terminus.PlannedTerminus.{PlannedTerminus}
+use Rattle.plan_values.specs.NodeValues.{name_bytes}
+use Rattle.plan_values.specs.declared.nodes.Bus.{Bus}
+use Rattle.plan_values.specs.declared.nodes.Kind.{Kind}
+use Rattle.plan_values.specs.declared.nodes.Node.{Node}
+use Rattle.plan_values.specs.declared.nodes.Pool.{Pool}
+use Rattle.plan_values.specs.declared.nodes.Port.{Port}
+use Rattle.plan_values.specs.declared.nodes.Row.{Row}
+use Rattle.plan_values.specs.declared.plan.Plan.{Plan}
+use Rattle.plan_values.specs.declared.terminus.PlannedRecord.{PlannedRecord}
+use Rattle.plan_values.specs.declared.terminus.PlannedTerminus.{PlannedTerminus}
 use Rattle.net_tables.specs.Names.{bus_name, node_name}
 use Rattle.plan_differences.specs.declared.fact.Fact.{Fact}
 use Rattle.plan_differences.specs.declared.fact.Fact.TheVariants as fact

@@ -1,6 +1,6 @@
 -- Which ways between nodes a change of plans opens, closes or makes longer or shorter.
 use Rattle.std.specs.Prelude.{◌≡◌, ◌≢◌, ◌⊎◌, ℕ, ◌<◌, List, [], ◌∷◌, Option, Some, None, MatchOption}
-use Rattle.net_plan.specs.declared.plan.Plan.{Plan}
+use Rattle.plan_values.specs.declared.plan.Plan.{Plan}
 use Rattle.net_rules.specs.Names.{name_of}
 use Rattle.net_reached.specs.Wishes.{ComesTo, ReachesNode}
 use Rattle.command_answers.specs.Naming.{IsFirstNamed}

@@ -1,7 +1,7 @@
 -- The lines that tell what becomes of ways, and what a roll-out needs.
 use Rattle.std.specs.Prelude.{ℕ, ◌+◌, List, ◌++◌, Option, Some, None, codes, length, option_map}
 use Rattle.std.specs.Fmt.{decimal}
-use Rattle.net_plan.specs.declared.plan.Plan.{Plan}
+use Rattle.plan_values.specs.declared.plan.Plan.{Plan}
 use Rattle.net_tables.specs.Names.{node_name}
 use Rattle.net_rollout.specs.declared.change.Rollout.{Rollout}
 use Rattle.net_rollout.specs.declared.change.Rollout.TheVariants as way

@@ -4,7 +4,7 @@ ghost use Rattle.plan_differences.specs.Facts.{fact_value};
 ghost use Rattle.plan_differences.specs.Things.{thing_of, thing_value};
 
 use mctp_transport::Eid;
-use net_plan::{Kind, Pool};
+use plan_values::{Kind, Pool};
 
 /// What a plan says of one thing. Buses and nodes stand by their names.
 #[derive(Clone, Copy, PartialEq, Eq)]

@@ -5,8 +5,8 @@ ghost use Rattle.net_tables.specs.Names.{bus_name, node_name};
 ghost use Rattle.plan_differences.specs.Facts.{fact_value, bus_fact, facts_of_node, node_fact, plan_facts, pool_facts, port_fact, port_facts, record_fact, row_fact, terminus_facts};
 
 use crate::fact::Fact;
-use net_plan::{Bus, Node, Plan, PlannedRecord, PlannedTerminus, Pool, Port, Row};
 use net_tables::lookup::{bus_name, node_name};
+use plan_values::{Bus, Node, Plan, PlannedRecord, PlannedTerminus, Pool, Port, Row};
 use std::alloc::{AllocError, Global};
 
 /// What a plan says: of itself, of its buses, and of each node with its pool, ports, rows and records, in its order.

@@ -1,7 +1,7 @@
 //! The command `diff`: what a change of plans does.
 ghost use Rattle.std.specs.Prelude.{◌≡◌, IfOk, IfErr};
 ghost use Rattle.std.specs.Cow.{cow_str_bytes};
-ghost use Rattle.net_json.specs.Stream.{HasRoom};
+ghost use Rattle.net_plan.specs.Stream.{HasRoom};
 ghost use Rattle.command_answers.specs.Answers.{stream, IsWithoutPlan};
 ghost use Rattle.command_answers.specs.Moves.{ArePlansUnread};
 ghost use Rattle.command_answers.specs.Told.{Concludes};
@@ -9,8 +9,8 @@ ghost use Rattle.plan_differences.specs.Diffs.{Diffs, DiffsSo};
 
 use crate::told::changes_told;
 use command_answers::{Answer, Status, read_plans, refuse, tell_made};
-use net_json::{Sink, Source};
-use net_plan::Plan;
+use net_plan::{Sink, Source};
+use plan_values::Plan;
 use std::alloc::{AllocError, Global};
 use std::borrow::CowStr;
 

@@ -12,10 +12,10 @@ use crate::lines::difference_lines;
 use crate::way_lines::{need_line, way_lines};
 use crate::ways::other_ways;
 use command_answers::accepted;
-use net_plan::{Certificate, Plan};
 use net_rollout::rollout;
 use net_rules::{CertifyError, certify};
 use plan_texts::obstacle_line;
+use plan_values::{Certificate, Plan};
 use std::alloc::{AllocError, Global};
 
 /// What two plans differ in, where they do: facts; then, where each has a certificate, the ways between nodes and what

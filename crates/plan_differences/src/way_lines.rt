@@ -5,10 +5,10 @@ ghost use Rattle.net_tables.specs.Names.{node_name};
 ghost use Rattle.plan_differences.specs.WayLines.{hops_line, need_text, way_text};
 
 use crate::ways::OtherWay;
-use net_plan::Plan;
 use net_rollout::Rollout;
 use net_tables::lookup::node_name;
 use plan_texts::move_obstacle_line;
+use plan_values::Plan;
 use std::alloc::{AllocError, Global};
 
 /// A line for each way, with the nodes' names in the plan before.

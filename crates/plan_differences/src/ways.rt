@@ -5,8 +5,8 @@ ghost use Rattle.plan_differences.specs.WayDifferences.{AreOtherWays, AreWaysFro
 
 use command_answers::first_named;
 use net_check::Checked;
-use net_plan::Plan;
 use net_reached::hops_between;
+use plan_values::Plan;
 use std::alloc::{AllocError, Global};
 
 /// What becomes of the way from one node to another, both of which stand in both plans.

@@ -4,15 +4,15 @@ use Rattle.std.specs.Prelude.{◌⊎◌, All}
 use Rattle.std.proofs.lemmas.Bool.{cases_lt}
 use Rattle.std.proofs.lemmas.List.{length-take-le, map-append}
 use Rattle.std.proofs.lemmas.List.Elements.{All-push}
-use Rattle.mctp_bridge.specs.declared.device_kind.DeviceKind.TheVariants.{Bridge}
+use Rattle.mctp_transport.specs.declared.device_kind.DeviceKind.TheVariants.{Bridge}
 use Rattle.mctp_control.specs.RouteEntries.{EntryValue}
 use Rattle.mctp_control.specs.EntryLists.{entries_bytes}
 use Rattle.mctp_control.specs.Devices.{DeviceValue}
 use Rattle.mctp_control.specs.Replies.{Replies, reply_bytes}
-use Rattle.mctp_control.specs.Readers.{asking, handle_after}
-use Rattle.mctp_control.specs.Reads.{Exchange, AreShort, IsTablePart, Reads, due_after}
-use Rattle.mctp_control.proofs.Readings.{goes_on, next_before, next_last, some_entry, ends_within, due_pushed, reads_pushed}
-use Rattle.mctp_control.proofs.Replying.{request, tells_table, asks, spells, exchange, part_of}
+use Rattle.mctp_bridge.specs.Readers.{asking, handle_after}
+use Rattle.mctp_bridge.specs.Reads.{Exchange, AreShort, IsTablePart, Reads, due_after}
+use Rattle.mctp_bridge.proofs.Readings.{goes_on, next_before, next_last, some_entry, ends_within, due_pushed, reads_pushed}
+use Rattle.mctp_bridge.proofs.Replying.{request, tells_table, asks, spells, exchange, part_of}
 use Rattle.plan_exports.specs.TableAnswers.{message_of, GivesAnswer, IsAnswer}
 
 abbrev pub IsKnown : List EntryValue → ℕ → Type 0

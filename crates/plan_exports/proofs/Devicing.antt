@@ -4,7 +4,7 @@ use Rattle.std.specs.Prelude.{◌≢◌, All, MatchBool, slice_get}
 use Rattle.std.proofs.lemmas.List.{take_more, take_all, length_push}
 use Rattle.std.proofs.lemmas.List.Elements.{All-push}
 use Rattle.std.proofs.lemmas.Option.{slice_get-get_or}
-use Rattle.net_plan.specs.declared.plan.Plan.{Plan}
+use Rattle.plan_values.specs.declared.plan.Plan.{Plan}
 use Rattle.net_tables.proofs.Elements.{in_push}
 use Rattle.plan_exports.specs.Devices.{IsDeviceOf, IsLinked}
 use Rattle.plan_exports.specs.declared.links.Link.{Link}

@@ -8,18 +8,18 @@ use Rattle.std.proofs.lemmas.List.Concat.{flat_map-cons}
 use Rattle.std.proofs.lemmas.List.Elements.{All-append, All-cons, All-map, All-nil, All-tail}
 use Rattle.std.proofs.lemmas.List.Sorted.{All-permutation}
 use Rattle.std.proofs.lemmas.Option.{slice_get_within, slice_get-get_or}
-use Rattle.mctp_bridge.specs.declared.device_kind.DeviceKind.{DeviceKind}
-use Rattle.mctp_bridge.specs.declared.device_kind.DeviceKind.TheVariants.{Bridge, Endpoint}
-use Rattle.mctp_bridge.specs.declared.row.TableRow.{TableRow}
-use Rattle.mctp_bridge.specs.Rows.{IsTable, IsLawful}
-use Rattle.mctp_control.specs.Entries.{row_entries, entries_to, bridge_entries, table_entries, lies_later, own_entry, entry_before, run_entry}
+use Rattle.mctp_transport.specs.declared.device_kind.DeviceKind.{DeviceKind}
+use Rattle.mctp_transport.specs.declared.device_kind.DeviceKind.TheVariants.{Bridge, Endpoint}
+use Rattle.mctp_routing.specs.declared.row.TableRow.{TableRow}
+use Rattle.mctp_routing.specs.Rows.{IsTable, IsLawful}
+use Rattle.mctp_bridge.specs.Entries.{row_entries, entries_to, bridge_entries, table_entries, lies_later, own_entry, entry_before, run_entry}
 use Rattle.mctp_control.specs.declared.route_entry.EntryKind.TheVariants as kind
 use Rattle.mctp_control.specs.RouteEntries.{EntryValue}
-use Rattle.mctp_control.specs.declared.routing_entries.Neighbor.{Neighbor}
-use Rattle.net_plan.specs.declared.nodes.Node.{Node}
-use Rattle.net_plan.specs.declared.nodes.Port.{Port}
-use Rattle.net_plan.specs.declared.nodes.Row.{Row}
-use Rattle.net_plan.specs.declared.plan.Plan.{Plan}
+use Rattle.mctp_bridge.specs.declared.routing_entries.Neighbor.{Neighbor}
+use Rattle.plan_values.specs.declared.nodes.Node.{Node}
+use Rattle.plan_values.specs.declared.nodes.Port.{Port}
+use Rattle.plan_values.specs.declared.nodes.Row.{Row}
+use Rattle.plan_values.specs.declared.plan.Plan.{Plan}
 use Rattle.net_tables.specs.Routing.{rows_of, ports_of, node_at}
 use Rattle.net_tables.specs.Rows.{NamesNeighbor, IsJoined, bus_of}
 use Rattle.net_tables.specs.Tables.{table_row}
@@ -27,8 +27,8 @@ use Rattle.net_tables.proofs.Elements.{element}
 use Rattle.plan_exports.specs.Neighbors.{neighbor_value, neighbor_of}
 use Rattle.net_tables.specs.Names.{address_on}
 use Rattle.plan_exports.specs.PlannedTables.{IsPlannedTable, HasLawfulRows}
-use Rattle.mctp_control.specs.Reads.{AreShort}
-use Rattle.net_plan.proofs.Placed.{both}
+use Rattle.mctp_bridge.specs.Reads.{AreShort}
+use Rattle.plan_values.proofs.Placed.{both}
 
 -- ---- how many entries
 

@@ -2,11 +2,11 @@
 use Rattle.std.proofs.Common.{◌≡◌, ℕ, Bool, true, false, List, Option, None, Some, refl, sym, ap, subst, inl, inr}
 use Rattle.std.specs.Prelude.{◌&&◌, IsTrue, option_map, slice_get, string_bytes, unwrap_or, codes}
 use Rattle.std.specs.List.{list_all}
-use Rattle.net_plan.specs.NameText.{is_name_byte}
-use Rattle.net_plan.specs.declared.name.Name.{Name}
-use Rattle.net_plan.specs.declared.nodes.Bus.{Bus}
-use Rattle.net_plan.specs.declared.nodes.Node.{Node}
-use Rattle.net_plan.specs.declared.plan.Plan.{Plan}
+use Rattle.plan_values.specs.NameText.{is_name_byte}
+use Rattle.plan_values.specs.declared.name.Name.{Name}
+use Rattle.plan_values.specs.declared.nodes.Bus.{Bus}
+use Rattle.plan_values.specs.declared.nodes.Node.{Node}
+use Rattle.plan_values.specs.declared.plan.Plan.{Plan}
 use Rattle.net_tables.specs.Routing.{node_at}
 use Rattle.plan_exports.specs.Devices.{AreDevices, IsDeviceOf, device_at}
 use Rattle.net_tables.specs.Names.{bus_name, node_name}

@@ -1,6 +1,6 @@
 -- A script with its devices and rows is that of the node.
 use Rattle.std.proofs.Common.{◌≡◌, ℕ, List, ap}
-use Rattle.net_plan.specs.declared.plan.Plan.{Plan}
+use Rattle.plan_values.specs.declared.plan.Plan.{Plan}
 use Rattle.plan_exports.specs.Devices.{AreDevices}
 use Rattle.plan_exports.specs.LinuxScripts.{IsLinuxScript, linux_text}
 use Rattle.plan_exports.specs.PlannedRows.{RowFacts, ArePlannedRows}

@@ -1,6 +1,6 @@
 -- The Linux network devices of a plan's buses.
 use Rattle.std.specs.Prelude.{◌≡◌, ◌≢◌, ◌⊎◌, ℕ, List, length, take, All, Some, slice_get, unwrap_or, codes}
-use Rattle.net_plan.specs.declared.plan.Plan.{Plan}
+use Rattle.plan_values.specs.declared.plan.Plan.{Plan}
 use Rattle.net_tables.specs.Names.{bus_name}
 use Rattle.plan_exports.specs.declared.links.Link.{Link}
 

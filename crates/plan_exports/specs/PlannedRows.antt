@@ -1,9 +1,9 @@
 -- The rows of a planned node as texts show them.
 use Rattle.std.specs.Prelude.{◌≡◌, ℕ, List, Option, map}
 use Rattle.std.specs.List.Sorted.{IsPermutation}
-use Rattle.mctp_bridge.specs.declared.row.TableRow.{TableRow}
-use Rattle.mctp_bridge.specs.Rows.{IsTable}
-use Rattle.net_plan.specs.declared.plan.Plan.{Plan}
+use Rattle.mctp_routing.specs.declared.row.TableRow.{TableRow}
+use Rattle.mctp_routing.specs.Rows.{IsTable}
+use Rattle.plan_values.specs.declared.plan.Plan.{Plan}
 use Rattle.net_tables.specs.Routing.{rows_of}
 use Rattle.net_tables.specs.Rows.{bus_of}
 use Rattle.net_tables.specs.Tables.{table_row}

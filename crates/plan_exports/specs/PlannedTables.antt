@@ -1,8 +1,8 @@
 -- The rows of a planned node, in the order of their endpoint IDs, and whom they lead to.
 use Rattle.std.specs.Prelude.{◌≡◌, ℕ, List, map}
-use Rattle.mctp_bridge.specs.declared.row.TableRow.{TableRow}
-use Rattle.mctp_control.specs.declared.routing_entries.Neighbor.{Neighbor}
-use Rattle.net_plan.specs.declared.plan.Plan.{Plan}
+use Rattle.mctp_routing.specs.declared.row.TableRow.{TableRow}
+use Rattle.mctp_bridge.specs.declared.routing_entries.Neighbor.{Neighbor}
+use Rattle.plan_values.specs.declared.plan.Plan.{Plan}
 use Rattle.net_tables.specs.Routing.{rows_of, OfItem}
 use Rattle.net_tables.specs.Rows.{NamesNeighbor}
 use Rattle.net_tables.specs.Tables.{AreRows}

@@ -10,8 +10,8 @@ ghost use Rattle.plan_exports.specs.PlannedRows.{row_facts};
 use crate::identifiers::identifier;
 use crate::rows::{PlannedRow, planned_rows};
 use crate::words::hex_list;
-use net_plan::{Plan, Pool};
 use net_tables::lookup::{eid_at, node_name, pool_at};
+use plan_values::{Plan, Pool};
 use std::alloc::{AllocError, Global};
 
 /// The terminus of a node.
@@ -339,6 +339,7 @@ fn sum(one: usize, other: usize) -> Result<usize, AllocError>
 {
     match one.checked_add(other) {
         Some(all) => Ok(all),
+        // no memory: the records are in memory, so their sizes have no such sum.
         None => Err(AllocError),
     }
 }

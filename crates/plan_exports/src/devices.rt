@@ -3,8 +3,8 @@ ghost use Rattle.std.specs.Prelude.{◌≡◌, ◌≢◌, IfOk, All, map, MatchB
 ghost use Rattle.plan_exports.specs.Devices.{AreDevices, IsDeviceOf, IsLinked};
 
 use crate::links::Link;
-use net_plan::Plan;
 use net_tables::lookup::bus_name;
+use plan_values::Plan;
 use std::alloc::{AllocError, Global};
 
 /// The device of each bus of a plan.

@@ -3,18 +3,19 @@ ghost use Rattle.std.specs.Prelude.{◌≡◌, ◌⊎◌, ◌<◌, ◌≤◌, Al
 ghost use Rattle.std.specs.List.{flat_map};
 ghost use Rattle.mctp_control.specs.Devices.{device_value};
 ghost use Rattle.mctp_control.specs.EntryLists.{values_of};
-ghost use Rattle.mctp_control.specs.Readers.{handle_after};
-ghost use Rattle.mctp_control.specs.Reads.{AreShort};
+ghost use Rattle.mctp_bridge.specs.Readers.{handle_after};
+ghost use Rattle.mctp_bridge.specs.Reads.{AreShort};
 ghost use Rattle.mctp_transport.specs.PacketValues.{IsAssignable};
 ghost use Rattle.plan_exports.specs.PlannedTables.{HasLawfulRows};
 ghost use Rattle.plan_exports.specs.TableAnswers.{AreAnswers, AreEntriesOf, AreEntryLines, AreEntryMessages, IsAnswer, hex_line};
 
 use crate::planned_tables::planned_table;
 use arrayvec::ArrayVec;
-use mctp_bridge::DeviceKind;
-use mctp_control::{CommandNumber, Device, MAX_BODY, NO_MORE, RouteEntry, route_entries};
+use mctp_bridge::{NO_MORE, route_entries};
+use mctp_control::{CommandNumber, Device, MAX_BODY, RouteEntry};
+use mctp_routing::DeviceKind;
 use mctp_transport::Eid;
-use net_plan::Plan;
+use plan_values::Plan;
 use std::alloc::{AllocError, Global};
 
 /// A control message.

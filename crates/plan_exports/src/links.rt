@@ -2,7 +2,7 @@
 ghost use Rattle.std.specs.Prelude.{◌≡◌, IsTrue};
 ghost use Rattle.plan_exports.specs.DeviceNames.{is_device};
 
-use net_plan::is_name;
+use plan_values::is_name;
 
 /// The Linux network device that is on a bus of a plan.
 #[derive(Clone, Copy, Debug, PartialEq, Eq)]

@@ -14,8 +14,8 @@ use crate::planned_tables::bus_numbers;
 use crate::rows::{PlannedRow, planned_rows};
 use crate::words::hex_list;
 use mctp_transport::Eid;
-use net_plan::Plan;
 use net_tables::lookup::{bus_name, eid_at, is_on_bus, node_name};
+use plan_values::Plan;
 use std::alloc::{AllocError, Global};
 
 /// The binding of SMBus and I2C (DSP0239).

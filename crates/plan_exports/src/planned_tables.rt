@@ -6,12 +6,12 @@ ghost use Rattle.net_tables.specs.Tables.{AreRows};
 ghost use Rattle.plan_exports.specs.Neighbors.{kind_at, bus_numbers, neighbor_of, neighbor_value};
 ghost use Rattle.plan_exports.specs.PlannedTables.{IsPlannedTable};
 
-use mctp_bridge::{DeviceKind, Hop, RangeTable, TableRow};
-use mctp_control::Neighbor;
+use mctp_bridge::Neighbor;
+use mctp_routing::{DeviceKind, Hop, RangeTable, TableRow};
 use mctp_transport::Eid;
-use net_plan::Plan;
 use net_tables::lookup::{address_on, bus_at, eid_at, is_bridge, rows_at};
 use net_tables::routing_table;
+use plan_values::Plan;
 use std::alloc::{AllocError, Global};
 
 /// The routing table of a planned node, and for each of its rows the node to which it leads.

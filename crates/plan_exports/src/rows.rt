@@ -5,10 +5,10 @@ ghost use Rattle.net_tables.specs.Tables.{AreRows};
 ghost use Rattle.plan_exports.specs.PlannedRows.{ArePlannedRows, facts_of, row_facts};
 
 use crate::planned_tables::{neighbor_at, range_table};
-use mctp_bridge::TableRow;
+use mctp_routing::TableRow;
 use mctp_transport::Eid;
-use net_plan::Plan;
 use net_tables::lookup::bus_at;
+use plan_values::Plan;
 use std::alloc::{AllocError, Global};
 
 /// A row of a planned node, with the node to which it leads.

@@ -1,6 +1,6 @@
 -- Drafts, one after the other.
 use Rattle.std.proofs.Common.{ℕ, List, sym, subst}
-use Rattle.net_plan.specs.declared.plan.Plan.{Plan}
+use Rattle.plan_values.specs.declared.plan.Plan.{Plan}
 use Rattle.plan_fixes.specs.Fixes.{AreFixes, IsDraftOf, LeadsOn}
 use Rattle.plan_fixes.specs.declared.fixing.Draft.{Draft}
 

@@ -4,11 +4,11 @@ use Rattle.net_explained.specs.Edits.{IsEdited}
 use Rattle.net_explained.specs.Obstacles.{IsTried}
 use Rattle.net_explained.specs.declared.edit.Edit.{Edit}
 use Rattle.net_explained.specs.declared.trial.Tried.{Tried}
-use Rattle.net_json.specs.PlanText.{IsPlanOf}
-use Rattle.net_json.specs.Texts.{IsJsonTextOf}
-use Rattle.net_plan.specs.PlanValues.{plan_value}
-use Rattle.net_plan.specs.declared.certificate.Certificate.{Certificate}
-use Rattle.net_plan.specs.declared.plan.Plan.{Plan}
+use Rattle.net_plan.specs.PlanText.{IsPlanOf}
+use Rattle.net_plan.specs.Texts.{IsJsonTextOf}
+use Rattle.plan_values.specs.PlanValues.{plan_value}
+use Rattle.plan_values.specs.declared.certificate.Certificate.{Certificate}
+use Rattle.plan_values.specs.declared.plan.Plan.{Plan}
 use Rattle.net_rules.specs.Certificates.{HasNoCertificate, NamesObstacle}
 use Rattle.net_rules.specs.Rules.{Accepts}
 use Rattle.net_rules.specs.declared.certify_error.CertifyError.{CertifyError}

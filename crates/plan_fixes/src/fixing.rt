@@ -5,9 +5,9 @@ ghost use Rattle.plan_fixes.specs.Fixes.{IsAsEdited, IsFixed, IsLeftOf, IsMadeBy
 use crate::splicing::spliced;
 use explanation_texts::edit_line;
 use net_explained::{Edit, edited, tried_edits};
-use net_json::{PlanError, plan_of_text};
-use net_plan::{Plan, are_same_plans};
+use net_plan::{PlanError, plan_of_text};
 use net_rules::{CertifyError, certify};
+use plan_values::{Plan, are_same_plans};
 use std::alloc::{AllocError, Global};
 
 /// How many edits are made at most.

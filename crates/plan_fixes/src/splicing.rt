@@ -2,7 +2,7 @@
 ghost use Rattle.std.specs.Prelude.{◌≡◌, ◌≤◌, ◌++◌, ◌∷◌, [], IfOk, IfSome, length, map, take, drop, string_bytes};
 ghost use Rattle.json.specs.Value.{value_view};
 ghost use Rattle.fault_texts.specs.Places.{record_pointer};
-ghost use Rattle.net_json.specs.Finding.{Step, step_value};
+ghost use Rattle.net_plan.specs.Finding.{Step, step_value};
 ghost use Rattle.net_pointers.specs.Offsets.{IsTextOf};
 ghost use Rattle.plan_fixes.specs.Splices.{IsSpan, IsSpliced, changed_pointer};
 
@@ -10,10 +10,10 @@ use explanation_texts::value_text;
 use fault_texts::{part_pointer, record_pointer, row_pointer};
 use json::{Scratch, Value};
 use net_explained::{Change, Edit};
-use net_json::{PlanError, PointerStep, json_of};
-use net_plan::Plan;
+use net_plan::{PlanError, PointerStep, json_of};
 use net_pointers::offset_of_pointer;
 use net_tables::lookup::rows_at;
+use plan_values::Plan;
 use std::alloc::{AllocError, Global};
 
 /// Where a value stands in a text: from one offset up to another.
@@ -36,6 +36,7 @@ pub fn spliced(
     let mut scratch = Scratch::new(alloc);
     match json_of(alloc, text, &mut scratch) {
         Ok(tree) => spliced_in(alloc, text, &tree, plan, edit),
+        // no memory: the text was read before, so `json_of` has no other error.
         Err(_) => Err(AllocError),
     }
 }

@@ -1,6 +1,6 @@
 -- Names of just those nodes of which it is so.
 use Rattle.std.proofs.Common.{◌≡◌, ◌+◌, ℕ, suc, List, subst, arith}
-use Rattle.net_plan.specs.declared.plan.Plan.{Plan}
+use Rattle.plan_values.specs.declared.plan.Plan.{Plan}
 use Rattle.plan_pages.specs.Lists.{AddsName, AreNamesOf}
 
 -- one node more

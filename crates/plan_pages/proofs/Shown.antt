@@ -1,8 +1,8 @@
 -- What is shown of a terminus.
 use Rattle.std.proofs.Common.{◌≡◌, ℕ, List, Option, Result, Ok, Err, length}
 use Rattle.std.specs.Prelude.{IfOk}
-use Rattle.net_plan.specs.declared.certificate.Certificate.{Certificate}
-use Rattle.net_plan.specs.declared.plan.Plan.{Plan}
+use Rattle.plan_values.specs.declared.certificate.Certificate.{Certificate}
+use Rattle.plan_values.specs.declared.plan.Plan.{Plan}
 use Rattle.net_tables.specs.Repositories.{records_of}
 use Rattle.plan_pages.specs.Lists.{AreJoined}
 use Rattle.plan_pages.specs.Termini.{IsRecordShown, IsShownOf, shown_count, terminus_text}

@@ -1,6 +1,6 @@
 -- Texts that are made of one for each number.
 use Rattle.std.specs.Prelude.{◌≡◌, ◌⊎◌, ℕ, zero, suc, List, [], ◌++◌}
-use Rattle.net_plan.specs.declared.plan.Plan.{Plan}
+use Rattle.plan_values.specs.declared.plan.Plan.{Plan}
 use Rattle.plan_pages.specs.Words.{listed_behind, node_name}
 
 -- the text joins one for each of the first numbers, in their order

@@ -6,8 +6,8 @@ mod scale;
 use crate::markup::label;
 use crate::picture::lines::{Line, lanes_of, lines_of};
 use crate::picture::scale::{BADGE, NAMES, Scale, beside};
-use net_plan::Plan;
 use net_tables::lookup::{bus_name, is_bridge, is_on_bus, node_name, ports_at};
+use plan_values::Plan;
 use std::alloc::{AllocError, Global};
 
 /// The picture of a plan. The nodes that are marked stand out.

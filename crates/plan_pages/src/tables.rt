@@ -9,12 +9,12 @@ ghost use Rattle.plan_pages.specs.Words.{bus_name, node_name, number_or_dash, or
 
 use crate::markup::{row, table};
 use crate::names::{byte_or_dash, number, or_dash, push_listed, span_text};
-use net_plan::{Bus, Certificate, Kind, Plan, Pool, Port, Row};
 use net_tables::lookup::{
     address_on, bus_at, bus_name, eid_at, is_in_pool, is_on_bus, level_of, node_name, owner_at,
     pool_at, pool_end, port_at, ports_at, row_at, row_end, rows_at, terminus_at,
 };
 use plan_texts::bus_text;
+use plan_values::{Bus, Certificate, Kind, Plan, Pool, Port, Row};
 use std::alloc::{AllocError, Global};
 
 /// The buses, with the nodes on each.

@@ -9,9 +9,9 @@ use crate::escaping::escaped;
 use crate::markup::{block, none};
 use crate::names::word_or_dash;
 use mctp_transport::Wire;
-use net_plan::{Certificate, Plan, PlannedRecord};
 use net_tables::lookup::{node_name, places_at, record_at, records_at, terminus_at};
 use pdr_record::Record;
+use plan_values::{Certificate, Plan, PlannedRecord};
 use record_fields::description;
 use std::alloc::{AllocError, Global};
 

@@ -8,16 +8,16 @@ use Rattle.net_tables.specs.Names.{kind_word}
 use Rattle.net_tables.specs.Ownership.{given_level}
 use Rattle.net_tables.specs.Ranks.{ranges_of}
 use Rattle.net_tables.specs.Routing.{ports_of}
-use Rattle.net_plan.specs.declared.certificate.Certificate.{Certificate}
-use Rattle.net_plan.specs.declared.certificate.RankRange.{RankRange}
-use Rattle.net_plan.specs.declared.nodes.Bus.{Bus}
-use Rattle.net_plan.specs.declared.nodes.Kind.{Kind}
-use Rattle.net_plan.specs.declared.nodes.Kind.TheVariants as kind
-use Rattle.net_plan.specs.declared.nodes.Node.{Node}
-use Rattle.net_plan.specs.declared.nodes.Pool.{Pool}
-use Rattle.net_plan.specs.declared.nodes.Port.{Port}
-use Rattle.net_plan.specs.declared.plan.Plan.{Plan}
-use Rattle.net_plan.specs.declared.terminus.PlannedTerminus.{PlannedTerminus}
+use Rattle.plan_values.specs.declared.certificate.Certificate.{Certificate}
+use Rattle.plan_values.specs.declared.certificate.RankRange.{RankRange}
+use Rattle.plan_values.specs.declared.nodes.Bus.{Bus}
+use Rattle.plan_values.specs.declared.nodes.Kind.{Kind}
+use Rattle.plan_values.specs.declared.nodes.Kind.TheVariants as kind
+use Rattle.plan_values.specs.declared.nodes.Node.{Node}
+use Rattle.plan_values.specs.declared.nodes.Pool.{Pool}
+use Rattle.plan_values.specs.declared.nodes.Port.{Port}
+use Rattle.plan_values.specs.declared.plan.Plan.{Plan}
+use Rattle.plan_values.specs.declared.terminus.PlannedTerminus.{PlannedTerminus}
 use Rattle.plan_texts.specs.LineParts.{address_text}
 
 -- a character as it stands between DOT's quotes: after a backslash where it is a quote or a backslash itself

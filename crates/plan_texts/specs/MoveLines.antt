@@ -14,7 +14,7 @@ use Rattle.net_rules.specs.declared.move_error.MoveError.TheVariants as error
 use Rattle.net_rules.specs.declared.move_fault.MoveFault.{MoveFault}
 use Rattle.net_tables.specs.Routing.{eid_number}
 use Rattle.net_rules.specs.MoveFaults.{code_of_move}
-use Rattle.net_plan.specs.declared.plan.Plan.{Plan}
+use Rattle.plan_values.specs.declared.plan.Plan.{Plan}
 use Rattle.net_tables.specs.Names.{node_name}
 use Rattle.plan_texts.specs.Lines.{number_or_dash, names_text, obstacle_text}
 use Rattle.plan_texts.specs.LineParts.{name_or_none}
@@ -63,7 +63,7 @@ old_obstacle_text plan (alone.Fault fault) = Some (move_fault_text plan (codes "
     (record { rule = OfPlan fault.rule; node = fault.node; entry = fault.entry; eid = fault.eid }))
 old_obstacle_text plan (alone.OwnerLoop nodes) = obstacle_text plan (alone.OwnerLoop nodes)
 old_obstacle_text plan (alone.Loop eid nodes) = Some (old_loop_text plan eid.value nodes.items)
-old_obstacle_text plan (alone.BadChain node fault) = obstacle_text plan (alone.BadChain node fault)
+old_obstacle_text plan (alone.BadChain node kind entry) = obstacle_text plan (alone.BadChain node kind entry)
 old_obstacle_text plan alone.OutOfMemory = None
 
 -- what rules certificates of the move out, where nodes have their names in the plan; want of memory does not

@@ -21,7 +21,7 @@ address_words_of f =
 abbrev pub position_words_of : PacketValue → List ℕ
 position_words_of f =
     codes "som " ++ (decimal (bit f.som) ++ (codes " eom " ++ (decimal (bit f.eom)
-    ++ (codes " number " ++ decimal f.sequence))))
+    ++ (codes " number " ++ decimal f.number))))
 
 abbrev pub tag_words_of : PacketValue → List ℕ
 tag_words_of f = codes "owner " ++ (decimal (bit f.owner) ++ (codes " tag " ++ decimal f.tag))

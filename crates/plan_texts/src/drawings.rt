@@ -8,8 +8,10 @@ mod rows;
 
 use crate::lookups::address_text;
 use mctp_transport::Eid;
-use net_plan::{Bus, Certificate, Kind, Name, Node, Plan, PlannedTerminus, Pool, Port, RankRange};
 use net_tables::lookup::{given_level_of, is_on_bus, kind_word, ranges_at};
+use plan_values::{
+    Bus, Certificate, Kind, Name, Node, Plan, PlannedTerminus, Pool, Port, RankRange,
+};
 pub use rows::{bundle_drawing, way_drawing};
 use std::alloc::{AllocError, Global};
 

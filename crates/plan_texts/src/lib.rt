@@ -18,9 +18,9 @@ pub use lookups::{address_text, bus_text, from_to, name_or_none, number_text, sp
 use mctp_transport::Eid;
 pub use moves::steps::rollout_lines;
 pub use moves::{move_error_line, move_obstacle_line};
-use net_plan::Plan;
 use net_rules::{CertifyError, ChainFault, Fault};
 use net_tables::lookup::{bus_name, node_name};
+use plan_values::Plan;
 pub use shown::{packet_text, record_text, refused_text};
 use std::alloc::{AllocError, Global};
 use std::fmt;
@@ -63,7 +63,7 @@ pub fn obstacle_words(
         CertifyError::Fault(fault) => fault_words(alloc, plan, fault),
         CertifyError::OwnerLoop(nodes) => owner_loop_words(alloc, plan, nodes),
         CertifyError::Loop(eid, nodes) => loop_words(alloc, plan, *eid, nodes),
-        CertifyError::BadChain(node, fault) => chain_words(alloc, plan, *node, *fault),
+        CertifyError::BadChain(node, kind, entry) => chain_words(alloc, plan, *node, *kind, *entry),
         CertifyError::OutOfMemory => Err(AllocError),
     }
 }
@@ -97,13 +97,13 @@ fn chain_words(
     alloc: Global,
     plan: &Plan,
     node: usize,
-    fault: ChainFault,
+    kind: ChainFault,
+    entry: usize,
 ) -> Result<String, AllocError>
-    ensures { IfOk result (λ words. string_bytes words ≡ chain_words plan.now node fault) }
+    ensures { IfOk result (λ words. string_bytes words ≡ chain_words plan.now node kind entry) }
 {
     let name = node_name(plan, node);
-    let word = fault.word();
-    let entry = fault.entry();
+    let word = kind.word();
     format!(in alloc; "chain node {name} {word} entry {entry}")
 }
 

@@ -3,8 +3,8 @@ ghost use Rattle.std.specs.Prelude.{◌≡◌, IfOk, string_bytes};
 ghost use Rattle.plan_texts.specs.LineParts.{address_text, bus_text, from_to, name_or_none, span_text};
 ghost use Rattle.plan_texts.specs.Lines.{number_or_dash};
 
-use net_plan::Plan;
 use net_tables::lookup::{bus_name, node_name};
+use plan_values::Plan;
 use std::alloc::{AllocError, Global};
 
 /// A number, or a dash where there is none.

@@ -7,9 +7,9 @@ pub mod steps;
 use super::{OrDash, names_after_spaces, obstacle_line};
 use crate::lookups::name_or_none;
 use mctp_transport::Eid;
-use net_plan::Plan;
 use net_rules::{CertifyError, MoveError, MoveFault, MoveObstacle, Side, fault_of_plan};
 use net_tables::lookup::node_name;
+use plan_values::Plan;
 use std::alloc::{AllocError, Global};
 
 /// The line that says why a move from one plan to another is not accepted, with the nodes' names in the plan before.

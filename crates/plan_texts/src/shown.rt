@@ -47,7 +47,7 @@ fn position_words(alloc: Global, packet: &PacketView) -> Result<String, AllocErr
 {
     let som = u8::from(packet.header.som);
     let eom = u8::from(packet.header.eom);
-    let number = packet.header.sequence.value;
+    let number = packet.header.number.value;
     format!(in alloc; "som {som} eom {eom} number {number}")
 }
 

@@ -6,15 +6,15 @@ use Rattle.std.specs.Option.{option_to_list}
 use Rattle.std.proofs.lemmas.List.{length-map, map-append, take_all}
 use Rattle.std.proofs.lemmas.List.Elements.{All-nil, All-push}
 use Rattle.std.proofs.lemmas.Option.{slice_get-map, slice_get_within}
-use Rattle.net_json.specs.declared.error.PlanError.{PlanError}
-use Rattle.net_json.specs.EventReading.{events as read_events}
-use Rattle.net_json.specs.EventText.{AreEventsOf}
-use Rattle.net_json.specs.Refusals.{IsRefused}
-use Rattle.net_plan.specs.PlanValues.{plan_value, node_names}
-use Rattle.net_plan.specs.declared.certificate.Certificate.{Certificate}
-use Rattle.net_plan.specs.declared.event.Event.{Event}
-use Rattle.net_plan.specs.declared.nodes.Node.{Node}
-use Rattle.net_plan.specs.declared.plan.Plan.{Plan}
+use Rattle.net_plan.specs.declared.error.PlanError.{PlanError}
+use Rattle.net_plan.specs.EventReading.{events as read_events}
+use Rattle.net_plan.specs.EventText.{AreEventsOf}
+use Rattle.net_plan.specs.Refusals.{IsRefused}
+use Rattle.plan_values.specs.PlanValues.{plan_value, node_names}
+use Rattle.plan_values.specs.declared.certificate.Certificate.{Certificate}
+use Rattle.plan_values.specs.declared.event.Event.{Event}
+use Rattle.plan_values.specs.declared.nodes.Node.{Node}
+use Rattle.plan_values.specs.declared.plan.Plan.{Plan}
 use Rattle.net_rules.specs.Rules.{Accepts}
 use Rattle.net_runs.specs.WalkedRuns.{WalkedTurn, WalkedRunOf, walked_after, walked_reached}
 use Rattle.net_runs.specs.Walkers.{WalkedState, WalkedEvent, BeginWalk, WalkedOutcome, walked_at_start}

@@ -5,8 +5,8 @@ use Rattle.std.specs.Io.KnownBytes.{Appends}
 use Rattle.std.proofs.KnownBytes.{Appends-nil}
 use Rattle.std.proofs.lemmas.List.{take-append-drop, length-map, length-take-le, take_more, take_all, take-map}
 use Rattle.std.proofs.lemmas.Option.{slice_get-map, slice_get-get_or, get_or_from_slice_get}
-use Rattle.net_plan.specs.declared.plan.Plan.{Plan}
-use Rattle.net_json.specs.Stream.{AppendsBeginning}
+use Rattle.plan_values.specs.declared.plan.Plan.{Plan}
+use Rattle.net_plan.specs.Stream.{AppendsBeginning}
 use Rattle.command_answers.specs.Gathering.{AppendsAllBut}
 use Rattle.command_answers.proofs.Waiting.{added_after, begins_after, begins_at_end, given_at_end}
 use Rattle.net_runs.specs.WalkedRuns.{WalkedTurn, WalkedRunFrom}
@@ -24,8 +24,8 @@ use Rattle.command_answers.specs.declared.refused.Input.TheVariants as input
 use Rattle.command_answers.specs.Answers.{Stream, Fails, BreaksOff, AreGiven}
 use Rattle.command_answers.proofs.Causes.{unread_also}
 use Rattle.command_answers.proofs.Telling.{breaks_off_also}
-use Rattle.net_plan.specs.declared.certificate.Certificate.{Certificate}
-use Rattle.net_json.specs.declared.error.PlanError.{PlanError}
+use Rattle.plan_values.specs.declared.certificate.Certificate.{Certificate}
+use Rattle.net_plan.specs.declared.error.PlanError.{PlanError}
 use Rattle.run_texts.specs.OutcomeLines.{outcome_line, lines_from, outcome_lines}
 use Rattle.play_commands.specs.Simulating.{IsRunText, ShowsRun, ShowsBeginning, ShowsWalks, ShowsBegunWalks, IsWalksText, ShowsAllOr, AreFirstLines, ShowsLines, IsUnreadAmong, AreUnreadAmong}
 use Rattle.command_answers.specs.Inputs.{AreUnreadEvents, AreEventsUnread}

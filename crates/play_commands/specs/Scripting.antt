@@ -3,17 +3,17 @@ use Rattle.std.specs.Prelude.{◌≡◌, ◌≢◌, ◌⊎◌, ℕ, ◌-◌, ◌
 use Rattle.std.specs.Prelude.{All, Err, ⊤}
 use Rattle.pdr_repository.specs.declared.walk_fault.WalkFault.{WalkFault}
 use Rattle.pdr_repository.specs.declared.walk_fault.WalkFault.TheVariants.{NotAsked}
-use Rattle.net_json.specs.declared.error.PlanError.{PlanError}
-use Rattle.net_json.specs.declared.error.PlanError.TheVariants as error
-use Rattle.net_json.specs.EventReading.{events}
-use Rattle.net_json.specs.EventText.{AreEventsOf}
-use Rattle.net_json.specs.Refusals.{IsRefused}
-use Rattle.net_json.specs.Texts.{IsJsonTextOf}
-use Rattle.net_plan.specs.declared.certificate.Certificate.{Certificate}
-use Rattle.net_plan.specs.declared.event.Event.{Event}
-use Rattle.net_plan.specs.declared.plan.Plan.{Plan}
-use Rattle.net_plan.specs.EventValues.{event_entry}
-use Rattle.net_plan.specs.PlanValues.{plan_value, node_names}
+use Rattle.net_plan.specs.declared.error.PlanError.{PlanError}
+use Rattle.net_plan.specs.declared.error.PlanError.TheVariants as error
+use Rattle.net_plan.specs.EventReading.{events}
+use Rattle.net_plan.specs.EventText.{AreEventsOf}
+use Rattle.net_plan.specs.Refusals.{IsRefused}
+use Rattle.net_plan.specs.Texts.{IsJsonTextOf}
+use Rattle.plan_values.specs.declared.certificate.Certificate.{Certificate}
+use Rattle.plan_values.specs.declared.event.Event.{Event}
+use Rattle.plan_values.specs.declared.plan.Plan.{Plan}
+use Rattle.plan_values.specs.EventValues.{event_entry}
+use Rattle.plan_values.specs.PlanValues.{plan_value, node_names}
 use Rattle.net_rules.specs.Names.{name_of}
 use Rattle.net_rules.specs.Rules.{Accepts}
 use Rattle.net_runs.specs.Events.{OutcomeValue}

@@ -1,12 +1,12 @@
 -- What the end of `sim` says of the events that were played and of what was written.
 use Rattle.std.specs.Prelude.{◌≡◌, ◌⊎◌, ℕ, List, map, take, Result, Ok, Err, ⊤}
 use Rattle.std.specs.Io.KnownBytes.{Appends}
-use Rattle.net_plan.specs.declared.plan.Plan.{Plan}
-use Rattle.net_plan.specs.declared.certificate.Certificate.{Certificate}
-use Rattle.net_json.specs.declared.error.PlanError.{PlanError}
-use Rattle.net_plan.specs.declared.event.Event.{Event}
-use Rattle.net_plan.specs.PlanValues.{plan_value}
-use Rattle.net_json.specs.Unread.{GaveNoEvents}
+use Rattle.plan_values.specs.declared.plan.Plan.{Plan}
+use Rattle.plan_values.specs.declared.certificate.Certificate.{Certificate}
+use Rattle.net_plan.specs.declared.error.PlanError.{PlanError}
+use Rattle.plan_values.specs.declared.event.Event.{Event}
+use Rattle.plan_values.specs.PlanValues.{plan_value}
+use Rattle.net_plan.specs.Unread.{GaveNoEvents}
 use Rattle.net_check.specs.Accepted.{IsAccepted}
 use Rattle.net_tables.specs.TwoPlans.{Tables, one_plan}
 use Rattle.net_runs.specs.WalkedRuns.{WalkedTurn, WalkedRunFrom}

@@ -1,11 +1,11 @@
 //! The command `expect`: whether `sim` prints the lines of a file.
 ghost use Rattle.std.specs.Prelude.{◌≡◌, IfOk, IfErr, map, string_bytes};
 ghost use Rattle.std.specs.Cow.{cow_str_bytes};
-ghost use Rattle.net_json.specs.Stream.{HasRoom};
+ghost use Rattle.net_plan.specs.Stream.{HasRoom};
 ghost use Rattle.net_sim.specs.Outcomes.{event_value, outcome_value};
 ghost use Rattle.net_tables.specs.TwoPlans.{one_plan};
 ghost use Rattle.command_answers.specs.declared.refused.Refused.TheVariants as refused;
-ghost use Rattle.command_answers.specs.Answers.{stream, IsWithoutPlan};
+ghost use Rattle.command_answers.specs.Answers.{stream, IsWithoutPlan, AreWithoutCertificate};
 ghost use Rattle.play_commands.specs.Expecting.{given_only, IsPrinted, AnswersLinesOn, AnswersLinesSo, AreUnreadInExpect};
 ghost use Rattle.play_commands.specs.Simulating.{ShowsWalks};
 ghost use Rattle.command_answers.specs.Told.{Concludes};
@@ -14,10 +14,10 @@ ghost use Rattle.run_texts.specs.OutcomeLines.{outcome_lines};
 use crate::sim::files::read_run;
 use command_answers::{Answer, Refused, Status, fault_text, given_lines, planned_network, tell};
 use net_check::{AcceptedNetwork, Checked, check};
-use net_json::{Sink, Source};
-use net_plan::{Certificate, Event, Plan};
+use net_plan::{Sink, Source};
 use net_sim::Outcome;
 use plan_texts::first_difference;
+use plan_values::{Certificate, Event, Plan};
 use run_texts::outcome_line;
 use std::alloc::{AllocError, Global};
 
@@ -48,6 +48,8 @@ pub fn run_expect<P: Source, C: Source, V: Source, L: Source, O: Sink, E: Sink>(
         (output.new ≡ output.old) (errors.new ≡ errors.old) }
     ensures in_order { IsWithoutPlan (stream P.account plan.old plan.new)
         → (certificate.new ≡ certificate.old) × (events.new ≡ events.old) × (lines.new ≡ lines.old) }
+    ensures certified_in_order { AreWithoutCertificate (stream P.account plan.old plan.new) (stream C.account certificate.old certificate.new)
+        → (events.new ≡ events.old) × (lines.new ≡ lines.old) }
 {
     let answered = answer_expect(alloc, plan, certificate, events, lines);
     tell(alloc, answered, output, errors)
@@ -76,6 +78,8 @@ fn answer_expect<P: Source, C: Source, V: Source, L: Source>(
         IfErr result (λ why. AreUnreadInExpect why plans certificates happenings expectations) }
     ensures in_order { IsWithoutPlan (stream P.account plan.old plan.new)
         → (certificate.new ≡ certificate.old) × (events.new ≡ events.old) × (lines.new ≡ lines.old) }
+    ensures certified_in_order { AreWithoutCertificate (stream P.account plan.old plan.new) (stream C.account certificate.old certificate.new)
+        → (events.new ≡ events.old) × (lines.new ≡ lines.old) }
 {
     let (plan, certificate, events) = read_run(alloc, plan, certificate, events)?;
     let wanted = given_lines(alloc, lines)?;
@@ -125,6 +129,7 @@ fn played_text(alloc: Global, checked: Checked, events: &[Event]) -> Result<Stri
     let mut network = planned_network(alloc, AcceptedNetwork::of_plan(checked))?;
     let played = network.run(events)?;
     if played.stopped {
+        // no memory: the run stopped at a growth that was refused.
         return Err(Refused::NoMemory);
     }
     Ok(outcome_lines(alloc, plan, &played.outcomes)?)

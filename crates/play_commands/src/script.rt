@@ -1,11 +1,11 @@
 //! The command `script`: the events of a walk over a network, made as it runs.
 ghost use Rattle.std.specs.Prelude.{◌≡◌, ◌≢◌, ◌↔◌, IfOk, IfErr, IsTrue, MatchBool, length, map, option_map};
 ghost use Rattle.std.specs.Cow.{cow_str_bytes};
-ghost use Rattle.net_json.specs.Stream.{HasRoom};
+ghost use Rattle.net_plan.specs.Stream.{HasRoom};
 ghost use Rattle.net_sim.specs.Outcomes.{event_value, outcome_value};
 ghost use Rattle.net_tables.specs.Repositories.{records_of};
 ghost use Rattle.net_tables.specs.Routing.{Holds};
-ghost use Rattle.net_json.specs.declared.error.PlanError.TheVariants as error_of;
+ghost use Rattle.net_plan.specs.declared.error.PlanError.TheVariants as error_of;
 ghost use Rattle.command_answers.specs.declared.refused.Refused.TheVariants as refused;
 ghost use Rattle.command_answers.specs.declared.status.Status.TheVariants.{Fault};
 ghost use Rattle.command_answers.specs.Answers.{stream, IsWithoutPlan};
@@ -25,10 +25,10 @@ use command_questions::WalkScript;
 use making::{Made, made_events};
 use mctp_transport::Eid;
 use net_check::{AcceptedNetwork, Checked, check};
-use net_json::{PlanError, Sink, Source, events_of_text};
-use net_plan::{Certificate, Event, Plan};
+use net_plan::{PlanError, Sink, Source, events_of_text};
 use net_sim::{Outcome, Standing};
 use net_tables::lookup::{holds, records_at};
+use plan_values::{Certificate, Event, Plan};
 use run_texts::outcome_line;
 use std::alloc::Global;
 use text::script_text;
@@ -171,6 +171,7 @@ fn reads_back(alloc: Global, eid: Eid, checked: Checked, text: &str) -> Result<b
             if is_refusal(error) {
                 Ok(false)
             } else {
+                // no memory: all other errors are refusals.
                 Err(Refused::NoMemory)
             }
         }
@@ -196,6 +197,7 @@ fn last_outcome(
     let mut network = planned_network(alloc, AcceptedNetwork::of_plan(checked))?;
     let mut played = network.run(events)?;
     if played.stopped {
+        // no memory: the run stopped at a growth that was refused.
         return Err(Refused::NoMemory);
     }
     Ok(played.outcomes.pop())

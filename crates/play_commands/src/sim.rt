@@ -1,6 +1,6 @@
 //! The commands `sim` and `simmove`: what comes of events in the network of a checked plan, or of a checked move.
 ghost use Rattle.std.specs.Prelude.{◌≡◌, ◌⊎◌, ℕ, IfOk, IfErr, length, map};
-ghost use Rattle.net_json.specs.Stream.{HasRoom};
+ghost use Rattle.net_plan.specs.Stream.{HasRoom};
 ghost use Rattle.command_answers.specs.declared.status.Status.TheVariants.{Yes, Fault, Unreadable};
 ghost use Rattle.command_answers.specs.declared.refused.Refused.TheVariants.{Unwritten};
 ghost use Rattle.net_tables.specs.TwoPlans.{one_plan, moving};
@@ -18,10 +18,10 @@ pub mod moves;
 
 use command_answers::{Gathered, Refused, Status, planned_network, refuse};
 use net_check::{AcceptedNetwork, Checked, CheckedMove};
-use net_json::Sink;
-use net_plan::{Event, Plan};
+use net_plan::Sink;
 use net_sim::{Network, Outcome};
 use pdr_repository::Terminus;
+use plan_values::{Event, Plan};
 use run_texts::outcome_line;
 use std::alloc::Global;
 
@@ -190,6 +190,7 @@ fn play_in<T: Terminus, O: Sink>(
     let played = network.run(events)?;
     print_outcomes(alloc, plan, &played.outcomes, output)?;
     if played.stopped {
+        // no memory: the run stopped at a growth that was refused.
         return Err(Refused::NoMemory);
     }
     Ok(())

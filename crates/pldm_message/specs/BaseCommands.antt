@@ -43,8 +43,8 @@ set_tid_bytes m = request_bytes command.SetTid one_byte m
 abbrev pub IsSetTidResponse : ResponseMessage (Unit {0}) → Type 0
 IsSetTidResponse m = IsAnswer IsNothing m
 
-abbrev pub set_tid_response_bytes : ResponseMessage (Unit {0}) → List ℕ
-set_tid_response_bytes m = answer_bytes command.SetTid nothing m
+abbrev pub set_tid_answer_bytes : ResponseMessage (Unit {0}) → List ℕ
+set_tid_answer_bytes m = answer_bytes command.SetTid nothing m
 
 abbrev pub IsGetTid : RequestMessage (Unit {0}) → Type 0
 IsGetTid m = IsRequest IsNothing m
@@ -55,8 +55,8 @@ get_tid_bytes m = request_bytes command.GetTid nothing m
 abbrev pub IsGetTidResponse : ResponseMessage ℕ → Type 0
 IsGetTidResponse m = IsAnswer IsByte m
 
-abbrev pub get_tid_response_bytes : ResponseMessage ℕ → List ℕ
-get_tid_response_bytes m = answer_bytes command.GetTid one_byte m
+abbrev pub get_tid_answer_bytes : ResponseMessage ℕ → List ℕ
+get_tid_answer_bytes m = answer_bytes command.GetTid one_byte m
 
 abbrev pub IsGetPldmTypes : RequestMessage (Unit {0}) → Type 0
 IsGetPldmTypes m = IsRequest IsNothing m
@@ -67,5 +67,5 @@ get_pldm_types_bytes m = request_bytes command.GetPldmTypes nothing m
 abbrev pub IsGetPldmTypesResponse : ResponseMessage (List ℕ) → Type 0
 IsGetPldmTypesResponse m = IsAnswer AreTypes m
 
-abbrev pub get_pldm_types_response_bytes : ResponseMessage (List ℕ) → List ℕ
-get_pldm_types_response_bytes m = answer_bytes command.GetPldmTypes type_bits m
+abbrev pub get_pldm_types_answer_bytes : ResponseMessage (List ℕ) → List ℕ
+get_pldm_types_answer_bytes m = answer_bytes command.GetPldmTypes type_bits m

@@ -9,7 +9,7 @@ use Rattle.mctp_transport.specs.Wire.{Spells}
 use Rattle.pldm_message.specs.MessageLaws.{IsOneValue, one_request, one_answer}
 use Rattle.pldm_message.specs.Pdrs.{PartRequest, IsPartRequest, part_request_bytes, Part, IsPart}
 use Rattle.pldm_message.specs.Pdrs.{part_bytes, IsGetPdrRequest, get_pdr_request_bytes}
-use Rattle.pldm_message.specs.Pdrs.{IsGetPdrResponse, get_pdr_response_bytes, check_length, part_length}
+use Rattle.pldm_message.specs.Pdrs.{IsGetPdrResponse, get_pdr_answer_bytes, check_length, part_length}
 
 -- a number of four bytes is known by them
 four : (a b : ℕ) → a < 2 ^ 32 → b < 2 ^ 32 → little_bytes 4 a ≡ little_bytes 4 b → a ≡ b
@@ -92,5 +92,5 @@ part_is_as_long m bytes h =
     let check = length-listed m.flag m.crc h.0.checked in
     omega (arith, numbers, long, check, length-append m.bytes (option_to_list m.crc))
 
-pub one_get_pdr_response : IsOneValue IsGetPdrResponse get_pdr_response_bytes
-one_get_pdr_response m n hm hn e = one_answer command.GetPdr IsPart part_bytes one_part m n hm hn e
+pub one_get_pdr_answer : IsOneValue IsGetPdrResponse get_pdr_answer_bytes
+one_get_pdr_answer m n hm hn e = one_answer command.GetPdr IsPart part_bytes one_part m n hm hn e

@@ -1,7 +1,7 @@
 -- What the messages for parts of records stand for.
 use Rattle.pldm_message.specs.declared.get_pdr_request.GetPdrRequest.{GetPdrRequest}
 use Rattle.pldm_message.specs.declared.pdr_part.PdrPart.{PdrPart}
-use Rattle.pldm_message.specs.declared.get_pdr_response.GetPdrResponse.{GetPdrResponse}
+use Rattle.pldm_message.specs.declared.get_pdr_answer.GetPdrAnswer.{GetPdrAnswer}
 use Rattle.pldm_message.specs.Messages.{RequestMessage, ResponseMessage}
 use Rattle.pldm_message.specs.Heads.{request_of, answer_of}
 use Rattle.pldm_message.specs.Pdrs.{PartRequest, Part}
@@ -29,5 +29,5 @@ part p =
       crc = p.transfer_crc;
     }
 
-abbrev pub get_pdr_response : GetPdrResponse → ResponseMessage Part
-get_pdr_response a = answer_of part a.head a.outcome
+abbrev pub get_pdr_answer : GetPdrAnswer → ResponseMessage Part
+get_pdr_answer a = answer_of part a.head a.outcome

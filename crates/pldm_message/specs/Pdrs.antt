@@ -82,5 +82,5 @@ get_pdr_request_bytes m = request_bytes command.GetPdr part_request_bytes m
 abbrev pub IsGetPdrResponse : ResponseMessage Part → Type 0
 IsGetPdrResponse m = IsAnswer IsPart m
 
-abbrev pub get_pdr_response_bytes : ResponseMessage Part → List ℕ
-get_pdr_response_bytes m = answer_bytes command.GetPdr part_bytes m
+abbrev pub get_pdr_answer_bytes : ResponseMessage Part → List ℕ
+get_pdr_answer_bytes m = answer_bytes command.GetPdr part_bytes m

@@ -4,9 +4,9 @@ ghost use Rattle.std.specs.Result.{result_err};
 ghost use Rattle.mctp_transport.specs.Wire.{Spells};
 ghost use Rattle.pldm_message.specs.declared.command.Command.TheVariants as command;
 ghost use Rattle.pldm_message.specs.Messages.{RequestMessage, ResponseMessage};
-ghost use Rattle.pldm_message.specs.BaseCommands.{IsGetPldmTypes, get_pldm_types_bytes, IsGetPldmTypesResponse, get_pldm_types_response_bytes};
-ghost use Rattle.pldm_message.specs.BaseCommandLaws.{one_get_pldm_types, one_get_pldm_types_response};
-ghost use Rattle.pldm_message.specs.BaseCommandValues.{get_pldm_types, get_pldm_types_response};
+ghost use Rattle.pldm_message.specs.BaseCommands.{IsGetPldmTypes, get_pldm_types_bytes, IsGetPldmTypesResponse, get_pldm_types_answer_bytes};
+ghost use Rattle.pldm_message.specs.BaseCommandLaws.{one_get_pldm_types, one_get_pldm_types_answer};
+ghost use Rattle.pldm_message.specs.BaseCommandValues.{get_pldm_types, get_pldm_types_answer};
 ghost use Rattle.pldm_message.specs.Faults.{MessageFault, IsRequestOf, IsAnswerOf, answer_length};
 
 use crate::command::Command;
@@ -65,33 +65,33 @@ impl<'a> Wire<'a> for GetPldmTypes {
 /// says whether the terminus has type 8 i + j, 13 bytes; or another completion code alone, 5 bytes (DSP0240,
 /// GetPLDMTypes).
 #[derive(Clone, Copy, Debug, PartialEq, Eq)]
-pub struct GetPldmTypesResponse {
+pub struct GetPldmTypesAnswer {
     /// What the sender chooses of the first four bytes.
     pub head: ResponseHead,
     /// Byte 4 and what follows: eight bytes of types, or another completion code.
     pub outcome: Result<PldmTypes, CompletionCode>,
 }
 
-impl<'a> Wire<'a> for GetPldmTypesResponse {
+impl<'a> Wire<'a> for GetPldmTypesAnswer {
     type Error = PldmError;
 
     ghost Meaning = { ResponseMessage (List ℕ) };
 
-    ghost meaning = { get_pldm_types_response };
+    ghost meaning = { get_pldm_types_answer };
 
     ghost IsLawful = { IsGetPldmTypesResponse };
 
-    ghost spelling = { get_pldm_types_response_bytes };
+    ghost spelling = { get_pldm_types_answer_bytes };
 
     /// The answer that the bytes are, all of them.
     fn read(bytes: &'a [u8]) -> Result<Self, PldmError>
-        ensures ok { IfOk result (λ a. Spells IsGetPldmTypesResponse get_pldm_types_response_bytes (get_pldm_types_response a) bytes.now) }
-        ensures all { (m : ResponseMessage (List ℕ)) → Spells IsGetPldmTypesResponse get_pldm_types_response_bytes m bytes.now → IsOkAnd result (λ a. get_pldm_types_response a ≡ m) }
+        ensures ok { IfOk result (λ a. Spells IsGetPldmTypesResponse get_pldm_types_answer_bytes (get_pldm_types_answer a) bytes.now) }
+        ensures all { (m : ResponseMessage (List ℕ)) → Spells IsGetPldmTypesResponse get_pldm_types_answer_bytes m bytes.now → IsOkAnd result (λ a. get_pldm_types_answer a ≡ m) }
         ensures fault { MessageFault (IsAnswerOf command.GetPldmTypes bytes.now) (answer_length 13 bytes.now) bytes.now (result_err result) }
     {
         let (head, outcome) = ResponseHead::read(bytes, Command::GetPldmTypes)?;
         match outcome {
-            Err(code) => Ok(GetPldmTypesResponse {
+            Err(code) => Ok(GetPldmTypesAnswer {
                 head,
                 outcome: Err(code),
             }),
@@ -99,7 +99,7 @@ impl<'a> Wire<'a> for GetPldmTypesResponse {
                 if data.len() != TYPES_LENGTH {
                     return Err(PldmError::Length);
                 }
-                Ok(GetPldmTypesResponse {
+                Ok(GetPldmTypesAnswer {
                     head,
                     outcome: Ok(PldmTypes::of(data)),
                 })
@@ -129,5 +129,5 @@ impl<'a> Wire<'a> for GetPldmTypesResponse {
         }
     }
 
-    ghost one_value = { one_get_pldm_types_response };
+    ghost one_value = { one_get_pldm_types_answer };
 }

@@ -4,9 +4,9 @@ ghost use Rattle.std.specs.Result.{result_err};
 ghost use Rattle.mctp_transport.specs.Wire.{Spells};
 ghost use Rattle.pldm_message.specs.declared.command.Command.TheVariants as command;
 ghost use Rattle.pldm_message.specs.Messages.{RequestMessage, ResponseMessage};
-ghost use Rattle.pldm_message.specs.BaseCommands.{IsGetTid, get_tid_bytes, IsGetTidResponse, get_tid_response_bytes};
-ghost use Rattle.pldm_message.specs.BaseCommandLaws.{one_get_tid, one_get_tid_response};
-ghost use Rattle.pldm_message.specs.BaseCommandValues.{get_tid, get_tid_response};
+ghost use Rattle.pldm_message.specs.BaseCommands.{IsGetTid, get_tid_bytes, IsGetTidResponse, get_tid_answer_bytes};
+ghost use Rattle.pldm_message.specs.BaseCommandLaws.{one_get_tid, one_get_tid_answer};
+ghost use Rattle.pldm_message.specs.BaseCommandValues.{get_tid, get_tid_answer};
 ghost use Rattle.pldm_message.specs.Faults.{MessageFault, IsRequestOf, IsAnswerOf, answer_length};
 
 use crate::command::Command;
@@ -64,37 +64,37 @@ impl<'a> Wire<'a> for GetTid {
 /// The answer to a request for a terminus ID: the header, the completion code 0 and the ID, 6 bytes; or another
 /// completion code alone, 5 bytes (DSP0240, GetTID).
 #[derive(Clone, Copy, Debug, PartialEq, Eq)]
-pub struct GetTidResponse {
+pub struct GetTidAnswer {
     /// What the sender chooses of the first four bytes.
     pub head: ResponseHead,
     /// Byte 4 and what follows: one byte of a terminus ID, or another completion code.
     pub outcome: Result<Tid, CompletionCode>,
 }
 
-impl<'a> Wire<'a> for GetTidResponse {
+impl<'a> Wire<'a> for GetTidAnswer {
     type Error = PldmError;
 
     ghost Meaning = { ResponseMessage ℕ };
 
-    ghost meaning = { get_tid_response };
+    ghost meaning = { get_tid_answer };
 
     ghost IsLawful = { IsGetTidResponse };
 
-    ghost spelling = { get_tid_response_bytes };
+    ghost spelling = { get_tid_answer_bytes };
 
     /// The answer that the bytes are, all of them.
     fn read(bytes: &'a [u8]) -> Result<Self, PldmError>
-        ensures ok { IfOk result (λ a. Spells IsGetTidResponse get_tid_response_bytes (get_tid_response a) bytes.now) }
-        ensures all { (m : ResponseMessage ℕ) → Spells IsGetTidResponse get_tid_response_bytes m bytes.now → IsOkAnd result (λ a. get_tid_response a ≡ m) }
+        ensures ok { IfOk result (λ a. Spells IsGetTidResponse get_tid_answer_bytes (get_tid_answer a) bytes.now) }
+        ensures all { (m : ResponseMessage ℕ) → Spells IsGetTidResponse get_tid_answer_bytes m bytes.now → IsOkAnd result (λ a. get_tid_answer a ≡ m) }
         ensures fault { MessageFault (IsAnswerOf command.GetTid bytes.now) (answer_length 6 bytes.now) bytes.now (result_err result) }
     {
         let (head, outcome) = ResponseHead::read(bytes, Command::GetTid)?;
         match outcome {
-            Err(code) => Ok(GetTidResponse {
+            Err(code) => Ok(GetTidAnswer {
                 head,
                 outcome: Err(code),
             }),
-            Ok([tid]) => Ok(GetTidResponse {
+            Ok([tid]) => Ok(GetTidAnswer {
                 head,
                 outcome: Ok(Tid::new(*tid)),
             }),
@@ -123,5 +123,5 @@ impl<'a> Wire<'a> for GetTidResponse {
         }
     }
 
-    ghost one_value = { one_get_tid_response };
+    ghost one_value = { one_get_tid_answer };
 }

@@ -4,9 +4,9 @@ ghost use Rattle.std.specs.Result.{result_err};
 ghost use Rattle.mctp_transport.specs.Wire.{Spells};
 ghost use Rattle.pldm_message.specs.declared.command.Command.TheVariants as command;
 ghost use Rattle.pldm_message.specs.Messages.{RequestMessage, ResponseMessage};
-ghost use Rattle.pldm_message.specs.BaseCommands.{IsSetTid, set_tid_bytes, IsSetTidResponse, set_tid_response_bytes};
-ghost use Rattle.pldm_message.specs.BaseCommandLaws.{one_set_tid, one_set_tid_response};
-ghost use Rattle.pldm_message.specs.BaseCommandValues.{set_tid, set_tid_response};
+ghost use Rattle.pldm_message.specs.BaseCommands.{IsSetTid, set_tid_bytes, IsSetTidResponse, set_tid_answer_bytes};
+ghost use Rattle.pldm_message.specs.BaseCommandLaws.{one_set_tid, one_set_tid_answer};
+ghost use Rattle.pldm_message.specs.BaseCommandValues.{set_tid, set_tid_answer};
 ghost use Rattle.pldm_message.specs.Faults.{MessageFault, IsRequestOf, IsAnswerOf, answer_length};
 
 use crate::command::Command;
@@ -67,37 +67,37 @@ impl<'a> Wire<'a> for SetTid {
 
 /// The answer to a request to set a terminus ID: the header and a completion code, 5 bytes (DSP0240, SetTID).
 #[derive(Clone, Copy, Debug, PartialEq, Eq)]
-pub struct SetTidResponse {
+pub struct SetTidAnswer {
     /// What the sender chooses of the first four bytes.
     pub head: ResponseHead,
     /// Byte 4: success, or another completion code.
     pub outcome: Result<(), CompletionCode>,
 }
 
-impl<'a> Wire<'a> for SetTidResponse {
+impl<'a> Wire<'a> for SetTidAnswer {
     type Error = PldmError;
 
     ghost Meaning = { ResponseMessage (Unit {0}) };
 
-    ghost meaning = { set_tid_response };
+    ghost meaning = { set_tid_answer };
 
     ghost IsLawful = { IsSetTidResponse };
 
-    ghost spelling = { set_tid_response_bytes };
+    ghost spelling = { set_tid_answer_bytes };
 
     /// The answer that the bytes are, all of them.
     fn read(bytes: &'a [u8]) -> Result<Self, PldmError>
-        ensures ok { IfOk result (λ a. Spells IsSetTidResponse set_tid_response_bytes (set_tid_response a) bytes.now) }
-        ensures all { (m : ResponseMessage (Unit {0})) → Spells IsSetTidResponse set_tid_response_bytes m bytes.now → IsOkAnd result (λ a. set_tid_response a ≡ m) }
+        ensures ok { IfOk result (λ a. Spells IsSetTidResponse set_tid_answer_bytes (set_tid_answer a) bytes.now) }
+        ensures all { (m : ResponseMessage (Unit {0})) → Spells IsSetTidResponse set_tid_answer_bytes m bytes.now → IsOkAnd result (λ a. set_tid_answer a ≡ m) }
         ensures fault { MessageFault (IsAnswerOf command.SetTid bytes.now) (answer_length 5 bytes.now) bytes.now (result_err result) }
     {
         let (head, outcome) = ResponseHead::read(bytes, Command::SetTid)?;
         match outcome {
-            Err(code) => Ok(SetTidResponse {
+            Err(code) => Ok(SetTidAnswer {
                 head,
                 outcome: Err(code),
             }),
-            Ok([]) => Ok(SetTidResponse {
+            Ok([]) => Ok(SetTidAnswer {
                 head,
                 outcome: Ok(()),
             }),
@@ -117,5 +117,5 @@ impl<'a> Wire<'a> for SetTidResponse {
         OUTCOME_LENGTH
     }
 
-    ghost one_value = { one_set_tid_response };
+    ghost one_value = { one_set_tid_answer };
 }

@@ -53,10 +53,9 @@ guide [COMMAND]              this list, or more on one command
 version                      which version this is, and which formats it reads
 "#;
 
-/// The version, the formats that are read, and the kit.
-pub const VERSION: &str = r#"mctpplan unreleased
+/// The version, and the formats that are read.
+pub const VERSION: &str = r#"mctpplan 0.9.0
 reads plans of formats 1 and 2, certificates of format 1, events of formats 1 to 3
-proved with rattle-kit-13f logic dac8208d650f15bf
 "#;
 
 /// What is said of a command, if it is one.
@@ -805,12 +804,12 @@ Status 0: the text.
 
 const OF_VERSION: &str = r#"mctpplan version
 
-Prints the version, the formats of plans, certificates and events that are read, and the kit by
-which the program is proved.
+Prints the version, the formats of plans, certificates and events that are read, and the kit that
+proved this program. Where no kit is named, as in a program that bin/try built, the program is not
+known to be proved.
 
 Status 0: the lines.
 
-  $ mctpplan version | head -n 2
-  mctpplan unreleased
+  $ mctpplan version | sed -n 2p
   reads plans of formats 1 and 2, certificates of format 1, events of formats 1 to 3
 "#;

@@ -1,11 +1,11 @@
 -- The lines of ways.
 use Rattle.std.specs.Prelude.{◌+◌, ℕ, List, [], ◌∷◌, ◌++◌, length, Option, option_map, slice_get, codes}
 use Rattle.std.specs.Fmt.{decimal}
-use Rattle.mctp_bridge.specs.Decisions.{forward_fault_code}
+use Rattle.mctp_routing.specs.Decisions.{forward_fault_code}
 use Rattle.net_tables.specs.Names.{address_on, node_name}
 use Rattle.net_tables.specs.Routing.{ports_of}
-use Rattle.net_plan.specs.declared.nodes.Port.{Port}
-use Rattle.net_plan.specs.declared.plan.Plan.{Plan}
+use Rattle.plan_values.specs.declared.nodes.Port.{Port}
+use Rattle.plan_values.specs.declared.plan.Plan.{Plan}
 use Rattle.net_questions.specs.declared.step.WayStep.{WayStep}
 use Rattle.net_questions.specs.declared.way.End.{End}
 use Rattle.net_questions.specs.declared.way.End.TheVariants.{Arrives, Stops}

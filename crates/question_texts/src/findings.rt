@@ -3,10 +3,10 @@ ghost use Rattle.std.specs.Prelude.{◌≡◌, IfOk, string_bytes};
 ghost use Rattle.plan_texts.specs.LineParts.{address_text, bus_text};
 ghost use Rattle.question_texts.specs.FindingLines.{bus_of_port, address_of_port, node_finding, bus_finding, pair_finding, item_finding, port_finding, port_on_bus, shared_address_line, address_finding, finding_line, findings_text};
 
-use net_plan::Plan;
 use net_questions::Finding;
 use net_tables::lookup::{node_name, ports_at};
 use plan_texts::{address_text, bus_text};
+use plan_values::Plan;
 use std::alloc::{AllocError, Global};
 
 /// The findings, each in a line of its own.

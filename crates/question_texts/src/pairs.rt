@@ -2,9 +2,9 @@
 ghost use Rattle.std.specs.Prelude.{◌≡◌, count_by, IfOk, string_bytes};
 ghost use Rattle.question_texts.specs.PairLines.{pair_line, is_reached, is_one_way, pairs_line, reach_text};
 
-use net_plan::Plan;
 use net_questions::Pair;
 use net_tables::lookup::node_name;
+use plan_values::Plan;
 use std::alloc::{AllocError, Global};
 
 /// The pairs, each in a line of its own, and a line that counts them.

@@ -4,10 +4,10 @@ ghost use Rattle.net_tables.specs.Names.{address_on};
 ghost use Rattle.plan_texts.specs.LineParts.{address_text, bus_text};
 ghost use Rattle.question_texts.specs.WayLines.{bus_of_step, steps_from, hop_text, step_line, end_line, trace_text};
 
-use net_plan::Plan;
 use net_questions::{End, Way, WayStep};
 use net_tables::lookup::{address_on, node_name, ports_at};
 use plan_texts::{address_text, bus_text};
+use plan_values::Plan;
 use std::alloc::{AllocError, Global};
 
 /// The steps of a packet's way, each in a line of its own and numbered from 1, and a line that says how the way ends.

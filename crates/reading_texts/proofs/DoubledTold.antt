@@ -4,7 +4,7 @@ use Rattle.std.specs.Prelude.{IfOk}
 use Rattle.json.specs.Json.{Json}
 use Rattle.json.specs.Strict.{keys}
 use Rattle.json.specs.Value.{members_view}
-use Rattle.net_json.specs.Trees.{Tree}
+use Rattle.net_plan.specs.Trees.{Tree}
 use Rattle.net_pointers.specs.Doubles.{HasDoubledKey, part_at}
 use Rattle.net_pointers.specs.Offsets.{LeadsToKey}
 use Rattle.net_pointers.specs.declared.doubled.DoubledKey.{DoubledKey}

@@ -4,28 +4,28 @@ use Rattle.std.proofs.lemmas.Option.{none-some, same_Some}
 use Rattle.json.specs.Json.{Json}
 use Rattle.json.specs.Strict.{HasUniqueKeys}
 use Rattle.serde_json.specs.Data.{Data}
-use Rattle.net_json.specs.CertificateReading.{certificate}
-use Rattle.net_json.specs.CertificateText.{IsCertificateOf}
-use Rattle.net_json.specs.EventReading.{events}
-use Rattle.net_json.specs.EventText.{AreEventsOf}
-use Rattle.net_json.specs.Finding.{fault_of}
-use Rattle.net_json.specs.PlanReading.{plan}
-use Rattle.net_json.specs.PlanText.{IsPlanOf}
-use Rattle.net_json.specs.Reading.{IsReadOf, error_of}
-use Rattle.net_json.specs.Refusals.{IsFaultyValue, IsNoneFor, IsRefused}
-use Rattle.net_json.specs.SingleKeys.{single, unless_doubled}
-use Rattle.net_json.specs.Texts.{IsJson, IsTree}
-use Rattle.net_json.specs.Trees.{data_of}
-use Rattle.net_json.specs.declared.error.PlanError.{PlanError}
-use Rattle.net_json.specs.declared.error.PlanError.TheVariants as error
-use Rattle.net_json.specs.declared.error.ValueFault.{ValueFault}
-use Rattle.net_json.specs.declared.error.ValueFault.TheVariants as fault
-use Rattle.net_json.proofs.CertificateLaw.{certificate_tells}
-use Rattle.net_json.proofs.EventLaw.{events_tells}
-use Rattle.net_json.proofs.PlanLaw.{plan_tells}
-use Rattle.net_json.proofs.Refusing.{fault_none, single_read, value_refused}
-use Rattle.net_json.proofs.Telling.{Tells, any, no_value}
-use Rattle.net_plan.specs.PlanValues.{PlanValue, node_names}
+use Rattle.net_plan.specs.CertificateReading.{certificate}
+use Rattle.net_plan.specs.CertificateText.{IsCertificateOf}
+use Rattle.net_plan.specs.EventReading.{events}
+use Rattle.net_plan.specs.EventText.{AreEventsOf}
+use Rattle.net_plan.specs.Finding.{fault_of}
+use Rattle.net_plan.specs.PlanReading.{plan}
+use Rattle.net_plan.specs.PlanText.{IsPlanOf}
+use Rattle.net_plan.specs.Reading.{IsReadOf, error_of}
+use Rattle.net_plan.specs.Refusals.{IsFaultyValue, IsNoneFor, IsRefused}
+use Rattle.net_plan.specs.SingleKeys.{single, unless_doubled}
+use Rattle.net_plan.specs.Texts.{IsJson, IsTree}
+use Rattle.net_plan.specs.Trees.{data_of}
+use Rattle.net_plan.specs.declared.error.PlanError.{PlanError}
+use Rattle.net_plan.specs.declared.error.PlanError.TheVariants as error
+use Rattle.net_plan.specs.declared.error.ValueFault.{ValueFault}
+use Rattle.net_plan.specs.declared.error.ValueFault.TheVariants as fault
+use Rattle.net_plan.proofs.CertificateLaw.{certificate_tells}
+use Rattle.net_plan.proofs.EventLaw.{events_tells}
+use Rattle.net_plan.proofs.PlanLaw.{plan_tells}
+use Rattle.net_plan.proofs.Refusing.{fault_none, single_read, value_refused}
+use Rattle.net_plan.proofs.Telling.{Tells, any, no_value}
+use Rattle.plan_values.specs.PlanValues.{PlanValue, node_names}
 use Rattle.net_pointers.specs.Asks.{Sort, plan_text, certificate_text, events_text, asks_of}
 use Rattle.net_pointers.specs.OrderOfTests.{IsTold, refusal, fault_in}
 use Rattle.net_pointers.specs.TextTroubles.{IsToldOfText, cause_of}

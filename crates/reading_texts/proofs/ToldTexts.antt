@@ -10,15 +10,15 @@ use Rattle.json.specs.Json.{Json}
 use Rattle.json.specs.Value as seen
 use Rattle.serde_json.specs.Data.{Data}
 use Rattle.serde_json.specs.Find.{get, get_item}
-use Rattle.net_json.specs.Finding.{Located, Step}
-use Rattle.net_json.specs.Grammar.{Fields, fields_view, keys_of}
-use Rattle.net_json.specs.Json.{is_among}
-use Rattle.net_json.specs.Trees.{Tree, view, items_view, data_of}
-use Rattle.net_json.proofs.Trees.{get_of}
-use Rattle.net_json.specs.declared.error.ValueFault.{ValueFault}
-use Rattle.net_json.specs.declared.error.ValueFault.TheVariants as fault
-use Rattle.net_json.specs.declared.shape.Field.{Field, out-Field}
-use Rattle.net_json.proofs.FieldKeys.{fields_cons}
+use Rattle.net_plan.specs.Finding.{Located, Step}
+use Rattle.net_plan.specs.Grammar.{Fields, fields_view, keys_of}
+use Rattle.net_plan.specs.Json.{is_among}
+use Rattle.net_plan.specs.Trees.{Tree, view, items_view, data_of}
+use Rattle.net_plan.proofs.Trees.{get_of}
+use Rattle.net_plan.specs.declared.error.ValueFault.{ValueFault}
+use Rattle.net_plan.specs.declared.error.ValueFault.TheVariants as fault
+use Rattle.net_plan.specs.declared.shape.Field.{Field, out-Field}
+use Rattle.net_plan.proofs.FieldKeys.{fields_cons}
 use Rattle.net_pointers.specs.Pointers.{value_at}
 use Rattle.reading_texts.specs.ReadingLines.{key_words, keys_words}
 use Rattle.reading_texts.specs.TroubleLines.{IsStandingTold, IsWrongTold, IsLineOf, IsValueTold, IsOffsetOf, two_lines, tree_at, entry_pointer, doubled_name, name_line, again_line, IsDoubledNameTold, path_text}

@@ -4,15 +4,15 @@ use Rattle.std.specs.Prelude.{if◌then◌else◌, Option, Some, None}
 use Rattle.std.specs.Fmt.{decimal}
 use Rattle.std.specs.List.{flat_map, slice_get}
 use Rattle.std.specs.Str.{bytes_eq}
-use Rattle.net_json.specs.Finding.{Step, key, index}
-use Rattle.net_json.specs.Grammar.{Grammar, plain, one_of, a_list, an_optional, an_object, a_choice}
-use Rattle.net_json.specs.Grammar.{Fields, no_fields, field}
-use Rattle.net_json.specs.declared.error.PlanError.{PlanError}
-use Rattle.net_json.specs.declared.error.PlanError.TheVariants as error
-use Rattle.net_json.specs.declared.shape.Rule.{Rule}
-use Rattle.net_json.specs.declared.shape.Rule.TheVariants as rule
-use Rattle.net_json.specs.declared.shape.Word.{Word}
-use Rattle.net_json.specs.declared.shape.Word.TheVariants as word
+use Rattle.net_plan.specs.Finding.{Step, key, index}
+use Rattle.net_plan.specs.Grammar.{Grammar, plain, one_of, a_list, an_optional, an_object, a_choice}
+use Rattle.net_plan.specs.Grammar.{Fields, no_fields, field}
+use Rattle.net_plan.specs.declared.error.PlanError.{PlanError}
+use Rattle.net_plan.specs.declared.error.PlanError.TheVariants as error
+use Rattle.net_plan.specs.declared.shape.Rule.{Rule}
+use Rattle.net_plan.specs.declared.shape.Rule.TheVariants as rule
+use Rattle.net_plan.specs.declared.shape.Word.{Word}
+use Rattle.net_plan.specs.declared.shape.Word.TheVariants as word
 use Rattle.net_pointers.specs.Positions.{is_line_feed, begins_character, last_line}
 
 -- ---- why

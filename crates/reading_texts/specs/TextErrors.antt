@@ -2,9 +2,9 @@
 use Rattle.std.specs.Prelude.{◌≡◌, ◌≢◌, ⊤, ℕ, List, length, Some, Result, Ok, Err, string_bytes}
 use Rattle.json.specs.Json.{Json}
 use Rattle.serde_json.specs.Data.{Data}
-use Rattle.net_json.specs.Refusals.{IsRefused}
-use Rattle.net_json.specs.declared.error.PlanError.TheVariants as error
-use Rattle.net_json.specs.declared.error.ValueFault.{ValueFault}
+use Rattle.net_plan.specs.Refusals.{IsRefused}
+use Rattle.net_plan.specs.declared.error.PlanError.TheVariants as error
+use Rattle.net_plan.specs.declared.error.ValueFault.{ValueFault}
 use Rattle.net_pointers.specs.Asks.{Sort, plan_text}
 use Rattle.net_pointers.specs.OrderOfTests.{IsTold}
 use Rattle.net_pointers.specs.TextTroubles.{IsToldOfNoValue, IsToldOfText, cause_of}

@@ -13,16 +13,16 @@ use Rattle.json.specs.Strict.{keys}
 use Rattle.serde_json.specs.Data.{Data}
 use Rattle.serde_json.specs.Data as tree
 use Rattle.serde_json.specs.Find.{get}
-use Rattle.net_json.specs.Finding.{Located, key, index, Step, names_of, located}
-use Rattle.net_json.specs.Grammar.{Grammar, plain, Fields, fields_of, keys_of, Known}
-use Rattle.net_json.specs.Json.{is_among, items_count}
-use Rattle.net_json.specs.Names.{names_differ, text_found}
-use Rattle.net_json.specs.Trees.{data_of}
-use Rattle.net_json.specs.declared.error.ValueFault.{ValueFault}
-use Rattle.net_json.specs.declared.error.ValueFault.TheVariants as fault
-use Rattle.net_json.specs.declared.shape.Named.{Named}
-use Rattle.net_json.specs.declared.shape.Named.TheVariants.{Buses, Nodes}
-use Rattle.net_json.specs.declared.shape.Word.TheVariants as word
+use Rattle.net_plan.specs.Finding.{Located, key, index, Step, names_of, located}
+use Rattle.net_plan.specs.Grammar.{Grammar, plain, Fields, fields_of, keys_of, Known}
+use Rattle.net_plan.specs.Json.{is_among, items_count}
+use Rattle.net_plan.specs.Names.{names_differ, text_found}
+use Rattle.net_plan.specs.Trees.{data_of}
+use Rattle.net_plan.specs.declared.error.ValueFault.{ValueFault}
+use Rattle.net_plan.specs.declared.error.ValueFault.TheVariants as fault
+use Rattle.net_plan.specs.declared.shape.Named.{Named}
+use Rattle.net_plan.specs.declared.shape.Named.TheVariants.{Buses, Nodes}
+use Rattle.net_plan.specs.declared.shape.Word.TheVariants as word
 use Rattle.net_pointers.specs.Ascending.{first_in, end_in}
 use Rattle.net_pointers.specs.Asks.{Sort, plan_text, certificate_text, events_text, asks_of, list_key, name_key}
 use Rattle.net_pointers.specs.Doubles.{part_at, part_after, IsFirstDoubled}

@@ -4,19 +4,19 @@
 ghost use Rattle.std.specs.Prelude.{◌≡◌, ◌<◌, ◌≤◌, None, Some, IfOk, IfErr, IsTrue, MatchOption, OnOk, length, map, string_bytes, vec_len};
 ghost use Rattle.std.specs.List.{list_all};
 ghost use Rattle.json.specs.Value.{value_view};
-ghost use Rattle.net_json.specs.CertificateReading.{certificate};
-ghost use Rattle.net_json.specs.CertificateText.{IsCertificateOf};
-ghost use Rattle.net_json.specs.EventReading.{events};
-ghost use Rattle.net_json.specs.EventText.{AreEventsOf};
-ghost use Rattle.net_json.specs.Finding.{step_value};
-ghost use Rattle.net_json.specs.PlanReading.{plan};
-ghost use Rattle.net_json.specs.PlanText.{IsPlanOf};
-ghost use Rattle.net_json.specs.Refusals.{IsNoValue};
-ghost use Rattle.net_json.specs.Texts.{IsJson, IsTree, IsJsonTextOf};
-ghost use Rattle.net_json.specs.Trees.{view};
-ghost use Rattle.net_plan.specs.CertificateValues.{are_known, certificate_value};
-ghost use Rattle.net_plan.specs.EventValues.{event_entry, is_known_event};
-ghost use Rattle.net_plan.specs.PlanValues.{node_names, plan_value};
+ghost use Rattle.net_plan.specs.CertificateReading.{certificate};
+ghost use Rattle.net_plan.specs.CertificateText.{IsCertificateOf};
+ghost use Rattle.net_plan.specs.EventReading.{events};
+ghost use Rattle.net_plan.specs.EventText.{AreEventsOf};
+ghost use Rattle.net_plan.specs.Finding.{step_value};
+ghost use Rattle.net_plan.specs.PlanReading.{plan};
+ghost use Rattle.net_plan.specs.PlanText.{IsPlanOf};
+ghost use Rattle.net_plan.specs.Refusals.{IsNoValue};
+ghost use Rattle.net_plan.specs.Texts.{IsJson, IsTree, IsJsonTextOf};
+ghost use Rattle.net_plan.specs.Trees.{view};
+ghost use Rattle.plan_values.specs.CertificateValues.{are_known, certificate_value};
+ghost use Rattle.plan_values.specs.EventValues.{event_entry, is_known_event};
+ghost use Rattle.plan_values.specs.PlanValues.{node_names, plan_value};
 ghost use Rattle.net_pointers.specs.Asks.{asks, asks_of, certificate_text, events_text, plan_text, sort_of};
 ghost use Rattle.net_pointers.specs.Offsets.{IsTextOf};
 ghost use Rattle.net_pointers.specs.OrderOfTests.{IsTold};
@@ -39,12 +39,12 @@ mod values;
 
 use json::{Scratch, Value};
 use names::unknown_name_lines;
-use net_json::{
+use net_plan::{
     PlanError, PointerStep, certificate_at_once, certificate_of_value, events_at_once,
     events_of_value, json_of, plan_at_once, plan_of_value,
 };
-use net_plan::{Certificate, Event, Plan};
 use net_pointers::{Asked, TextSort, TextTrouble, Trouble, asked_of, no_value, trouble_of};
+use plan_values::{Certificate, Event, Plan};
 pub use positions::pointer_text;
 use shapes::also_words;
 use std::alloc::{AllocError, Global};
@@ -146,6 +146,7 @@ fn no_memory(_error: PlanError) -> TextError
     requires { _error ≡ PlanError.OutOfMemory }
     ensures { result ≡ TextError.OutOfMemory }
 {
+    // no memory: the error is that, by `requires`.
     TextError::OutOfMemory
 }
 
@@ -168,6 +169,7 @@ fn sound_value<'t>(
     match value_fault(alloc, sort, text, &value) {
         Ok(None) => Ok(value),
         Ok(Some(fault)) => Err(TextError::Faulty(fault)),
+        // no memory: `value_fault` has no other error.
         Err(_) => Err(TextError::OutOfMemory),
     }
 }
@@ -179,6 +181,7 @@ fn no_value_error(alloc: Global, text: &[u8], error: PlanError) -> TextError
 {
     match no_value_fault(alloc, text, error) {
         Ok(fault) => TextError::Faulty(fault),
+        // no memory: `no_value_fault` has no other error.
         Err(_) => TextError::OutOfMemory,
     }
 }

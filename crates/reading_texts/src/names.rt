@@ -1,8 +1,8 @@
 //! A name that is that of nothing: where it stands, and the nearest name that exists.
 ghost use Rattle.std.specs.Prelude.{◌≡◌, ◌≤◌, [], true, is_some, length, map, get_or, IfOk, string_bytes};
-ghost use Rattle.net_json.specs.Finding.{located, names_of, step_value};
-ghost use Rattle.net_json.specs.Grammar.{grammar, known_view};
-ghost use Rattle.net_json.specs.Trees.{view};
+ghost use Rattle.net_plan.specs.Finding.{located, names_of, step_value};
+ghost use Rattle.net_plan.specs.Grammar.{grammar, known_view};
+ghost use Rattle.net_plan.specs.Trees.{view};
 ghost use Rattle.json.specs.Value.{value_view};
 ghost use Rattle.net_pointers.specs.Offsets.{IsTextOf};
 ghost use Rattle.net_pointers.specs.Pointers.{value_at};
@@ -12,7 +12,7 @@ use crate::joined::joined;
 use crate::positions::{pointer_text, position_text};
 use crate::values::{offset_there, text_of, value_at};
 use json::Value;
-use net_json::{Found, KnownNames, Named, PointerStep, Shape, Word, names_of};
+use net_plan::{Found, KnownNames, Named, PointerStep, Shape, Word, names_of};
 use net_pointers::{TwoIndices, first_doubled, nearest_name};
 use std::alloc::{AllocError, Global};
 

@@ -1,10 +1,10 @@
 //! Lines and columns, and JSON pointers.
 ghost use Rattle.std.specs.Prelude.{◌≡◌, ◌≤◌, length, map, IfOk, IfSome, string_bytes};
 ghost use Rattle.std.specs.List.{flat_map};
-ghost use Rattle.net_json.specs.Finding.{step_value};
+ghost use Rattle.net_plan.specs.Finding.{step_value};
 ghost use Rattle.reading_texts.specs.ReadingLines.{position_text, step_text, pointer_text};
 
-use net_json::PointerStep;
+use net_plan::PointerStep;
 use net_pointers::position_of;
 use std::alloc::{AllocError, Global};
 

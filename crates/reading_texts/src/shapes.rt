@@ -1,13 +1,13 @@
 //! What may stand where a value stands.
 ghost use Rattle.std.specs.Prelude.{◌≡◌, Some, map, IfOk, string_bytes};
 ghost use Rattle.std.specs.List.{flat_map};
-ghost use Rattle.net_json.specs.Finding.{step_value};
-ghost use Rattle.net_json.specs.Grammar.{grammar, fields_view};
-ghost use Rattle.net_json.specs.declared.shape.Field.{out-Field};
+ghost use Rattle.net_plan.specs.Finding.{step_value};
+ghost use Rattle.net_plan.specs.Grammar.{grammar, fields_view};
+ghost use Rattle.net_plan.specs.declared.shape.Field.{out-Field};
 ghost use Rattle.reading_texts.specs.TroubleLines.{also_at, also_words};
 ghost use Rattle.reading_texts.specs.ReadingLines.{key_words, key_noun, step_noun, number_noun, number_words, word_words, among_words, choice_words, list_words, rule_words, object_words, shape_words};
 
-use net_json::{Field, PointerStep, Rule, Shape, Word};
+use net_plan::{Field, PointerStep, Rule, Shape, Word};
 use std::alloc::{AllocError, Global};
 
 /// How a name is spelled.

@@ -2,8 +2,8 @@
 ghost use Rattle.std.specs.Prelude.{◌≡◌, ◌≤◌, ◌<◌, length, map, get_or, [], IfOk, IfSome, Some, option_map, string_bytes};
 ghost use Rattle.json.specs.Strict.{keys};
 ghost use Rattle.json.specs.Value.{value_view, members_view};
-ghost use Rattle.net_json.specs.Finding.{step_value};
-ghost use Rattle.net_json.specs.Trees.{view};
+ghost use Rattle.net_plan.specs.Finding.{step_value};
+ghost use Rattle.net_plan.specs.Trees.{view};
 ghost use Rattle.net_pointers.specs.Ascending.{DoOverlap};
 ghost use Rattle.net_pointers.specs.Asks.{list_key, name_key};
 ghost use Rattle.net_pointers.specs.Doubles.{HasDoubledKey, part_at};
@@ -13,7 +13,7 @@ ghost use Rattle.reading_texts.specs.TroubleLines.{two_lines, entry_pointer, IsD
 use crate::positions::{pointer_text, position_text};
 use crate::values::{offset_there, text_of, value_at};
 use json::Value;
-use net_json::PointerStep;
+use net_plan::PointerStep;
 use net_pointers::{
     DoubledKey, NameList, Overlap, TwoIndices, end_of_range, first_in_range, list_key, name_key,
     offset_of_key, offset_of_pointer, part_after,
@@ -268,7 +268,7 @@ fn both_ranges(
     ensures { IfOk result (λ lines. AreRangesTold text.now overlap (string_bytes lines)) }
 {
     let Some(next) = overlap.range.checked_add(1) else {
-        // (no list is so long)
+        // no memory: no list is so long.
         return Err(AllocError);
     };
     let one = range_pointer(overlap.entry, overlap.range);
@@ -285,7 +285,7 @@ fn overlap_of(alloc: Global, value: &Value<'_>, overlap: Overlap) -> Result<Stri
     ensures { IfOk result (λ line. string_bytes line ≡ overlap_of (view value.now) overlap) }
 {
     let Some(next) = overlap.range.checked_add(1) else {
-        // (no list is so long)
+        // no memory: no list is so long.
         return Err(AllocError);
     };
     let one = range_pointer(overlap.entry, overlap.range);

@@ -1,8 +1,8 @@
 -- Sections and pages, by their parts.
 use Rattle.std.proofs.Common.{◌≡◌, ◌∙◌, ◌++◌, ℕ, List, Option, Some, Result, Ok, Err, ap, codes, length}
 use Rattle.std.specs.Prelude.{IfOk}
-use Rattle.net_plan.specs.declared.certificate.Certificate.{Certificate}
-use Rattle.net_plan.specs.declared.plan.Plan.{Plan}
+use Rattle.plan_values.specs.declared.certificate.Certificate.{Certificate}
+use Rattle.plan_values.specs.declared.plan.Plan.{Plan}
 use Rattle.net_reached.specs.Wishes.{ReachesFirst}
 use Rattle.plan_pages.specs.Lists.{AreJoined, AreNamesOf}
 use Rattle.plan_pages.specs.Markup.{section_text}

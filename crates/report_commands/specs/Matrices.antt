@@ -1,7 +1,7 @@
 -- The table of a page that tells who reaches whom.
 use Rattle.std.specs.Prelude.{◌≡◌, ◌≢◌, ◌⊎◌, ℕ, zero, suc, ◌+◌, List, [], ◌∷◌, ◌++◌, codes, length}
 use Rattle.std.specs.Fmt.{decimal}
-use Rattle.net_plan.specs.declared.plan.Plan.{Plan}
+use Rattle.plan_values.specs.declared.plan.Plan.{Plan}
 use Rattle.net_reached.specs.Wishes.{ComesTo, ReachesFirst, ReachesNode}
 use Rattle.plan_pages.specs.Escaping.{escaped}
 use Rattle.plan_pages.specs.Lists.{AreJoined, AreNamesOf}

@@ -1,7 +1,7 @@
 -- What `report` prints of a plan, alone or with its certificate, and how its run ends.
 use Rattle.std.specs.Prelude.{ℕ, List, None, Some, codes}
-use Rattle.net_plan.specs.declared.certificate.Certificate.{Certificate}
-use Rattle.net_plan.specs.declared.plan.Plan.{Plan}
+use Rattle.plan_values.specs.declared.certificate.Certificate.{Certificate}
+use Rattle.plan_values.specs.declared.plan.Plan.{Plan}
 use Rattle.net_rules.specs.declared.certify_error.CertifyError.{CertifyError}
 use Rattle.net_rules.specs.Certificates.{IsExact}
 use Rattle.net_rules.specs.Rules.{Accepts}

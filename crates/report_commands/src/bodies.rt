@@ -8,8 +8,8 @@ use crate::matrix::reached_section;
 use crate::promises::{LINKS, LINKS_OF_REFUSED, NOT_ACCEPTED, PROMISES};
 use crate::sections::{plan_sections, summary};
 use net_check::Checked;
-use net_plan::{Certificate, Plan};
 use plan_pages::page_of;
+use plan_values::{Certificate, Plan};
 use std::alloc::{AllocError, Global};
 
 /// The page of a checked plan.

@@ -2,9 +2,9 @@
 ghost use Rattle.std.specs.Prelude.{◌≡◌, IfOk, string_bytes};
 ghost use Rattle.report_commands.specs.Pages.{IsFindingsSection, lint_text};
 
-use net_plan::Plan;
 use net_questions::{Finding, lint};
 use plan_pages::{block, section};
+use plan_values::Plan;
 use question_texts::lint_lines;
 use std::alloc::{AllocError, Global};
 

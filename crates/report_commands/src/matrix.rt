@@ -7,9 +7,9 @@ ghost use Rattle.report_commands.specs.Matrices.{IsCell, IsMatrixRow, IsReachedS
 
 use crate::reached::{count_reached, names_of_short};
 use net_check::Checked;
-use net_plan::Plan;
 use net_reached::hops_between;
 use plan_pages::{escaped, node_name, section};
+use plan_values::Plan;
 use std::alloc::{AllocError, Global};
 
 /// The section on who reaches whom.

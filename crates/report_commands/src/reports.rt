@@ -5,8 +5,9 @@ ghost use Rattle.command_answers.specs.Answers.{stream, AreUnread, IsPlanUnread,
 ghost use Rattle.command_answers.specs.Told.{Concludes};
 ghost use Rattle.command_answers.specs.declared.refused.Refused.TheVariants as refused;
 ghost use Rattle.net_check.specs.Errors.{NamesFirstFault};
-ghost use Rattle.net_json.specs.Stream.{HasRoom};
+ghost use Rattle.net_plan.specs.Stream.{HasRoom};
 ghost use Rattle.net_rules.specs.Certificates.{IsExact, NamesObstacle, RulesOutCertificates};
+ghost use Rattle.net_rules.specs.Rules.{Accepts};
 ghost use Rattle.report_commands.specs.Reporting.{Reports, ReportsSo, ReportsWith, ReportsWithSo};
 
 use crate::bodies::{accepted_page, refused_page};
@@ -14,9 +15,9 @@ use command_answers::{
     Answer, Refused, Status, accepted, fault_text, given_plan, read_inputs, refuse, tell, tell_made,
 };
 use net_check::{CertifyError, CheckError, Checked, certify, check};
-use net_json::{Sink, Source};
-use net_plan::{Certificate, Plan};
+use net_plan::{Sink, Source};
 use plan_texts::obstacle_line;
+use plan_values::{Certificate, Plan};
 use std::alloc::{AllocError, Global};
 
 /// Writes the page of a plan on `output`: HTML with the title `name`. It begins with the verdict of `certify`, that a
@@ -63,7 +64,8 @@ fn report_of_fit(
     plan: &Plan,
     certificate: &Certificate,
 ) -> Result<Answer, AllocError>
-    requires { IsExact plan.now certificate.now }
+    requires accepted { Accepts plan.now certificate.now }
+    requires exact { IsExact plan.now certificate.now }
     ensures { IfOk result (λ answer. Reports name.now plan.now answer.status (cow_str_bytes answer.text)) }
 {
     let checked = accepted(alloc, plan, certificate)?;
@@ -102,7 +104,7 @@ fn report_of_obstacle(
 fn nodes_of(alloc: Global, obstacle: &CertifyError) -> Result<Vec<usize>, AllocError> {
     match obstacle {
         CertifyError::Fault(fault) => Ok(vec![in alloc; fault.node]?),
-        CertifyError::BadChain(node, _) => Ok(vec![in alloc; *node]?),
+        CertifyError::BadChain(node, ..) => Ok(vec![in alloc; *node]?),
         CertifyError::OwnerLoop(nodes) | CertifyError::Loop(_, nodes) => nodes.clone(),
         CertifyError::OutOfMemory => Ok(Vec::new(alloc)),
     }

@@ -3,10 +3,10 @@ ghost use Rattle.std.specs.Prelude.{◌≡◌, ◌++◌, IfOk, codes, option_map
 ghost use Rattle.plan_pages.specs.Markup.{section_text};
 ghost use Rattle.report_commands.specs.Pages.{ArePlanSections, plan_summary};
 
-use net_plan::{Certificate, Plan};
 use plan_pages::{
     bus_table, node_table, picture_of, pool_table, row_table, section, terminus_list,
 };
+use plan_values::{Certificate, Plan};
 use std::alloc::{AllocError, Global};
 
 /// How many things a plan has, and links.

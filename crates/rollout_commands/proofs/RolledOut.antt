@@ -1,6 +1,6 @@
 -- What the end of `rollout` tells.
 use Rattle.std.proofs.Common.{◌≡◌, ℕ, List}
-use Rattle.net_plan.specs.declared.plan.Plan.{Plan}
+use Rattle.plan_values.specs.declared.plan.Plan.{Plan}
 use Rattle.net_rollout.specs.declared.change.Rollout.{Rollout}
 use Rattle.net_rollout.specs.declared.change.Rollout.TheVariants as way
 use Rattle.command_answers.specs.declared.status.Status.TheVariants as status

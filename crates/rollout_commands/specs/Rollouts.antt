@@ -1,6 +1,6 @@
 -- What `rollout` prints of two plans.
 use Rattle.std.specs.Prelude.{◌≡◌, ℕ, List, Some}
-use Rattle.net_plan.specs.declared.plan.Plan.{Plan}
+use Rattle.plan_values.specs.declared.plan.Plan.{Plan}
 use Rattle.net_rollout.specs.declared.change.Rollout.{Rollout}
 use Rattle.net_rollout.specs.declared.change.Rollout.TheVariants as way
 use Rattle.net_rollout.specs.Steps.{IsRollout}

@@ -1,6 +1,6 @@
 -- What `rollout --write` prints of two plans, and the files that it writes.
 use Rattle.std.specs.Prelude.{◌≡◌, ◌⊎◌, ℕ, List, ◌++◌, codes, map, string_bytes}
-use Rattle.net_plan.specs.declared.plan.Plan.{Plan}
+use Rattle.plan_values.specs.declared.plan.Plan.{Plan}
 use Rattle.net_rollout.specs.declared.change.Rollout.{Rollout}
 use Rattle.step_files.specs.StepFiles.{AreFilesOf, FileValue, file_value}
 use Rattle.step_files.specs.Writes.{Writes, WritesAll, WritesFirst}

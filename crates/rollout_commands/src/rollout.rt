@@ -1,17 +1,17 @@
 //! The command `rollout`: how nodes get from the rows of one plan to those of another.
 ghost use Rattle.std.specs.Prelude.{◌≡◌, IfOk, IfErr};
 ghost use Rattle.std.specs.Cow.{cow_str_bytes};
-ghost use Rattle.net_json.specs.Stream.{HasRoom};
+ghost use Rattle.net_plan.specs.Stream.{HasRoom};
 ghost use Rattle.command_answers.specs.Answers.{stream, IsWithoutPlan};
 ghost use Rattle.command_answers.specs.Moves.{ArePlansUnread};
 ghost use Rattle.rollout_commands.specs.Rollouts.{RollsOut, RollsOutSo};
 ghost use Rattle.command_answers.specs.Told.{Concludes};
 
 use command_answers::{Answer, Status, read_plans, refuse, tell_made};
-use net_json::{Sink, Source};
-use net_plan::Plan;
+use net_plan::{Sink, Source};
 use net_rollout::{Rollout, rollout};
 use plan_texts::rollout_lines;
+use plan_values::Plan;
 use std::alloc::{AllocError, Global};
 
 /// Answers on `output` with the steps from the rows of one plan to those of another, or with the line of what stands in

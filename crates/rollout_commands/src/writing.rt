@@ -1,7 +1,7 @@
 //! The command `rollout --write`: the steps from the rows of one plan to those of another, with their files.
 ghost use Rattle.std.specs.Prelude.{◌≡◌, ◌⊎◌, IfOk, IfErr, OnErr, OnOk, map, string_bytes};
 ghost use Rattle.std.specs.Cow.{cow_str_bytes};
-ghost use Rattle.net_json.specs.Stream.{HasRoom};
+ghost use Rattle.net_plan.specs.Stream.{HasRoom};
 ghost use Rattle.net_rollout.specs.Steps.{IsRollout};
 ghost use Rattle.step_files.specs.StepFiles.{file_value};
 ghost use Rattle.command_answers.specs.declared.status.Status.TheVariants.{Yes, Fault, NoMemory};
@@ -13,10 +13,10 @@ ghost use Rattle.step_files.specs.Writes.{MayFail, WritesAll, WritesFirst, write
 ghost use Rattle.rollout_commands.specs.Writing.{IsMade, IsNoFilesReason, IsUnanswered, IsWithoutFiles, RollsOutWith, RollsOutWithSo};
 
 use command_answers::{Answer, Refused, Status, read_plans, tell};
-use net_json::{Sink, Source};
-use net_plan::Plan;
+use net_plan::{Sink, Source};
 use net_rollout::{Rollout, rollout};
 use plan_texts::rollout_lines;
+use plan_values::Plan;
 use std::alloc::{AllocError, Global};
 use step_files::{TextFile, TextFiles, Unmade, step_files, write_files};
 

@@ -5,12 +5,12 @@ use Rattle.std.specs.Fmt.{decimal}
 use Rattle.hex.specs.Hex.{encode_lower}
 use Rattle.mctp_transport.specs.Causes.{cause_code}
 use Rattle.mctp_transport.specs.Hearing.{Answer, Whole, Held, Dropped}
-use Rattle.mctp_bridge.specs.Decisions.{forward_fault_code}
-use Rattle.pdr_repository.specs.declared.walk_fault.WalkProgress.{WalkProgress}
-use Rattle.pdr_repository.specs.declared.walk_fault.WalkProgress.TheVariants.{More, Record, Done}
+use Rattle.mctp_routing.specs.Decisions.{forward_fault_code}
+use Rattle.pdr_repository.specs.declared.walk_fault.Step.{Step as WalkStep}
+use Rattle.pdr_repository.specs.declared.walk_fault.Step.TheVariants.{More, Record, Done}
 use Rattle.pdr_repository.specs.declared.walk_fault.WalkFault.{WalkFault}
 use Rattle.pdr_repository.specs.Faults.{code_of}
-use Rattle.net_plan.specs.declared.plan.Plan.{Plan}
+use Rattle.plan_values.specs.declared.plan.Plan.{Plan}
 use Rattle.net_runs.specs.Events.{OutcomeValue, PutIn, Moved, Entered, Stopped, Lost, Expired, Answered}
 use Rattle.net_runs.specs.Events.{Silent, Switched, Refused, Refusal, N01, N02, N03, N04, N05, N06, N07}
 use Rattle.net_runs.specs.Walkers.{WalkedOutcome, Happened, Begun, Asked, ToldWalk, WalkRefused, WalkRefusal}
@@ -74,7 +74,7 @@ abbrev pub walk_fault_text : WalkFault → List ℕ
 walk_fault_text fault = unwrap_or (code_of fault) (codes "-")
 
 -- what an answer led to, or the fault for which it was not taken
-abbrev pub step_text : Result WalkProgress WalkFault → List ℕ
+abbrev pub step_text : Result WalkStep WalkFault → List ℕ
 step_text (Ok More) = codes "more"
 step_text (Ok Record) = codes "record"
 step_text (Ok Done) = codes "done"

@@ -7,9 +7,9 @@ ghost use Rattle.run_texts.specs.AssignmentLines.{assignment_lines, assignment_t
 
 use mctp_control::Request;
 use mctp_transport::Wire;
-use net_plan::Plan;
 use net_sim::Assignment;
 use net_tables::lookup::{bus_name, node_name};
+use plan_values::Plan;
 use std::alloc::{AllocError, Global};
 
 /// The requests of an assignment, each in a line of its own.

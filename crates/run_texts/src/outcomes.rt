@@ -4,10 +4,10 @@ ghost use Rattle.net_sim.specs.Effects.{effect_value};
 ghost use Rattle.net_sim.specs.Outcomes.{outcome_value, handed_value, standing_value};
 ghost use Rattle.run_texts.specs.OutcomeLines.{whole_text, effect_text, walk_fault_text, step_text, handed_text, standing_text, outcome_text, outcome_line};
 
-use net_plan::Plan;
 use net_sim::{Effect, Handed, Outcome, Standing};
 use net_tables::lookup::node_name;
-use pdr_repository::{WalkFault, WalkProgress};
+use pdr_repository::{Step, WalkFault};
+use plan_values::Plan;
 use std::alloc::{AllocError, Global};
 
 /// How many bytes most lines have at most. Room for so many is made at once.
@@ -72,13 +72,13 @@ fn push_handed(line: &mut String, handed: &Handed) -> Result<(), AllocError>
 }
 
 /// What an answer led to, or the code of the fault for which it was not taken.
-fn step_word(made: Result<WalkProgress, WalkFault>) -> &'static str
+fn step_word(made: Result<Step, WalkFault>) -> &'static str
     ensures { result.now ≡ step_text made }
 {
     match made {
-        Ok(WalkProgress::More) => "more",
-        Ok(WalkProgress::Record) => "record",
-        Ok(WalkProgress::Done) => "done",
+        Ok(Step::More) => "more",
+        Ok(Step::Record) => "record",
+        Ok(Step::Done) => "done",
         Err(fault) => fault_word(fault),
     }
 }

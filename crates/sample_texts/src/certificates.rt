@@ -1,5 +1,5 @@
 //! What certificates have.
-use net_plan::{Certificate, NodePlaces, NodeRanks};
+use plan_values::{Certificate, NodePlaces, NodeRanks};
 
 /// Whether a certificate has these levels, each of a node.
 fn has_levels(certificate: &Certificate, wanted: &[(usize, u8)]) -> bool {

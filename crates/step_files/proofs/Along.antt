@@ -4,7 +4,7 @@ use Rattle.std.specs.Prelude.{IfOk, slice_get}
 use Rattle.std.proofs.Math.Seq.{take-suc}
 use Rattle.std.proofs.lemmas.List.{append-nil, append_assoc, length-take}
 use Rattle.std.proofs.lemmas.Option.{slice_get_within, get_or_from_slice_get, same_Some}
-use Rattle.net_plan.specs.declared.plan.Plan.{Plan}
+use Rattle.plan_values.specs.declared.plan.Plan.{Plan}
 use Rattle.net_rollout.specs.declared.change.Step.{Step}
 use Rattle.net_rollout.specs.Steps.{AreSteps, IsCertified, last_plan}
 use Rattle.step_files.specs.StepFiles.{AreFilesAlong, AreFilesAt, AreFilesOfStep, FileValue}

@@ -4,8 +4,8 @@ ghost use Rattle.net_rollout.specs.Steps.{AreSteps, IsRollout, last_plan};
 ghost use Rattle.step_files.specs.StepFiles.{AreFilesAlong, AreFilesAt, AreFilesOf, file_value};
 
 use crate::texts::{TextFile, Unmade, files_of_step};
-use net_plan::Plan;
 use net_rollout::{Rollout, Step};
+use plan_values::Plan;
 use std::alloc::Global;
 
 /// The files that a roll-out has in a folder: those of each step by which the nodes get from the rows of one plan to

@@ -1,11 +1,11 @@
 //! Where files are written.
 ghost use Rattle.std.specs.Prelude.{◌≡◌, ◌+◌, ◌∷◌, [], OnErr, OnOk, map};
-ghost use Rattle.net_json.specs.Stream.{failure_count};
+ghost use Rattle.net_plan.specs.Stream.{failure_count};
 ghost use Rattle.step_files.specs.StepFiles.{file_value};
 ghost use Rattle.step_files.specs.Writes.{AddsFiles, FilesAccount, MayFail, WritesAll, WritesFirst, WritesNone, writes};
 
 use crate::texts::TextFile;
-use net_json::Failed;
+use net_plan::Failed;
 
 /// Writes texts, each as a file of its own.
 pub trait TextFiles {

@@ -5,9 +5,9 @@ ghost use Rattle.step_files.specs.StepFiles.{AreFilesOfStep, IsCertificateFile, 
 
 use crate::paths::step_path;
 use board::text_of_plan;
-use net_json::{PlanError, plan_of_text, text_of_certificate};
-use net_plan::{Certificate, Plan, are_same_plans};
+use net_plan::{PlanError, plan_of_text, text_of_certificate};
 use net_rules::{CertifyError, certify};
+use plan_values::{Certificate, Plan, are_same_plans};
 use std::alloc::{AllocError, AllocFailed, Global};
 
 /// A text, and the path of the file that it is for.

@@ -1,7 +1,7 @@
 //! Ways of the fewest hops over buses and bridges.
 use super::{Chosen, given_row};
 use crate::board::{Board, BoardNode};
-use net_plan::Kind;
+use plan_values::Kind;
 use std::alloc::{AllocError, Global};
 
 /// Where a node sends on: through a port, to a next node.

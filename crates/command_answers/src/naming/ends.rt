@@ -7,8 +7,8 @@ ghost use Rattle.command_answers.specs.Naming.{IsFirstNamed, IsEidWord, IsDestin
 
 use crate::naming::first_named;
 use mctp_transport::Eid;
-use net_plan::Plan;
 use net_tables::lookup::eid_at;
+use plan_values::Plan;
 
 /// The index of the node that the one word names, and the endpoint ID that the other word names.
 #[tactic(auto, using(crate::proofs::Ends::no_sender, crate::proofs::Ends::no_destination))]

@@ -4,8 +4,8 @@ ghost use Rattle.net_tables.specs.Repositories.{terminus_of};
 ghost use Rattle.command_answers.specs.Naming.{IsTerminusNamed, HasTerminusNamed};
 
 use crate::naming::first_named;
-use net_plan::{Plan, PlannedTerminus};
 use net_tables::lookup::terminus_at;
+use plan_values::{Plan, PlannedTerminus};
 
 /// The terminus of the first node of the name, if it has one, and the index of that node.
 #[tactic(auto, using(crate::proofs::Names::no_terminus))]

@@ -1,7 +1,7 @@
 //! Long lists of events, of which `sim` writes many lines at once, on outputs of which some fail.
 use super::narrow_outputs::narrow_output;
 use command_answers::Status;
-use net_json::Counted;
+use net_plan::Counted;
 use play_commands::simulate;
 use sample_texts::riser::{CERTIFICATE, PLAN};
 use std::alloc::{AllocError, Global};

@@ -1,7 +1,7 @@
 //! An output that fails once it is full.
 ghost use Rattle.std.specs.Prelude.{◌≡◌};
 
-use net_json::Counted;
+use net_plan::Counted;
 use std::alloc::Global;
 use std::io::{self, ErrorKind, Write};
 

@@ -1,6 +1,6 @@
 //! What is told of refusals, some of which no row can bring about.
 use command_answers::{Input, Refused, refuse};
-use net_json::{Counted, PlanError};
+use net_plan::{Counted, PlanError};
 use std::alloc::Global;
 
 /// A refusal, its exit status and its line.

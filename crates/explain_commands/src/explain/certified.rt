@@ -3,7 +3,7 @@ ghost use Rattle.std.specs.Prelude.{◌≡◌, ◌≢◌, IfOk, IfErr, string_by
 ghost use Rattle.std.specs.Cow.{cow_str_bytes};
 ghost use Rattle.net_check.specs.Errors.{NamesFirstFault};
 ghost use Rattle.net_rules.specs.Faults.{IsFirstFault, site_of};
-ghost use Rattle.net_json.specs.Stream.{HasRoom};
+ghost use Rattle.net_plan.specs.Stream.{HasRoom};
 ghost use Rattle.command_answers.specs.declared.refused.Refused.TheVariants as refused;
 ghost use Rattle.command_answers.specs.declared.status.Status.TheVariants as status;
 ghost use Rattle.command_answers.specs.Answers.{stream, IsWithoutPlan};
@@ -20,9 +20,9 @@ use explanation_texts::{NO_CERTIFICATE, REMEDY, cause_lines, certificate_fault_l
 use fault_texts::obstacle_place;
 use net_check::{CertifyError, CheckError, Fault, certify, check};
 use net_explained::{Cause, find_cause};
-use net_json::{Sink, Source};
-use net_plan::Certificate;
+use net_plan::{Sink, Source};
 use plan_texts::fault_line;
+use plan_values::Certificate;
 use std::alloc::{AllocError, Global};
 
 /// Says on `output` what `check` says of a plan and its certificate, and explains it. Where a file can't be read, it

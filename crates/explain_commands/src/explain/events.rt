@@ -2,11 +2,11 @@
 //! read.
 ghost use Rattle.std.specs.Prelude.{◌≡◌, ◌≢◌, IfOk, IfErr, map};
 ghost use Rattle.std.specs.Cow.{cow_str_bytes};
-ghost use Rattle.net_json.specs.EventText.{AreEventsOf};
-ghost use Rattle.net_json.specs.Stream.{HasRoom};
-ghost use Rattle.net_json.specs.Texts.{IsJsonTextOf};
-ghost use Rattle.net_plan.specs.EventValues.{event_entry};
-ghost use Rattle.net_plan.specs.PlanValues.{plan_value};
+ghost use Rattle.net_plan.specs.EventText.{AreEventsOf};
+ghost use Rattle.net_plan.specs.Stream.{HasRoom};
+ghost use Rattle.net_plan.specs.Texts.{IsJsonTextOf};
+ghost use Rattle.plan_values.specs.EventValues.{event_entry};
+ghost use Rattle.plan_values.specs.PlanValues.{plan_value};
 ghost use Rattle.net_rules.specs.Rules.{Accepts};
 ghost use Rattle.command_answers.specs.declared.refused.Refused.TheVariants as refused;
 ghost use Rattle.command_answers.specs.declared.status.Status.TheVariants as status;
@@ -23,8 +23,8 @@ use command_answers::{
     unread_answer, without_text,
 };
 use net_check::check;
-use net_json::{Sink, Source, TEXT_LIMIT, read_within};
-use net_plan::{Certificate, Event, Plan};
+use net_plan::{Sink, Source, TEXT_LIMIT, read_within};
+use plan_values::{Certificate, Event, Plan};
 use reading_texts::{TextError, events_or_fault};
 use std::alloc::Global;
 

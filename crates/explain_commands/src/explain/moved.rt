@@ -2,10 +2,11 @@
 ghost use Rattle.std.specs.Prelude.{◌≡◌, ◌≢◌, IfOk, IfErr, map, string_bytes};
 ghost use Rattle.std.specs.Cow.{cow_str_bytes};
 ghost use Rattle.fault_texts.specs.Places.{IsPlaceTold};
-ghost use Rattle.net_json.specs.Finding.{step_value};
-ghost use Rattle.net_json.specs.Stream.{HasRoom};
+ghost use Rattle.net_plan.specs.Finding.{step_value};
+ghost use Rattle.net_plan.specs.Stream.{HasRoom};
 ghost use Rattle.net_rules.specs.MoveObstacles.{NamesMoveObstacle, NamesSureFault, RulesOutMoveCertificates};
 ghost use Rattle.net_rules.specs.declared.certify_error.CertifyError.TheVariants as error;
+ghost use Rattle.net_rules.specs.declared.move_error.MoveError.TheVariants as move_error;
 ghost use Rattle.command_answers.specs.declared.refused.Refused.TheVariants as refused;
 ghost use Rattle.command_answers.specs.declared.status.Status.TheVariants as status;
 ghost use Rattle.command_answers.specs.Answers.{stream, IsWithoutPlan};
@@ -29,7 +30,7 @@ use net_check::{
     CertifyError, Fault, MoveError, MoveFault, MoveObstacle, MoveRule, Rule, Side, certify_move,
 };
 use net_explained::find_cause;
-use net_json::{PointerStep, Sink, Source};
+use net_plan::{PointerStep, Sink, Source};
 use plan_texts::move_obstacle_line;
 use rows::{loop_text, way_on_text};
 use std::alloc::{AllocError, Global};
@@ -188,7 +189,8 @@ fn error_text(
             way_on_text(alloc, name, new_name, before, after, Side::Old, fault)
         }
         MoveError::New(fault) => new_fault_text(alloc, name, new_name, before, after, fault),
-        MoveError::Both(_) | MoveError::OutOfMemory => Err(AllocError),
+        // (neither is there whatever the certificate)
+        MoveError::Both(_) | MoveError::OutOfMemory => unreachable!(),
     }
 }
 
@@ -201,13 +203,15 @@ fn new_fault_text(
     after: &PlanText,
     fault: &MoveFault,
 ) -> Result<String, AllocError>
-    requires { IsTextOf after.now.text.items after.now.plan }
+    requires names { NamesSureFault before.now.plan after.now.plan (move_error.New fault.now) }
+    requires after { IsTextOf after.now.text.items after.now.plan }
     ensures { IfOk result (λ text. IsNewFaultTold (file_of name.now before.now) (file_of new_name.now after.now) fault.now.rule fault.now (string_bytes text)) }
 {
     match fault.rule {
         MoveRule::OfPlan(rule) => rule_text(alloc, new_name, after, rule, fault),
         MoveRule::M02 => way_on_text(alloc, name, new_name, before, after, Side::New, fault),
-        MoveRule::M03 => Err(AllocError),
+        // (the new plan's rows don't break it)
+        MoveRule::M03 => unreachable!(),
     }
 }
 

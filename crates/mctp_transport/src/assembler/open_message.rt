@@ -11,7 +11,7 @@ use crate::packet::PacketView;
 pub(super) struct OpenMessage {
     pub(super) key: Key,
     /// The number of its last packet so far.
-    pub(super) sequence: Seq,
+    pub(super) number: Seq,
     /// The length of its first packet's payload.
     pub(super) unit: usize,
     /// How many bytes have come.
@@ -25,7 +25,7 @@ pub(super) fn go_on_as(slot: &mut Option<OpenMessage>, message: OpenMessage)
     ensures { slot.new ≡ Some message }
 {
     if let Some(open) = slot {
-        open.sequence = message.sequence;
+        open.number = message.number;
         open.len = message.len;
     }
 }
@@ -37,16 +37,16 @@ impl OpenMessage {
     /// The message with one more packet, or why the packet doesn't go on from it.
     pub(super) fn next(self, limit: usize, packet: &PacketView) -> Result<OpenMessage, DropCause>
         requires { self.len ≤ limit }
-        ensures fault { let fault = fault_of limit self.sequence.value self.unit self.len (packet_value_of packet.now) in
+        ensures fault { let fault = fault_of limit self.number.value self.unit self.len (packet_value_of packet.now) in
             MatchResult result (λ _. fault ≡ None) (λ why. fault ≡ Some why) }
         ensures key { IfOk result (λ next. next.key ≡ self.key) }
-        ensures sequence { IfOk result (λ next. next.sequence ≡ packet.now.header.sequence) }
+        ensures number { IfOk result (λ next. next.number ≡ packet.now.header.number) }
         ensures unit { IfOk result (λ next. next.unit ≡ self.unit) }
         ensures len { IfOk result (λ next. next.len ≡ self.len + length packet.now.payload.now) }
         ensures fits { IfOk result (λ next. next.len ≤ limit) }
     {
         let len = packet.payload.len();
-        if packet.header.sequence != self.sequence.next() {
+        if packet.header.number != self.number.next() {
             return Err(DropCause::Number);
         }
         if len > self.unit || (!packet.header.eom && len < self.unit) {
@@ -56,7 +56,7 @@ impl OpenMessage {
             return Err(DropCause::Limit);
         }
         Ok(OpenMessage {
-            sequence: packet.header.sequence,
+            number: packet.header.number,
             len: self.len + len,
             ..self
         })

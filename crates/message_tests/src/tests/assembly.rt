@@ -2,10 +2,12 @@
 use mctp_transport::{Assembler, DropCause, Eid, Fed, Key, PacketView, Tag};
 use std::test::Fail;
 
-/// What was answered, with a whole message's length for its bytes.
+/// What was answered, with a whole message's length for its bytes, which are all the number of their source.
 #[derive(Clone, Copy, PartialEq, Eq)]
 enum Told {
     Whole(usize),
+    /// A message with bytes of another source.
+    Mixed,
     Held,
     Dropped(DropCause),
     Unread,
@@ -23,19 +25,28 @@ enum Turn {
 
 /// Feeds a packet with 64 payload bytes, from this source and with this flag byte.
 fn feed(assembler: &mut Assembler, source: u8, flags: u8) -> Told {
-    let mut bytes = [7; 68];
+    let mut bytes = [source; 68];
     bytes[0] = 1;
     bytes[1] = 9;
-    bytes[2] = source;
     bytes[3] = flags;
     let Ok(packet) = PacketView::read(&bytes) else {
         return Told::Unread;
     };
     match assembler.feed(packet) {
-        Fed::Whole(message) => Told::Whole(message.len()),
+        Fed::Whole(message) => whole_of(source, message),
         Fed::Held => Told::Held,
         Fed::Dropped(why) => Told::Dropped(why),
     }
+}
+
+/// What is told of a message that comes whole with a packet of this source.
+fn whole_of(source: u8, message: &[u8]) -> Told {
+    for byte in message {
+        if *byte != source {
+            return Told::Mixed;
+        }
+    }
+    Told::Whole(message.len())
 }
 
 /// Tag 1 of a source that owns it.
@@ -89,5 +100,28 @@ const TURNS: [Turn; 14] = [
 fn slots_and_lengths_have_their_limits(rt: HostRuntime) -> Result<(), Fail> {
     let mut assembler = Assembler::new(rt.alloc(), 1, 128)?;
     assert_eq!(rt; first_other(&mut assembler, &TURNS), None);
+    Ok(())
+}
+
+/// Two slots, and messages of 192 bytes at most. A number that comes twice ends its message, and what comes behind it is
+/// for none. Then two sources send under one tag, by turns.
+const NUMBERED: [Turn; 11] = [
+    Turn::Feed(8, 0x89, Told::Held),
+    Turn::Feed(8, 0x19, Told::Held),
+    Turn::Feed(8, 0x19, Told::Dropped(DropCause::Number)),
+    Turn::Feed(8, 0x29, Told::Dropped(DropCause::NotOpen)),
+    Turn::Feed(8, 0x69, Told::Dropped(DropCause::NotOpen)),
+    Turn::Feed(8, 0x89, Told::Held),
+    Turn::Feed(9, 0x89, Told::Held),
+    Turn::Feed(8, 0x19, Told::Held),
+    Turn::Feed(9, 0x59, Told::Whole(128)),
+    Turn::Feed(8, 0x69, Told::Whole(192)),
+    Turn::OpenSlots(0),
+];
+
+#[test]
+fn packets_are_joined_by_their_numbers_and_sources(rt: HostRuntime) -> Result<(), Fail> {
+    let mut assembler = Assembler::new(rt.alloc(), 2, 192)?;
+    assert_eq!(rt; first_other(&mut assembler, &NUMBERED), None);
     Ok(())
 }

@@ -1,6 +1,7 @@
 //! Refusals are printed as their codes and a sentence.
-use mctp_bridge::TableFault;
-use mctp_control::{ControlError, ReadFault};
+use mctp_bridge::ReadFault;
+use mctp_control::ControlError;
+use mctp_routing::TableFault;
 use mctp_transport::{DropCause, PacketError};
 use pdr_record::RecordError;
 use pdr_repository::WalkFault;

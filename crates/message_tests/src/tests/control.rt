@@ -2,8 +2,8 @@
 ghost use Rattle.std.specs.Prelude.{◌<◌, length};
 
 use super::messages::TABLE;
-use mctp_bridge::DeviceKind;
 use mctp_control::{ControlAnswer, Device, EidPool, EidRange, Response, RouteEntry};
+use mctp_routing::DeviceKind;
 use mctp_transport::{Eid, Wire};
 use std::test::Fail;
 

@@ -4,25 +4,25 @@ use mctp_control::{ControlError, Request, Response, RouteEntry};
 use mctp_transport::Wire;
 use pdr_record::Record;
 use pldm_message::{
-    ErrorResponse, GetPdrRequest, GetPdrResponse, GetPldmTypes, GetPldmTypesResponse, GetTid,
-    GetTidResponse, PldmError, PldmHeader, SetTid, SetTidResponse,
+    ErrorResponse, GetPdrAnswer, GetPdrRequest, GetPldmTypes, GetPldmTypesAnswer, GetTid,
+    GetTidAnswer, PldmError, PldmHeader, SetTid, SetTidAnswer,
 };
 
 /// What bytes are read as.
 #[derive(Clone, Copy)]
-enum Reader {
+pub(crate) enum Reader {
     Entry,
     Request,
     Response,
     Header,
     SetTid,
-    SetTidResponse,
+    SetTidAnswer,
     GetTid,
-    GetTidResponse,
+    GetTidAnswer,
     GetTypes,
     GetTypesAnswer,
     GetPdr,
-    GetPdrResponse,
+    GetPdrAnswer,
     ErrorResponse,
     Record,
 }
@@ -91,30 +91,30 @@ fn read_by(reader: Reader, bytes: &[u8]) -> (bool, &'static str) {
 fn read_as_pldm(reader: Reader, bytes: &[u8]) -> (bool, &'static str) {
     match reader {
         Reader::SetTid => (is_kept::<SetTid>(bytes), pldm_code(SetTid::read(bytes))),
-        Reader::SetTidResponse => (
-            is_kept::<SetTidResponse>(bytes),
-            pldm_code(SetTidResponse::read(bytes)),
+        Reader::SetTidAnswer => (
+            is_kept::<SetTidAnswer>(bytes),
+            pldm_code(SetTidAnswer::read(bytes)),
         ),
         Reader::GetTid => (is_kept::<GetTid>(bytes), pldm_code(GetTid::read(bytes))),
-        Reader::GetTidResponse => (
-            is_kept::<GetTidResponse>(bytes),
-            pldm_code(GetTidResponse::read(bytes)),
+        Reader::GetTidAnswer => (
+            is_kept::<GetTidAnswer>(bytes),
+            pldm_code(GetTidAnswer::read(bytes)),
         ),
         Reader::GetTypes => (
             is_kept::<GetPldmTypes>(bytes),
             pldm_code(GetPldmTypes::read(bytes)),
         ),
         Reader::GetTypesAnswer => (
-            is_kept::<GetPldmTypesResponse>(bytes),
-            pldm_code(GetPldmTypesResponse::read(bytes)),
+            is_kept::<GetPldmTypesAnswer>(bytes),
+            pldm_code(GetPldmTypesAnswer::read(bytes)),
         ),
         Reader::GetPdr => (
             is_kept::<GetPdrRequest>(bytes),
             pldm_code(GetPdrRequest::read(bytes)),
         ),
-        Reader::GetPdrResponse => (
-            is_kept::<GetPdrResponse>(bytes),
-            pldm_code(GetPdrResponse::read(bytes)),
+        Reader::GetPdrAnswer => (
+            is_kept::<GetPdrAnswer>(bytes),
+            pldm_code(GetPdrAnswer::read(bytes)),
         ),
         Reader::ErrorResponse => (
             is_kept::<ErrorResponse>(bytes),
@@ -128,7 +128,7 @@ fn read_as_pldm(reader: Reader, bytes: &[u8]) -> (bool, &'static str) {
 }
 
 /// What comes of bytes: `kept`, or the code of the refusal.
-fn outcome(reader: Reader, bytes: &[u8]) -> &'static str {
+pub(crate) fn outcome(reader: Reader, bytes: &[u8]) -> &'static str {
     match read_by(reader, bytes) {
         (true, _) => "kept",
         (false, code) => code,
@@ -160,7 +160,7 @@ const ENTRIES: [Row; 9] = [
     (Reader::Entry, &[53; 59], "K03"),
 ];
 
-const REQUESTS: [Row; 19] = [
+const REQUESTS: [Row; 21] = [
     (Reader::Request, &[0, 0x80, 0x01, 0, 0x0a], "kept"),
     (Reader::Request, &[0, 0x80, 0x02], "kept"),
     (Reader::Request, &[0, 0x80, 0x08, 0, 7, 0x11], "kept"),
@@ -169,8 +169,10 @@ const REQUESTS: [Row; 19] = [
     (Reader::Request, &[0, 0xe0, 0x02], "kept"),
     (Reader::Request, &[0, 0xff, 0x08, 0xff, 7, 0x11], "kept"),
     (Reader::Request, &[], "K01"),
+    (Reader::Request, &[0, 0x80], "K01"),
     (Reader::Request, &[0x80, 0x00], "K01"),
     (Reader::Request, &[0x80, 0x80, 0x02], "K02"),
+    (Reader::Request, &[0, 0, 0x01], "K02"),
     (Reader::Request, &[0, 0, 0x02], "K02"),
     (Reader::Request, &[0x80, 0x80, 0x03, 0], "K02"),
     (Reader::Request, &[0, 0x80, 0x03], "K04"),
@@ -299,51 +301,31 @@ const BASE: [Row; 28] = [
     (Reader::SetTid, &[0x01, 0x80, 0x00, 0x02], "L06"),
     (Reader::SetTid, &[0x01, 0x80, 0x00, 0x01], "L04"),
     (
-        Reader::SetTidResponse,
+        Reader::SetTidAnswer,
         &[0x01, 0x00, 0x00, 0x01, 0x00],
         "kept",
     ),
     (
-        Reader::SetTidResponse,
+        Reader::SetTidAnswer,
         &[0x01, 0x00, 0x00, 0x01, 0x02],
         "kept",
     ),
-    (
-        Reader::SetTidResponse,
-        &[0x01, 0x80, 0x00, 0x01, 0x05],
-        "L06",
-    ),
-    (
-        Reader::SetTidResponse,
-        &[0x01, 0x00, 0x00, 0x02, 0x00],
-        "L06",
-    ),
-    (
-        Reader::SetTidResponse,
-        &[0x01, 0x00, 0x00, 0x01, 0, 5],
-        "L04",
-    ),
+    (Reader::SetTidAnswer, &[0x01, 0x80, 0x00, 0x01, 0x05], "L06"),
+    (Reader::SetTidAnswer, &[0x01, 0x00, 0x00, 0x02, 0x00], "L06"),
+    (Reader::SetTidAnswer, &[0x01, 0x00, 0x00, 0x01, 0, 5], "L04"),
     (Reader::GetTid, &[0x01, 0x80, 0x00, 0x02], "kept"),
     (Reader::GetTid, &[0x01, 0x80, 0x00], "L01"),
     (Reader::GetTid, &[0x01, 0x00, 0x00, 0x02, 0], "L06"),
     (Reader::GetTid, &[0x01, 0x80, 0x00, 0x02, 0], "L04"),
     (
-        Reader::GetTidResponse,
+        Reader::GetTidAnswer,
         &[0x01, 0x00, 0x00, 0x02, 0, 1],
         "kept",
     ),
-    (Reader::GetTidResponse, &[0x01, 0x00, 0x00, 0x02, 5], "kept"),
-    (Reader::GetTidResponse, &[0x01, 0x00, 0x00, 0x02, 0], "L04"),
-    (
-        Reader::GetTidResponse,
-        &[0x01, 0x00, 0x00, 0x02, 5, 1],
-        "L04",
-    ),
-    (
-        Reader::GetTidResponse,
-        &[0x01, 0x00, 0x02, 0x02, 0, 1],
-        "L06",
-    ),
+    (Reader::GetTidAnswer, &[0x01, 0x00, 0x00, 0x02, 5], "kept"),
+    (Reader::GetTidAnswer, &[0x01, 0x00, 0x00, 0x02, 0], "L04"),
+    (Reader::GetTidAnswer, &[0x01, 0x00, 0x00, 0x02, 5, 1], "L04"),
+    (Reader::GetTidAnswer, &[0x01, 0x00, 0x02, 0x02, 0, 1], "L06"),
     (Reader::GetTypes, &[0x01, 0x80, 0x00, 0x04], "kept"),
     (Reader::GetTypes, &[0x01, 0xc0, 0x00, 0x04], "kept"),
     (Reader::GetTypes, &[0x01, 0x40, 0x00, 0x04], "L05"),
@@ -360,7 +342,7 @@ const BASE: [Row; 28] = [
 ];
 
 /// Requests for parts of records.
-const ASKING: [Row; 13] = [
+const ASKING: [Row; 17] = [
     (
         Reader::GetPdr,
         &[1, 0x80, 2, 0x51, 0, 0, 0, 0, 0, 0, 0, 0, 1, 0x10, 0, 0, 0],
@@ -377,10 +359,15 @@ const ASKING: [Row; 13] = [
         "kept",
     ),
     (Reader::GetPdr, &[0x01, 0x80, 0x00], "L01"),
+    (Reader::GetPdr, &[0x00, 0x80, 0x02, 0x51], "L02"),
+    (Reader::GetPdr, &[0x01, 0x80, 0x42, 0x51], "L03"),
+    (Reader::GetPdr, &[0x01, 0x40, 0x02, 0x51], "L05"),
+    (Reader::GetPdr, &[0x01, 0x80, 0x02, 0x50], "L06"),
+    (Reader::GetPdr, &[0x01, 0x80, 0x02, 0x51, 0x00], "L04"),
+    // of two causes the first is told
     (Reader::GetPdr, &[0x00, 0x40, 0x42, 0x50], "L02"),
     (Reader::GetPdr, &[0x01, 0x40, 0x42, 0x50], "L03"),
     (Reader::GetPdr, &[0x01, 0x40, 0x00, 0x50, 0], "L05"),
-    (Reader::GetPdr, &[0x01, 0x80, 0x02, 0x50], "L06"),
     (Reader::GetPdr, &[0x01, 0x80, 0x00, 0x51, 0], "L06"),
     (
         Reader::GetPdr,
@@ -406,54 +393,54 @@ const ASKING: [Row; 13] = [
 const GIVEN: [Row; 11] = [
     // a first part, a part in the middle, a last one with its check byte, and a whole record
     (
-        Reader::GetPdrResponse,
+        Reader::GetPdrAnswer,
         &[1, 0, 2, 0x51, 0, 0, 0, 0, 0, 2, 0, 0, 0, 0, 2, 0, 1, 0],
         "kept",
     ),
     (
-        Reader::GetPdrResponse,
+        Reader::GetPdrAnswer,
         &[1, 0, 2, 0x51, 0, 0, 0, 0, 0, 3, 0, 0, 0, 1, 1, 0, 1],
         "kept",
     ),
     (
-        Reader::GetPdrResponse,
+        Reader::GetPdrAnswer,
         &[1, 1, 2, 0x51, 0, 9, 8, 7, 6, 0, 0, 0, 0, 4, 1, 0, 1, 0xa6],
         "kept",
     ),
     (
-        Reader::GetPdrResponse,
+        Reader::GetPdrAnswer,
         &[1, 0, 2, 0x51, 0, 0, 0, 0, 0, 0, 0, 0, 0, 5, 2, 0, 1, 0],
         "kept",
     ),
     (
-        Reader::GetPdrResponse,
+        Reader::GetPdrAnswer,
         &[0x01, 0x02, 0x02, 0x51, 0x82],
         "kept",
     ),
     (
-        Reader::GetPdrResponse,
+        Reader::GetPdrAnswer,
         &[1, 0x80, 2, 0x51, 0, 0, 0, 0, 0, 0, 0, 0, 0, 5, 0, 0],
         "L06",
     ),
-    (Reader::GetPdrResponse, &[0x01, 0x00, 0x02, 0x51], "L04"),
+    (Reader::GetPdrAnswer, &[0x01, 0x00, 0x02, 0x51], "L04"),
     (
-        Reader::GetPdrResponse,
+        Reader::GetPdrAnswer,
         &[0x01, 0x00, 0x02, 0x51, 0x82, 0x00],
         "L04",
     ),
     // a byte too few, no check byte, and a byte behind it
     (
-        Reader::GetPdrResponse,
+        Reader::GetPdrAnswer,
         &[1, 0, 2, 0x51, 0, 0, 0, 0, 0, 2, 0, 0, 0, 0, 2, 0, 1],
         "L04",
     ),
     (
-        Reader::GetPdrResponse,
+        Reader::GetPdrAnswer,
         &[1, 1, 2, 0x51, 0, 0, 0, 0, 0, 0, 0, 0, 0, 4, 1, 0, 1],
         "L04",
     ),
     (
-        Reader::GetPdrResponse,
+        Reader::GetPdrAnswer,
         &[1, 0, 2, 0x51, 0, 0, 0, 0, 0, 0, 0, 0, 0, 5, 1, 0, 1, 0xa6],
         "L04",
     ),

@@ -1,8 +1,8 @@
 //! Intervals cut by hand, and a loop over pieces.
 ghost use Rattle.std.specs.Prelude.{ℕ, ◌<◌, ◌≤◌, IfNone, IfSome};
-ghost use Rattle.mctp_bridge.specs.Pieces.{IsCovered};
+ghost use Rattle.mctp_routing.specs.Pieces.{IsCovered};
 
-use mctp_bridge::{Hop, RangeTable, TableRow};
+use mctp_routing::{Hop, RangeTable, TableRow};
 use mctp_transport::Eid;
 use std::alloc::Global;
 use std::test::Fail;

@@ -1,7 +1,7 @@
 //! PLDM types, completion codes and instance IDs.
 use mctp_transport::Wire;
 use pldm_message::{
-    CompletionCode, GetPldmTypesResponse, InstanceId, InstanceIds, PldmType, PldmTypes,
+    CompletionCode, GetPldmTypesAnswer, InstanceId, InstanceIds, PldmType, PldmTypes,
 };
 use std::test::Fail;
 
@@ -18,7 +18,7 @@ fn first_other_type(types: &PldmTypes, rows: &[(u8, bool)]) -> Option<u8> {
 #[test]
 fn an_answer_has_pldm_types(rt: HostRuntime) -> Result<(), Fail> {
     let bytes = [0x01, 0x00, 0x00, 0x04, 0x00, 0x05, 0, 0, 0, 0, 0, 0, 0];
-    let types = GetPldmTypesResponse::read(&bytes)?
+    let types = GetPldmTypesAnswer::read(&bytes)?
         .outcome
         .ok()
         .ok_or("no types")?;

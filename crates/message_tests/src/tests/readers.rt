@@ -1,7 +1,8 @@
 //! Routing tables that are read from a bridge's answers.
 use super::tables::{row, told};
-use mctp_bridge::DeviceKind;
-use mctp_control::{ControlInstanceId, Device, EntryReader, Neighbor, ReadFault, RouteEntry};
+use mctp_bridge::{EntryReader, Neighbor, ReadFault};
+use mctp_control::{ControlInstanceId, Device, RouteEntry};
+use mctp_routing::DeviceKind;
 use mctp_transport::Eid;
 use std::alloc::{AllocError, Global};
 use std::test::Fail;

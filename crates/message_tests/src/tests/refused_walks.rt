@@ -2,7 +2,7 @@
 //! `tools/try growths` refuses the growths one after another.
 use super::repositories::{block_over, record_of};
 use arrayvec::ArrayVec;
-use pdr_repository::{Terminus, WalkFault, WalkProgress, Walker};
+use pdr_repository::{Step, Terminus, WalkFault, Walker};
 use pldm_message::InstanceIds;
 use std::alloc::{AllocError, Global};
 use std::test::Fail;
@@ -43,7 +43,7 @@ fn records(alloc: Global) -> Result<Vec<(u32, Vec<u8>)>, AllocError> {
 }
 
 /// Takes an answer. Where memory ran out, it is handed in again.
-fn take(alloc: Global, walker: &mut Walker, answer: &[u8]) -> Result<WalkProgress, WalkFault> {
+fn take(alloc: Global, walker: &mut Walker, answer: &[u8]) -> Result<Step, WalkFault> {
     set_mark(alloc, Mark::Begins);
     let taken = walker.take(answer);
     set_mark(alloc, Mark::Ends);

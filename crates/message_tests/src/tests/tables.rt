@@ -2,8 +2,9 @@
 ghost use Rattle.std.specs.Prelude.{◌≤◌, All, length};
 
 use super::messages::is_written_as;
-use mctp_bridge::{DeviceKind, Hop, RangeTable, TableFault, TableRow};
-use mctp_control::{Neighbor, RouteEntry, route_entries};
+use mctp_bridge::{Neighbor, route_entries};
+use mctp_control::RouteEntry;
+use mctp_routing::{DeviceKind, Hop, RangeTable, TableFault, TableRow};
 use mctp_transport::Eid;
 use std::alloc::{AllocError, Global};
 use std::test::Fail;

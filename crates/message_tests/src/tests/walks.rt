@@ -1,9 +1,9 @@
 //! Walks over the records of termini, and over answers made by hand.
 ghost use Rattle.std.specs.Prelude.{◌<◌, ◌≤◌, ◌+◌, ◌^◌};
 
-use super::repositories::{list_over, record_of, records_of};
+use super::repositories::{block_over, list_over, record_of, records_of};
 use arrayvec::ArrayVec;
-use pdr_repository::{Terminus, WalkFault, WalkProgress, Walker};
+use pdr_repository::{Step, Terminus, WalkFault, Walker};
 use pldm_message::{InstanceId, InstanceIds};
 use std::alloc::{AllocError, Global};
 use std::test::Fail;
@@ -106,6 +106,15 @@ fn walks_collect_the_records_of_a_list(rt: HostRuntime) -> Result<(), Fail> {
     Ok(())
 }
 
+#[test]
+fn walks_collect_the_records_of_a_block(rt: HostRuntime) -> Result<(), Fail> {
+    let alloc = rt.alloc();
+    let block = block_over(alloc, records_of(alloc, &THREE)?)?.ok_or("lawful")?;
+    let mut terminus: Box<dyn Terminus> = Box::new(alloc, block)?;
+    assert!(rt; is_walked(alloc, &mut terminus, 64, &THREE, 5)?);
+    Ok(())
+}
+
 /// Answers under instance ID 0 that give whole records of 10 bytes, by their handle and the next one.
 const ONE_ENDS: [u8; 26] = [
     0x01, 0x00, 0x02, 0x51, 0, 0, 0, 0, 0, 0, 0, 0, 0, 5, 10, 0, 1, 0, 0, 0, 1, 200, 0, 0, 0, 0,
@@ -186,18 +195,14 @@ const EMPTY: [u8; 16] = [
 
 /// The most records, answers that come each after a request, and what the walker says of the last. It refuses none
 /// before.
-type Told = (
-    usize,
-    &'static [&'static [u8]],
-    Result<WalkProgress, WalkFault>,
-);
+type Told = (usize, &'static [&'static [u8]], Result<Step, WalkFault>);
 
 const TOLD: [Told; 24] = [
-    (9, &[&ONE_ENDS], Ok(WalkProgress::Done)),
-    (9, &[&ONE_TO_TWO], Ok(WalkProgress::Record)),
-    (9, &[&ONE_TO_TWO, &TWO_ENDS], Ok(WalkProgress::Done)),
-    (9, &[&BEGUN], Ok(WalkProgress::More)),
-    (9, &[&BEGUN, &ENDS], Ok(WalkProgress::Done)),
+    (9, &[&ONE_ENDS], Ok(Step::Done)),
+    (9, &[&ONE_TO_TWO], Ok(Step::Record)),
+    (9, &[&ONE_TO_TWO, &TWO_ENDS], Ok(Step::Done)),
+    (9, &[&BEGUN], Ok(Step::More)),
+    (9, &[&BEGUN, &ENDS], Ok(Step::Done)),
     (9, &[&BEGUN, &ENDS_WRONG], Err(WalkFault::WrongCrc)),
     (9, &[&BEGUN, &ENDS_LONG], Err(WalkFault::WrongSize)),
     (9, &[&BEGUN, &ONE_ENDS], Err(WalkFault::WrongFlag)),
@@ -245,7 +250,7 @@ fn told_of(
     alloc: Global,
     max_records: usize,
     answers: &[&[u8]],
-) -> Result<Option<Result<WalkProgress, WalkFault>>, AllocError> {
+) -> Result<Option<Result<Step, WalkFault>>, AllocError> {
     let mut walker = Walker::new(alloc, 64, max_records, 640)?;
     let mut told = None;
     for answer in answers {
@@ -275,11 +280,7 @@ fn answers_are_taken_or_refused_by_their_first_cause(rt: HostRuntime) -> Result<
 }
 
 /// What the walker says where this answer comes so many times, each after a request: the last thing.
-fn told_at_last(
-    walker: &mut Walker,
-    answer: &[u8],
-    times: u32,
-) -> Option<Result<WalkProgress, WalkFault>> {
+fn told_at_last(walker: &mut Walker, answer: &[u8], times: u32) -> Option<Result<Step, WalkFault>> {
     let mut told = None;
     for _ in 0..times {
         let _ = walker.next_request(InstanceId::new(0));
@@ -299,8 +300,8 @@ fn a_peer_that_sends_one_byte_for_ever_is_left(rt: HostRuntime) -> Result<(), Fa
         told_at_last(&mut walker, &ONE_MORE, 1),
     );
     let wanted = (
-        Some(Ok(WalkProgress::More)),
-        Some(Ok(WalkProgress::More)),
+        Some(Ok(Step::More)),
+        Some(Ok(Step::More)),
         Some(Err(WalkFault::TooMuch)),
         Some(Err(WalkFault::FailedBefore)),
     );

@@ -3,8 +3,8 @@
 use crate::candidates::add;
 use crate::edit::{Change, Edit};
 use mctp_transport::Eid;
-use net_plan::Plan;
 use net_tables::lookup::{covers, holds, is_in_pool_of, owner_at, rows_at};
+use plan_values::Plan;
 use std::alloc::AllocError;
 
 /// How many of one sort are tried.

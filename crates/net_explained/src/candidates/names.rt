@@ -2,7 +2,7 @@
 
 use crate::candidates::add;
 use crate::edit::{Change, Edit};
-use net_plan::{Name, Plan};
+use plan_values::{Name, Plan};
 use std::alloc::{AllocError, Global};
 
 /// Adds the first two names that no node has: the node's own with a number behind it.

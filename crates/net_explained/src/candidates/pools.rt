@@ -3,11 +3,11 @@
 use crate::candidates::add;
 use crate::edit::{Change, Edit};
 use mctp_transport::Eid;
-use net_plan::{Plan, Pool};
 use net_rules::share_bus;
 use net_tables::lookup::{
     eid_at, is_bridge, is_in_pool_of, is_on_bus, owner_at, pool_at, pool_end, ports_at,
 };
+use plan_values::{Plan, Pool};
 use std::alloc::AllocError;
 
 /// Adds the bridges on a bus of the node that have its endpoint ID in their pool.

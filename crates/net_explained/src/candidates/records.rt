@@ -2,10 +2,10 @@
 
 use crate::candidates::add;
 use crate::edit::{Change, Edit};
-use net_plan::{Plan, PlannedRecord};
 use net_rules::ChainFault;
 use net_tables::lookup::{eid_at, record_at, records_at, terminus_at};
 use pdr_record::HEADER_LENGTH;
+use plan_values::{Plan, PlannedRecord};
 use std::alloc::{AllocError, Global};
 
 /// Where a terminus locator has its terminus ID, and the length of its value, which is its last part (DSP0248).
@@ -19,13 +19,14 @@ const VALUE_LENGTH_AT: usize = 17;
 pub fn add_links(
     plan: &Plan,
     node: usize,
-    fault: ChainFault,
+    kind: ChainFault,
+    at: usize,
     edits: &mut Vec<Edit>,
 ) -> Result<(), AllocError> {
     let records = records_at(plan, node);
-    match fault {
-        ChainFault::Missing(at) => add_next(node, records, at, edits),
-        ChainFault::Doubled(at) => match records.get(at) {
+    match kind {
+        ChainFault::Missing => add_next(node, records, at, edits),
+        ChainFault::Doubled => match records.get(at) {
             Some(record) => {
                 add_following(node, records, record.next, edits)?;
                 add_next(node, records, at, edits)?;
@@ -33,7 +34,7 @@ pub fn add_links(
             }
             None => Ok(()),
         },
-        ChainFault::Circle(at) => match records.get(at) {
+        ChainFault::Circle => match records.get(at) {
             Some(record) => add_before(node, records, record.handle, edits),
             None => Ok(()),
         },

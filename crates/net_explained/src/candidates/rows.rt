@@ -4,11 +4,11 @@ use crate::candidates::add;
 use crate::edit::{Change, Edit};
 use crate::rest::Stretch;
 use mctp_transport::Eid;
-use net_plan::{Kind, Plan, Row};
 use net_tables::lookup::{
     covers, eid_at, has_row, holds, is_bridge, is_held, is_in_pool_of, is_on_bus, pool_at,
     pool_end, port_at, row_at, row_end, rows_at,
 };
+use plan_values::{Kind, Plan, Row};
 use std::alloc::AllocError;
 
 /// Adds a row that covers from the first number on to that before the end, unless this is nothing or not within 8 to

@@ -6,8 +6,8 @@ ghost use Rattle.net_explained.specs.Causes.{IsCauseAt};
 use crate::cause::Cause;
 use crate::holders::holder_before;
 use mctp_transport::Eid;
-use net_plan::Plan;
 use net_tables::lookup::holds;
+use plan_values::Plan;
 
 /// That the node holds the endpoint ID, which can't be assigned.
 pub fn unassignable(plan: &Plan, node: usize, eid: Eid) -> Option<Cause>

@@ -7,9 +7,9 @@ ghost use Rattle.net_explained.specs.Causes.{IsCauseAt};
 use crate::cause::Cause;
 use crate::holders::holder_before;
 use mctp_transport::Eid;
-use net_plan::{Plan, PlannedRecord};
 use net_rules::{eid_locator, is_held_with_tid};
 use net_tables::lookup::record_at;
+use plan_values::{Plan, PlannedRecord};
 
 /// That the record is a terminus locator whose value is not one byte long.
 pub fn long(plan: &Plan, node: usize, index: usize) -> Option<Cause>

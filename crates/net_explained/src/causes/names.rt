@@ -6,8 +6,8 @@ ghost use Rattle.net_explained.specs.Searches.{IsFirstBelow};
 ghost use Rattle.net_explained.specs.Causes.{IsCauseAt};
 
 use crate::cause::Cause;
-use net_plan::Plan;
 use net_rules::have_one_name;
+use plan_values::Plan;
 
 /// The first earlier node that has the node's name.
 #[tactic(auto, unfolding(net_rules::specs::Names::HasNewName))]

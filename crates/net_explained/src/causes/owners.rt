@@ -7,9 +7,9 @@ ghost use Rattle.net_explained.specs.declared.cause.Cause.TheVariants.{OwnerShar
 ghost use Rattle.net_explained.specs.Causes.{IsCauseAt};
 
 use crate::cause::Cause;
-use net_plan::Plan;
 use net_rules::share_bus;
 use net_tables::lookup::{is_bridge, owner_at};
+use plan_values::Plan;
 
 /// Why the node's owner can't own it: it is no bridge, or it is one that shares no bus with the node.
 #[tactic(auto, unfolding(net_rules::specs::Owners::HasBridgeAsOwner))]

@@ -11,11 +11,11 @@ ghost use Rattle.net_explained.specs.Causes.{IsCauseAt};
 
 use crate::cause::Cause;
 use mctp_transport::Eid;
-use net_plan::{Plan, Pool};
 use net_rules::is_pool_in_range;
 use net_tables::lookup::{
     holds, is_bridge, is_in_pool, is_in_pool_of, owner_at, pool_at, pool_end,
 };
+use plan_values::{Plan, Pool};
 
 /// Whose pool the node's endpoint ID lies outside of, or whose it lies in.
 #[tactic(auto, unfolding(net_rules::specs::Pools::IsInItsPool, net_rules::specs::Pools::IsInNoPeersPool))]

@@ -7,9 +7,9 @@ ghost use Rattle.net_explained.specs.Causes.{IsCauseAt, HasRecordThat, IsEmptyTe
 
 use crate::cause::Cause;
 use mctp_transport::Wire;
-use net_plan::{Plan, PlannedRecord};
 use net_tables::lookup::{record_at, terminus_at};
 use pdr_record::RecordError;
+use plan_values::{Plan, PlannedRecord};
 
 /// That the node's terminus has no records.
 #[tactic(auto, unfolding(net_tables::specs::Repositories::HasRecords))]

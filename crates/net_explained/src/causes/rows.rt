@@ -11,11 +11,11 @@ ghost use Rattle.net_explained.specs.Rows.{CoversAt, HandsOut, IsFittingNext, Is
 use crate::cause::Cause;
 use crate::rest::rest_of;
 use mctp_transport::Eid;
-use net_plan::{Plan, Row};
 use net_rules::is_in_range;
 use net_tables::lookup::{
     bus_at, covers, holds, is_bridge, is_in_pool_of, is_on_bus, owner_at, port_at, ports_at, row_at,
 };
+use plan_values::{Plan, Row};
 
 /// That the node's row covers nothing, or more than can be assigned.
 #[tactic(auto, using(crate::proofs::Items::of_item, crate::proofs::Items::of_no_item, crate::proofs::Items::not_of_item))]

@@ -9,8 +9,8 @@ ghost use Rattle.net_explained.specs.Causes.{IsCauseAt};
 
 use crate::cause::Cause;
 use mctp_transport::Eid;
-use net_plan::Plan;
 use net_tables::lookup::{covers, has_row, holds, is_bridge, row_at};
+use plan_values::Plan;
 
 /// Who holds the endpoint ID that the node's row leads to a node that neither holds it nor leads it on.
 pub fn cut(plan: &Plan, node: usize, row: usize, eid: Eid) -> Option<Cause>

@@ -2,8 +2,8 @@
 ghost use Rattle.std.specs.Prelude.{◌≡◌, ◌≢◌, ◌≤◌, ◌↔◌, ℕ, IsTrue, Some, slice_get, option_map, ◌∷◌, []};
 ghost use Rattle.net_questions.specs.Buses.{IsMediaOf, IsMediaOfAnother, HasForeignMedia, HasReservedBinding, HasPortOn, HasNoPorts, IsEmptyBus, IsReservedOnI2c, IsReservedOnI3c, IsReservedOn, IsReservedAddress, HasReservedAddress, IsReservedPort};
 
-use net_plan::{Bus, Plan, Port};
 use net_tables::lookup::{port_at, ports_at};
+use plan_values::{Bus, Plan, Port};
 
 /// The physical transport binding identifier of SMBus and I2C (DSP0239).
 const I2C: u8 = 1;

@@ -8,9 +8,9 @@ ghost use Rattle.net_questions.specs.RecordIndexes.{AreRecordIndexes, Associates
 
 use super::bodies::{body, sensor};
 use super::record_index::{RecordIndex, has_association_of};
-use net_plan::Plan;
 use net_tables::lookup::record_at;
 use pdr_record::{Body, Entities, Entity};
+use plan_values::Plan;
 use std::alloc::AllocError;
 use std::collections::BTreeSet;
 

@@ -6,9 +6,9 @@ ghost use Rattle.net_questions.specs.Sensors.{IsLocatorOf, HasLocatorOf, HasUnkn
 
 use super::bodies::{body, sensor};
 use super::record_index::{RecordIndex, has_locator_of};
-use net_plan::Plan;
 use net_tables::lookup::record_at;
 use pdr_record::Body;
+use plan_values::Plan;
 
 /// Whether a node's record is a sensor's, and no terminus locator of the node has its terminus handle.
 pub fn names_no_terminus(plan: &Plan, indexes: &[RecordIndex], node: usize, index: usize) -> bool

@@ -5,9 +5,9 @@ ghost use Rattle.net_questions.specs.Lint.{HasLocator, IsUnlocated, LacksLocator
 
 use crate::lookup::eid_at;
 use mctp_transport::Eid;
-use net_plan::{Plan, PlannedRecord};
 use net_rules::eid_locator;
 use net_tables::lookup::{records_at, terminus_at};
+use plan_values::{Plan, PlannedRecord};
 
 /// Whether a node has a terminus, and no valid locator of its own terminus ID and endpoint ID.
 pub fn lacks_locator(plan: &Plan, node: usize) -> bool

@@ -2,8 +2,8 @@
 ghost use Rattle.std.specs.Prelude.{◌≡◌, ◌↔◌, IsTrue};
 ghost use Rattle.net_questions.specs.Lint.{IsEarlier, HaveOneAddress, HasItsAddress, HaveSharedAddress, ShareAddress, IsAddressedOn, HasAddressOn, HasAddresses, IsWithoutAddress, LacksAddress, HasOtherOn, IsOnlyPort, IsAloneOnBus};
 
-use net_plan::{Plan, Port};
 use net_tables::lookup::{port_at, ports_at};
+use plan_values::{Plan, Port};
 
 /// Whether a port and a later one have one address on one bus.
 pub fn share_address(plan: &Plan, node: usize, port: usize, other: usize, other_port: usize) -> bool

@@ -10,9 +10,9 @@ ghost use Rattle.net_questions.specs.RecordIndexes.{AreContained, AreFirst, IsRe
 use super::entities::{EntityKey, key_of, note_contained};
 use super::handles::locator_handle;
 use super::sensors::sensor_id;
-use net_plan::Plan;
 use net_tables::lookup::records_at;
 use pdr_record::Entity;
+use plan_values::Plan;
 use std::alloc::{AllocError, Global};
 use std::collections::{BTreeMap, BTreeSet};
 

@@ -6,10 +6,10 @@ ghost use Rattle.net_questions.specs.Lint.{LeadsToNobody, HasIdleRow, LeavesHeld
 
 use crate::lookup::eid_at;
 use mctp_transport::Eid;
-use net_plan::{Plan, Pool, Row};
 use net_tables::lookup::{
     covers, has_row, holds, is_bridge, is_held, is_in_pool, is_in_pool_of, pool_at, row_at, rows_at,
 };
+use plan_values::{Plan, Pool, Row};
 
 /// Whether a node's row leads to nobody: no node holds any of its endpoint IDs, and none lies in a pool.
 pub fn has_idle_row(plan: &Plan, node: usize, row: usize) -> bool

@@ -10,9 +10,9 @@ ghost use Rattle.net_questions.specs.Lint.{number_of, flipped, position_of, IsOv
 
 use super::record_index::{RecordIndex, has_earlier_sensor};
 use mctp_transport::Wire;
-use net_plan::{Plan, PlannedRecord};
 use net_tables::lookup::record_at;
 use pdr_record::{Body, NUMERIC_SENSOR, NumericSensor, SensorDataSize, has_type};
+use plan_values::{Plan, PlannedRecord};
 use record_fields::bits_of;
 
 /// Whether a node's record is a sensor's, and an earlier one is one of the same sensor ID.

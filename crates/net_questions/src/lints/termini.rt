@@ -2,8 +2,8 @@
 ghost use Rattle.std.specs.Prelude.{◌↔◌, IsTrue};
 ghost use Rattle.net_questions.specs.Lint.{HaveOneTid, HasItsTid, HaveSharedTid, ShareTid};
 
-use net_plan::{Plan, PlannedTerminus};
 use net_tables::lookup::terminus_at;
+use plan_values::{Plan, PlannedTerminus};
 
 /// Whether the termini of a node and a later one have one terminus ID.
 pub fn share_tid(plan: &Plan, node: usize, other: usize) -> bool

@@ -7,9 +7,9 @@ ghost use Rattle.pdr_record.specs.NumericValues.{numeric_value};
 ghost use Rattle.net_questions.specs.Sensors.{has_bit, given, threshold_of, AreCrossed, CrossesLater, HasCrossed, AreOfCrossed, HasCrossedThresholds};
 
 use super::sensors::{is_over, numeric_sensor};
-use net_plan::{Plan, PlannedRecord};
 use net_tables::lookup::record_at;
 use pdr_record::{NumericSensor, RangeFieldFormat, SensorDataSize};
+use plan_values::{Plan, PlannedRecord};
 
 /// How many thresholds a numeric sensor may have.
 const THRESHOLDS: usize = 6;

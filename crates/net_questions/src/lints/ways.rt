@@ -5,8 +5,8 @@ ghost use Rattle.net_questions.specs.Lint.{OwnersEndAt, IsTopmostOwner, ComesTo,
 use crate::hops::next_node;
 use crate::lookup::eid_at;
 use mctp_transport::Eid;
-use net_plan::Plan;
 use net_tables::lookup::owner_at;
+use plan_values::Plan;
 
 /// Whether the owner is a node's topmost one, and has no way to it.
 pub fn has_no_way_from_owner(plan: &Plan, node: usize, owner: usize) -> bool

@@ -1,6 +1,6 @@
 //! Between which endpoint IDs, and at which entries, a rule can be broken at a node.
 ghost use Rattle.std.specs.Prelude.{ℕ, ◌<◌, ◌≤◌, length, Some};
-ghost use Rattle.net_plan.specs.declared.certificate.Certificate.{Certificate};
+ghost use Rattle.plan_values.specs.declared.certificate.Certificate.{Certificate};
 ghost use Rattle.net_tables.specs.Routing.{rows_of, Covers, Holds, OfItem};
 ghost use Rattle.net_tables.specs.Repositories.{records_of};
 ghost use Rattle.net_rules.specs.Locators.{LocatesTerminus};
@@ -10,8 +10,8 @@ ghost use Rattle.net_rules.specs.FaultLists.{IsOutside};
 use crate::all_faults::locators::located_eid;
 use crate::rule::Rule;
 use mctp_transport::Eid;
-use net_plan::Plan;
 use net_tables::lookup::{eid_at, record_at, records_at, row_at, row_end, rows_at};
+use plan_values::Plan;
 
 /// Endpoint IDs from the first to before the end.
 #[derive(Clone, Copy)]

@@ -11,8 +11,8 @@ use crate::rule::Rule;
 use crate::rules::owners::is_below_its_owner;
 use crate::rules::superfluous::needs_what_it_is_given;
 use mctp_transport::Eid;
-use net_plan::Plan;
 use net_tables::lookup::{has_row, holds};
+use plan_values::Plan;
 
 /// Whether it does at a row or a record of the node, or at the node itself, and an endpoint ID or none.
 pub fn is_met(

@@ -11,8 +11,8 @@ use crate::rules::owners::has_bridge_as_owner;
 use crate::rules::pools::{has_lawful_pool, is_in_its_pool};
 use crate::rules::records::has_records;
 use mctp_transport::Eid;
-use net_plan::Plan;
 use net_tables::lookup::holds;
+use plan_values::Plan;
 
 /// Whether it does at the node itself.
 pub fn is_met_at_node(plan: &Plan, rule: Rule, node: usize) -> bool

@@ -9,7 +9,7 @@ use crate::plan_fault::first_of_plan_at;
 use crate::rule::Rule;
 use crate::spot::Spot;
 use mctp_transport::Eid;
-use net_plan::{Certificate, Plan};
+use plan_values::{Certificate, Plan};
 use std::alloc::{AllocError, Global};
 
 /// A plan, the first holders of its endpoint IDs, and, where there is a certificate, its ranks.

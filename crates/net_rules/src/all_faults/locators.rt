@@ -1,13 +1,13 @@
 //! What a record locates, if it is a terminus locator.
 ghost use Rattle.std.specs.Prelude.{◌≡◌, ◌≢◌, ◌↔◌, ◌∷◌, [], ℕ, IsTrue, Some};
-ghost use Rattle.net_plan.specs.declared.plan.Plan.{Plan};
+ghost use Rattle.plan_values.specs.declared.plan.Plan.{Plan};
 ghost use Rattle.net_tables.specs.Routing.{eid_number};
 ghost use Rattle.net_rules.specs.Locators.{HasOneByteAsEid, IsHeldByTerminus, LocatesTerminus};
 
 use crate::holders::Holders;
 use crate::rules::locators::{eid_locator, is_held_by_terminus};
 use mctp_transport::Eid;
-use net_plan::{Plan, PlannedRecord};
+use plan_values::{Plan, PlannedRecord};
 
 /// Whether the record, as a terminus locator, has a value of one byte.
 #[tactic(auto, unfolding(crate::specs::Locators::HasOneByteAsEid))]

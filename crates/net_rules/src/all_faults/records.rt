@@ -1,6 +1,6 @@
 //! Whether a record of a node's terminus is as the rules demand.
 ghost use Rattle.std.specs.Prelude.{◌≡◌, ◌≢◌, ◌<◌, ◌↔◌, ◌+◌, ◌⊎◌, ℕ, IsTrue, IfSome, Some, length, map, slice_get};
-ghost use Rattle.net_plan.specs.declared.terminus.PlannedRecord.{PlannedRecord};
+ghost use Rattle.plan_values.specs.declared.terminus.PlannedRecord.{PlannedRecord};
 ghost use Rattle.net_tables.specs.Routing.{OfItem};
 ghost use Rattle.net_tables.specs.Repositories.{records_of, places_of, HasNewHandle, IsChained, IsHandleAt};
 ghost use Rattle.pdr_repository.specs.Records.{IsRecordOf};
@@ -9,9 +9,9 @@ ghost use Rattle.net_rules.specs.Locators.{HasOneByteAsEid, LocatesTerminus};
 use crate::all_faults::locators::{has_one_byte_as_eid, locates_terminus};
 use crate::holders::Holders;
 use mctp_transport::Eid;
-use net_plan::{Certificate, Plan, PlannedRecord, RecordPlace};
 use net_tables::lookup::{places_at, record_at, records_at};
 use pdr_repository::is_record;
+use plan_values::{Certificate, Plan, PlannedRecord, RecordPlace};
 
 /// Whether the record's handle is not 0, and no earlier record's.
 pub fn is_handle_new(plan: &Plan, node: usize, index: usize) -> bool

@@ -13,8 +13,8 @@ use crate::rules::held_eids::is_led_on;
 use crate::rules::ranks::falls;
 use crate::rules::rows::{is_apart_from_all, is_in_range, names_neighbor};
 use mctp_transport::Eid;
-use net_plan::Plan;
 use net_tables::lookup::{covers, row_at, rows_at};
+use plan_values::Plan;
 
 /// Whether the row covers an endpoint ID, and only such as can be held.
 pub fn is_row_in_range(plan: &Plan, node: usize, row: usize) -> bool

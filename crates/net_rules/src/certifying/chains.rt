@@ -5,43 +5,32 @@ ghost use Rattle.net_rules.specs.Search.{IsFirstItem};
 ghost use Rattle.net_rules.specs.RecordChains.{HasNext, HasNewNext, HaveNewHandles, IsChainOf, IsIndexOf, AreLinked, AreFromTheEnd};
 
 use crate::certifying::handle_index::{HandleIndex, first_at, index_of};
-use net_plan::{PlannedRecord, RecordPlace};
+use plan_values::{PlannedRecord, RecordPlace};
 use std::alloc::{AllocError, Global};
 
-/// What is wrong with a chain of records, and at which record of the list.
+/// What is wrong with a chain of records. It is told of the first record of the list of which it is so.
 #[derive(Clone, Copy, Debug, PartialEq, Eq)]
 pub enum ChainFault {
-    /// The first record whose next handle is neither 0 nor a record's handle.
-    Missing(usize),
-    /// The first record whose next handle, 0 too, is an earlier record's.
-    Doubled(usize),
-    /// The first record that the next handles lead back to itself.
-    Circle(usize),
+    /// The record's next handle is neither 0 nor a record's handle.
+    Missing,
+    /// The record's next handle, 0 too, is an earlier record's.
+    Doubled,
+    /// The next handles lead from the record back to itself.
+    Circle,
 }
 
 impl ChainFault {
     ghost use Rattle.std.specs.Prelude.{◌≡◌};
-    ghost use Rattle.net_rules.specs.RecordChains.{chain_word_of, chain_entry_of};
+    ghost use Rattle.net_rules.specs.RecordChains.{chain_word_of};
 
     /// What is wrong, in the word that users see.
     pub fn word(self) -> &'static str
         ensures { result.now ≡ chain_word_of self }
     {
         match self {
-            ChainFault::Missing(_) => "missing",
-            ChainFault::Doubled(_) => "doubled",
-            ChainFault::Circle(_) => "circle",
-        }
-    }
-
-    /// The place of the record in the list.
-    pub fn entry(self) -> usize
-        ensures { result ≡ chain_entry_of self }
-    {
-        match self {
-            ChainFault::Missing(record)
-            | ChainFault::Doubled(record)
-            | ChainFault::Circle(record) => record,
+            ChainFault::Missing => "missing",
+            ChainFault::Doubled => "doubled",
+            ChainFault::Circle => "circle",
         }
     }
 }
@@ -51,8 +40,8 @@ impl ChainFault {
 pub enum Chained {
     /// For each record, in the order of the list, its place.
     Places(Vec<RecordPlace>),
-    /// There are no places.
-    Bad(ChainFault),
+    /// There are no places: what is wrong, and the index of the record in the list.
+    Bad(ChainFault, usize),
 }
 
 /// The places of the records along their next handles, or what is wrong with these.
@@ -63,11 +52,11 @@ pub fn chain_of(alloc: Global, records: &[PlannedRecord]) -> Result<Chained, All
 {
     let handles = handles_of(alloc, records)?;
     if let Some(record) = first_missing(records, &handles) {
-        return Ok(Chained::Bad(ChainFault::Missing(record)));
+        return Ok(Chained::Bad(ChainFault::Missing, record));
     }
     let nexts = nexts_of(alloc, records)?;
     if let Some(record) = first_doubled(records, &nexts) {
-        return Ok(Chained::Bad(ChainFault::Doubled(record)));
+        return Ok(Chained::Bad(ChainFault::Doubled, record));
     }
     let places = places_from_the_end(alloc, records, &nexts)?;
     all_places(alloc, records, &places)
@@ -197,7 +186,7 @@ fn all_places(
             Some(place) => all.push(RecordPlace {
                 value: *place as u16,
             })?,
-            None => return Ok(Chained::Bad(ChainFault::Circle(record))),
+            None => return Ok(Chained::Bad(ChainFault::Circle, record)),
         }
     }
     Ok(Chained::Places(all))

@@ -4,7 +4,7 @@ ghost use Rattle.net_rules.specs.Certificates.{AreExactLevels, AreLevelsBefore, 
 
 use crate::certify_error::CertifyError;
 use crate::certifying::levels::levels_of;
-use net_plan::{NodeLevel, Plan};
+use plan_values::{NodeLevel, Plan};
 use std::alloc::{AllocError, Global};
 
 /// The levels of the nodes that have an owner, in plan order, or the first owner loop.

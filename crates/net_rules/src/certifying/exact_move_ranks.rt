@@ -17,9 +17,9 @@ use crate::certifying::stretches::{Stretch, lesser, stretch_from};
 use crate::certifying::tables::certifying_tables;
 use crate::mixed_loop::MixedLoop;
 use crate::move_obstacle::MoveObstacle;
-use mctp_bridge::RangeTable;
+use mctp_routing::RangeTable;
 use mctp_transport::Eid;
-use net_plan::{NodeRanks, Plan};
+use plan_values::{NodeRanks, Plan};
 use std::alloc::{AllocError, Global};
 
 /// For the nodes that have some, in their order, the ranks that fall along the rows of both plans and are no greater

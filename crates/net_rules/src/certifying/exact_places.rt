@@ -6,8 +6,8 @@ ghost use Rattle.net_rules.specs.Certificates.{AreExactPlaces, ArePlacesBefore, 
 
 use crate::certify_error::CertifyError;
 use crate::certifying::chains::{Chained, chain_of};
-use net_plan::{NodePlaces, Plan};
 use net_tables::lookup::records_at;
+use plan_values::{NodePlaces, Plan};
 use std::alloc::{AllocError, Global};
 
 /// The places of each terminus's records, in plan order, or the first bad chain.
@@ -46,7 +46,7 @@ fn add_places(
     }
     match chain_of(alloc, records)? {
         Chained::Places(places) => Ok(push_places(given, NodePlaces { node, places })?),
-        Chained::Bad(fault) => Err(CertifyError::BadChain(node, fault)),
+        Chained::Bad(kind, entry) => Err(CertifyError::BadChain(node, kind, entry)),
     }
 }
 

@@ -10,7 +10,7 @@ use crate::certifying::stretches::stretch_from;
 use crate::certifying::tables::certifying_tables;
 use crate::certifying::walks::Walked;
 use mctp_transport::Eid;
-use net_plan::{NodeRanks, Plan};
+use plan_values::{NodeRanks, Plan};
 use std::alloc::Global;
 
 /// The ranks of the nodes that have some, in plan order, or the first routing loop.

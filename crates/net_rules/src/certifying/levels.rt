@@ -7,7 +7,7 @@ ghost use Rattle.net_rules.specs.Certificates.{NamesOwnerLoop};
 
 use crate::certify_error::CertifyError;
 use crate::certifying::walks::{Walked, walk};
-use net_plan::Plan;
+use plan_values::Plan;
 use std::alloc::{AllocError, Global};
 
 /// For each node, in the plan's order, the number of owners above it, at most 63; or the loop of the first node that

@@ -7,10 +7,10 @@ ghost use Rattle.net_tables.specs.Tables.{SendsAs, AreTables};
 ghost use Rattle.net_rules.specs.Circles.{IsWalked};
 
 use crate::certifying::walks::{Walked, walk};
-use mctp_bridge::RangeTable;
+use mctp_routing::RangeTable;
 use mctp_transport::Eid;
-use net_plan::Plan;
 use net_tables::lookup::holds;
+use plan_values::Plan;
 use std::alloc::{AllocError, Global};
 
 /// Where what is for the endpoint ID ends up from each node: at an end of its way, or on a circle.

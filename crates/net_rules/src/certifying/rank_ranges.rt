@@ -4,8 +4,8 @@ ghost use Rattle.net_rules.specs.RankRuns.{Precedes, Continues, AreGrown, GrowsB
 
 use crate::certifying::stretches::Stretch;
 use mctp_transport::Eid;
-use net_plan::{NodeRanks, RankRange};
 use net_tables::lookup::range_end;
+use plan_values::{NodeRanks, RankRange};
 use std::alloc::{AllocError, Global};
 
 /// No ranges for each of `count` nodes.

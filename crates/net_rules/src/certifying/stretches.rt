@@ -5,9 +5,9 @@ ghost use Rattle.net_tables.specs.Rows.{RowsAreApart};
 ghost use Rattle.net_tables.specs.Tables.{SendsAs, AreTables};
 ghost use Rattle.net_rules.specs.MovingAlike.{MovesAlike, MoveAlike, HoldsAlike, HaveOneHop, HoldsBeside, HaveEdge, IsCutAt, IsCut};
 
-use mctp_bridge::RangeTable;
+use mctp_routing::RangeTable;
 use mctp_transport::Eid;
-use net_plan::Plan;
+use plan_values::Plan;
 
 /// The last endpoint ID that a node can hold.
 const LAST: u8 = 254;

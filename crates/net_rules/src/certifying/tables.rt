@@ -3,9 +3,9 @@ ghost use Rattle.std.specs.Prelude.{◌≡◌, IfOk, length};
 ghost use Rattle.net_tables.specs.Rows.{RowsAreApart, RowsAreInRange};
 ghost use Rattle.net_tables.specs.Tables.{AreTables};
 
-use mctp_bridge::RangeTable;
-use net_plan::Plan;
+use mctp_routing::RangeTable;
 use net_tables::routing_tables;
+use plan_values::Plan;
 use std::alloc::{AllocError, Global};
 
 /// The routing tables of the plan's nodes.

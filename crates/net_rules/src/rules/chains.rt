@@ -9,8 +9,8 @@ ghost use Rattle.net_rules.specs.Search.{IsFirstItem, IsFirstSpot};
 
 use crate::rule::Rule;
 use crate::spot::Spot;
-use net_plan::{Certificate, Plan, PlannedRecord, RecordPlace};
 use net_tables::lookup::{places_at, records_at};
+use plan_values::{Certificate, Plan, PlannedRecord, RecordPlace};
 use std::alloc::{AllocError, Global};
 use std::collections::BTreeSet;
 

@@ -8,7 +8,7 @@ use crate::holders::Holders;
 use crate::rule::Rule;
 use crate::spot::Spot;
 use mctp_transport::Eid;
-use net_plan::Plan;
+use plan_values::Plan;
 
 /// Where the node's endpoint ID cannot be held.
 pub fn unassignable_eid(plan: &Plan, node: usize) -> Option<Spot>

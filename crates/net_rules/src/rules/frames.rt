@@ -3,7 +3,7 @@ ghost use Rattle.std.specs.Prelude.{◌≡◌, ◌<◌, ◌↔◌, IsTrue, lengt
 ghost use Rattle.net_rules.specs.MoveRules.{HaveSameFrame, IsSameNode};
 ghost use Rattle.net_rules.specs.MoveSearch.{IsFirstUnlike};
 
-use net_plan::{Plan, are_same, are_same_but_rows};
+use plan_values::{Plan, are_same, are_same_but_rows};
 
 /// Whether the plans have the same transmission unit, the same buses, in one order, and as many nodes.
 #[tactic(auto, unfolding(crate::specs::MoveRules::HaveSameFrame))]

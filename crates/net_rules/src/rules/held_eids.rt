@@ -12,8 +12,8 @@ use crate::plans::Plans;
 use crate::spot::Spot;
 use crate::stretches::{Stretched, first_broken};
 use mctp_transport::Eid;
-use net_plan::{Plan, Row};
 use net_tables::lookup::{holds, is_bridge, row_end, rows_at};
+use plan_values::{Plan, Row};
 
 /// Where a row of one of the plans leads what another node holds to a node that neither holds it nor leads it on, by
 /// each of the plans.

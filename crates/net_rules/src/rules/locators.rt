@@ -10,9 +10,9 @@ use crate::holders::Holders;
 use crate::rule::Rule;
 use crate::spot::Spot;
 use mctp_transport::{Eid, Wire};
-use net_plan::{Plan, PlannedRecord};
 use net_tables::lookup::{holds, records_at, terminus_at};
 use pdr_record::{Body, TERMINUS_LOCATOR, TerminusLocator, has_type};
+use plan_values::{Plan, PlannedRecord};
 
 /// Where a terminus locator does not locate a terminus of the plan.
 pub fn misleading_locator(plan: &Plan, holders: &Holders<'_>, node: usize) -> Option<Spot>

@@ -6,7 +6,7 @@ ghost use Rattle.net_rules.specs.Search.{IsFirstSpot};
 
 use crate::rule::Rule;
 use crate::spot::Spot;
-use net_plan::Plan;
+use plan_values::Plan;
 
 /// Where an earlier node has the node's name.
 pub fn repeated_name(plan: &Plan, node: usize) -> Option<Spot>

@@ -8,8 +8,8 @@ ghost use Rattle.net_rules.specs.Search.{IsFirstSpot};
 
 use crate::rule::Rule;
 use crate::spot::Spot;
-use net_plan::{Certificate, Plan, Port};
 use net_tables::lookup::{is_bridge, is_on_bus, level_of, owner_at, ports_at};
+use plan_values::{Certificate, Plan, Port};
 
 /// Where the node's owner is no bridge that shares a bus with it.
 pub fn owner_without_bridge(plan: &Plan, node: usize) -> Option<Spot>

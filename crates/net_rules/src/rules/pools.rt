@@ -9,8 +9,8 @@ ghost use Rattle.net_rules.specs.Search.{IsFirstSpot};
 use crate::rule::Rule;
 use crate::spot::Spot;
 use mctp_transport::Eid;
-use net_plan::{Plan, Pool};
 use net_tables::lookup::{is_bridge, is_in_pool_of, owner_at, pool_at, pool_end};
+use plan_values::{Plan, Pool};
 
 /// Where the node's endpoint ID lies outside the pool of its owner, or in a pool of a bridge with the same owner.
 pub fn eid_out_of_its_pool(plan: &Plan, node: usize) -> Option<Spot>

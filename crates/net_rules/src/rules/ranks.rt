@@ -9,8 +9,8 @@ use crate::certified_ranks::CertifiedRanks;
 use crate::rule::Rule;
 use crate::spot::Spot;
 use mctp_transport::Eid;
-use net_plan::{Plan, Row};
 use net_tables::lookup::{holds, row_end, rows_at};
+use plan_values::{Plan, Row};
 
 /// Where a row leads to a node of the same rank or a higher one.
 pub fn row_without_fall(plan: &Plan, ranks: &CertifiedRanks<'_>, node: usize) -> Option<Spot>

@@ -10,9 +10,9 @@ ghost use Rattle.net_rules.specs.Search.{IsFirstItem, IsFirstSpot};
 
 use crate::rule::Rule;
 use crate::spot::Spot;
-use net_plan::{Plan, PlannedRecord};
 use net_tables::lookup::{records_at, terminus_at};
 use pdr_repository::{ascend, is_record};
+use plan_values::{Plan, PlannedRecord};
 use std::alloc::{AllocError, Global};
 use std::collections::BTreeSet;
 

@@ -7,8 +7,8 @@ ghost use Rattle.net_rules.specs.Search.{IsFirstItem, IsFirstSpot};
 use crate::covered_eids::CoveredEids;
 use crate::rule::Rule;
 use crate::spot::Spot;
-use net_plan::{Plan, Row};
 use net_tables::lookup::{bus_at, is_bridge, is_on_bus, row_end, rows_at};
+use plan_values::{Plan, Row};
 
 /// Where a row is empty or reaches beyond the endpoint IDs that can be held.
 pub fn row_out_of_range(plan: &Plan, node: usize) -> Option<Spot>

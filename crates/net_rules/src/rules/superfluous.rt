@@ -14,8 +14,8 @@ use crate::plans::Plans;
 use crate::rows_in_force::RowsInForce;
 use crate::spot::Spot;
 use mctp_transport::Eid;
-use net_plan::{Certificate, Plan};
 use net_tables::lookup::{given_level_of, holds, owner_at, places_at, ranges_at, records_at};
+use plan_values::{Certificate, Plan};
 
 /// Where the certificate gives the node a level or places that the plan has no use for, or a rank that none of the
 /// plans has a use for.

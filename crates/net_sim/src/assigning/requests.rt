@@ -9,7 +9,7 @@ use mctp_control::{
     SetOperation,
 };
 use mctp_transport::Eid;
-use net_plan::Pool;
+use plan_values::Pool;
 
 /// The header of a request that wants a response.
 fn header() -> ControlHeader

@@ -12,8 +12,8 @@ mod telling;
 use crate::effect::Effect;
 use crate::network::Network;
 use crate::outcome::Outcome;
-use net_plan::Event;
 use pdr_repository::Terminus;
+use plan_values::Event;
 use std::alloc::AllocError;
 
 impl<'a, T: Terminus> Network<'a, T> {

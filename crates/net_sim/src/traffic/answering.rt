@@ -42,9 +42,11 @@ impl<'a, T: Terminus> Traffic<'a, T> {
             return Ok(Effect::Refused(Refusal::NoNumbers));
         }
         let Ok(rooms) = rooms_for_answer(self.alloc, self.unit()) else {
+            // no memory: there was no room for the payloads of an answer.
             return Err(AllocError);
         };
         if self.reserve(64).is_err() {
+            // no memory: the flights could not grow.
             return Err(AllocError);
         }
         let Some(asked) = answer_at(&mut self.queues[node], out) else {

@@ -9,7 +9,7 @@ use crate::flights::Flight;
 use crate::receiving::{Receipt, feed, room_for_message};
 use crate::refusal::Refusal;
 use crate::terminus_queue::{reserve_at, wait_at};
-use mctp_bridge::Decision;
+use mctp_routing::Decision;
 use mctp_transport::{Header, Key};
 use pdr_repository::Terminus;
 use std::alloc::AllocError;
@@ -96,11 +96,11 @@ impl<'a, T: Terminus> Traffic<'a, T> {
         ensures assemblers { self.new.assemblers.items ≡ self.old.assemblers.items }
         ensures termini { (traffic_value T.tid T.records self.new).termini
             ≡ (traffic_value T.tid T.records self.old).termini }
-        ensures enough { IfOk result (λ room. decided.now.decision ≡ Decision.Deliver → IsRoomAt self.new decided.now.node decided.now.header room) }
-        ensures full { OnErr result ((decided.now.decision ≡ Decision.Deliver)
+        ensures enough { IfOk result (λ room. decided.now.decision ≡ Decision.Here → IsRoomAt self.new decided.now.node decided.now.header room) }
+        ensures full { OnErr result ((decided.now.decision ≡ Decision.Here)
             × ((decided.now.header.eom ≡ true) ⊎ ¬ HasRoomAt self.old decided.now.node)) }
     {
-        let Decision::Deliver = decided.decision else {
+        let Decision::Here = decided.decision else {
             return Ok(Room {
                 told: Vec::new(self.alloc),
                 kept: Vec::new(self.alloc),
@@ -136,13 +136,13 @@ impl<'a, T: Terminus> Traffic<'a, T> {
     /// Moves the flight of this number, as was decided.
     fn carry_out(&mut self, number: u32, decided: &DecidedMove, room: Room) -> Effect
         requires decided { IsDecidedMove self.old.router (slots_of self.old.flights) number decided.now }
-        requires enough { decided.now.decision ≡ Decision.Deliver → IsRoomAt self.old decided.now.node decided.now.header room }
+        requires enough { decided.now.decision ≡ Decision.Here → IsRoomAt self.old decided.now.node decided.now.header room }
         ensures router { self.new.router ≡ self.old.router }
         ensures moves { CarriesOutMove self.old.router.tables (traffic_value T.tid T.records self.old) number
             (effect_value result) (traffic_value T.tid T.records self.new) }
     {
         match decided.decision {
-            Decision::Deliver => {
+            Decision::Here => {
                 let Some(flight) = self.end(number) else {
                     unreachable!();
                 };

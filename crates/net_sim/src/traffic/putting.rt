@@ -37,6 +37,7 @@ impl<'a, T: Terminus> Traffic<'a, T> {
             return Ok(Effect::Refused(Refusal::NoNumbers));
         }
         let Ok(room) = self.room_for_flight(packet.payload.len()) else {
+            // no memory: the flights could not grow, or there was no room for the payload.
             return Err(AllocError);
         };
         let number = self.add(Some(Flight::put_in(node, packet, room)));

@@ -1,6 +1,6 @@
 //! Events that are asked again where memory ran out. `tools/try growths` refuses the growths one after another.
-use net_plan::Event;
 use net_sim::{Network, Outcome, Played};
+use plan_values::Event;
 use sample_texts::marks::{Mark, set_mark};
 use std::alloc::{AllocError, Global};
 use std::test::Fail;

@@ -2,8 +2,8 @@
 use super::networks::{certificate_of, plan_of};
 use mctp_transport::Wire;
 use net_check::check;
-use net_plan::{Certificate, Plan};
 use net_sim::{Assignment, assign};
+use plan_values::{Certificate, Plan};
 use sample_texts::marks::{Mark, lacked, set_mark};
 use sample_texts::riser::{CERTIFICATE, PLAN};
 use std::alloc::Global;

@@ -1,6 +1,6 @@
 //! Certificates that are written as they were read.
-use net_json::{certificate_of_text, plan_of_text, read_back, text_of_certificate};
-use net_plan::Plan;
+use net_plan::{certificate_of_text, plan_of_text, read_back, text_of_certificate};
+use plan_values::Plan;
 use sample_texts::riser;
 use std::alloc::Global;
 use std::test::Fail;

@@ -1,5 +1,5 @@
 //! The riser network's events.
-use net_plan::Event;
+use plan_values::Event;
 
 fn is_put(event: &Event, at: usize, packet: &[u8]) -> bool {
     match event {

@@ -1,7 +1,7 @@
 //! The faults that are found in networks.
 use mctp_transport::Eid;
 use net_check::{CheckError, Fault, Rule, check};
-use net_plan::{Certificate, Plan};
+use plan_values::{Certificate, Plan};
 use std::alloc::{AllocError, Global};
 
 /// A fault by its rule, its node, its entry and its endpoint ID.

@@ -1,7 +1,7 @@
 //! What comes of packets that end at a node, with their nodes and keys, which no command prints.
 use super::networks::{certificate_of, plan_of};
 use super::playing::{Way, told_on};
-use net_json::events_of_text;
+use net_plan::events_of_text;
 use sample_texts::riser::{CERTIFICATE, PLAN};
 use std::test::Fail;
 

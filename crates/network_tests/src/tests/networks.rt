@@ -1,9 +1,9 @@
 //! Networks of plans over termini, one for each node that has one.
 use net_check::{CheckedMove, check};
-use net_json::{certificate_of_text, plan_of_text};
-use net_plan::{Certificate, Plan};
+use net_plan::{certificate_of_text, plan_of_text};
 use net_sim::{Network, planned_termini_count};
 use pdr_repository::Terminus;
+use plan_values::{Certificate, Plan};
 use std::alloc::Global;
 use std::test::Fail;
 

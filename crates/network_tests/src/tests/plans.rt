@@ -1,6 +1,6 @@
 //! The riser network's plan.
 use mctp_transport::Eid;
-use net_plan::{Kind, Node, Plan, Pool, Row};
+use plan_values::{Kind, Node, Plan, Pool, Row};
 
 fn row(first: u8, size: u8, port: u8, next: usize) -> Row {
     Row {

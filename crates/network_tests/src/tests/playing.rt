@@ -2,8 +2,8 @@
 use super::asking_again;
 use super::networks::network_of;
 use super::termini::{planned_record, termini_of};
-use net_plan::{Certificate, Event, Plan};
 use net_sim::{Network, Outcome};
+use plan_values::{Certificate, Event, Plan};
 use std::alloc::{AllocError, Global};
 use std::test::Fail;
 

@@ -4,8 +4,8 @@ ghost use Rattle.std.specs.Prelude.{◌+◌, ◌<◌, ◌≤◌};
 use super::faults::{FaultAt, found, is_at};
 use mctp_transport::Eid;
 use net_check::Rule;
-use net_json::{certificate_of_text, plan_of_text};
-use net_plan::{Plan, RankRange};
+use net_plan::{certificate_of_text, plan_of_text};
+use plan_values::{Plan, RankRange};
 use std::alloc::Global;
 use std::test::Fail;
 

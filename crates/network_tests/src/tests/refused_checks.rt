@@ -3,8 +3,8 @@
 use super::faults::{FaultAt, found, is_at};
 use mctp_transport::Eid;
 use net_check::{CertifyError, MoveError, MoveFault, MoveRule, Rule, certify, check_move};
-use net_json::{certificate_of_text, plan_of_text};
-use net_plan::{Certificate, Plan};
+use net_plan::{certificate_of_text, plan_of_text};
+use plan_values::{Certificate, Plan};
 use sample_texts::certificates::is_the_riser_certificate;
 use sample_texts::marks::{Mark, lacked, set_mark};
 use sample_texts::riser::{CERTIFICATE, PLAN};

@@ -2,11 +2,11 @@
 //! `tools/try growths` refuses the growths one after another.
 use super::events::are_the_riser_events;
 use super::plans::is_the_riser_network;
-use net_json::{
+use net_plan::{
     Counted, PlanError, certificate_of_text, plan_of_text, read_certificate, read_events,
     read_plan, write_certificate,
 };
-use net_plan::{Certificate, Plan};
+use plan_values::{Certificate, Plan};
 use sample_texts::certificates::is_the_riser_certificate;
 use sample_texts::edited;
 use sample_texts::marks::{Mark, lacked, set_mark};

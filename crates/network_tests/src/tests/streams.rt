@@ -1,11 +1,11 @@
 //! Reading and writing piece by piece, and failures in mid-stream.
 use super::events::are_the_riser_events;
 use super::plans::is_the_riser_network;
-use net_json::{
+use net_plan::{
     Counted, PlanError, certificate_of_text, plan_of_text, read_certificate, read_events,
     read_plan, write_certificate,
 };
-use net_plan::{Certificate, Plan};
+use plan_values::{Certificate, Plan};
 use sample_texts::certificates::is_the_riser_certificate;
 use sample_texts::riser;
 use std::alloc::Global;

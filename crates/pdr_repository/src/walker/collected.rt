@@ -88,6 +88,7 @@ impl Collected {
         ensures records { self.new.records.items ≡ self.old.records.items }
         ensures room { OnOk result (vec_len self.new.records < vec_capacity self.new.records) }
         ensures full { OnErr result (vec_capacity self.old.records ≤ vec_len self.old.records) }
+        ensures lacks { OnErr result (vec_capacity self.new.records ≤ vec_len self.new.records) }
     {
         let len = self.records.len();
         if len < self.records.capacity() {

@@ -9,7 +9,7 @@ ghost use Rattle.plan_commands.specs.Collecting.{Goes, EndsEarlyFor, HasCollecte
 use arrayvec::ArrayVec;
 use command_answers::Refused;
 use command_questions::PartSize;
-use pdr_repository::{ListTerminus, MAX_RECORDS, Terminus, WalkFault, WalkProgress, Walker};
+use pdr_repository::{ListTerminus, MAX_RECORDS, Step, Terminus, WalkFault, Walker};
 use pldm_message::{InstanceId, InstanceIds};
 use std::alloc::Global;
 
@@ -30,7 +30,7 @@ pub fn collect(
 {
     let mut walker = Walker::new(alloc, part.bytes, MAX_RECORDS, MAX_BYTES)?;
     let mut ids = InstanceIds::new();
-    while exchange(&mut walker, terminus, &mut ids)? != WalkProgress::Done {}
+    while exchange(&mut walker, terminus, &mut ids)? != Step::Done {}
     Ok(walker)
 }
 
@@ -39,7 +39,7 @@ fn exchange(
     walker: &mut Walker,
     terminus: &mut ListTerminus,
     ids: &mut InstanceIds,
-) -> Result<WalkProgress, Refused>
+) -> Result<Step, Refused>
     requires few { length (list_records terminus.old) ≤ 4096 }
     requires lawful { IsLawful (list_records terminus.old) }
     requires free { (id : ℕ) → (ids_of ids.old).out id ≡ false }
@@ -48,7 +48,7 @@ fn exchange(
     ensures goes { Goes (list_records terminus.old) (state_of walker.old) result (state_of walker.new) }
 {
     let Some(id) = ids.take() else {
-        return Ok(WalkProgress::Done);
+        return Ok(Step::Done);
     };
     let step = exchange_under(walker, terminus, id);
     ids.give_back(id);
@@ -60,14 +60,14 @@ fn exchange_under(
     walker: &mut Walker,
     terminus: &mut ListTerminus,
     id: InstanceId,
-) -> Result<WalkProgress, Refused>
+) -> Result<Step, Refused>
     requires few { length (list_records terminus.old) ≤ 4096 }
     requires lawful { IsLawful (list_records terminus.old) }
     ensures kept { list_records terminus.new ≡ list_records terminus.old }
     ensures goes { Goes (list_records terminus.old) (state_of walker.old) result (state_of walker.new) }
 {
     let Some(request) = walker.next_request(id) else {
-        return Ok(WalkProgress::Done);
+        return Ok(Step::Done);
     };
     let mut answer = ArrayVec::new();
     terminus.answer(&request, &mut answer);

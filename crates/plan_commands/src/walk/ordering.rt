@@ -6,8 +6,8 @@ ghost use Rattle.pdr_repository.specs.ListTermini.{list_records};
 ghost use Rattle.pdr_repository.specs.Records.{IsLawful};
 
 use command_answers::records_by_place;
-use net_plan::{Certificate, Plan, PlannedTerminus};
 use pdr_repository::ListTerminus;
+use plan_values::{Certificate, Plan, PlannedTerminus};
 use pldm_message::Tid;
 use std::alloc::{AllocError, Global};
 

@@ -1,7 +1,7 @@
 //! In which order nodes and buses stand in a picture.
 
-use net_plan::Plan;
 use net_tables::lookup::{owner_at, ports_at};
+use plan_values::Plan;
 use std::alloc::{AllocError, Global};
 
 /// A node in the picture.

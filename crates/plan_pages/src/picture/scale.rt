@@ -1,6 +1,6 @@
 //! Where the columns of a picture stand, in pixels.
 
-use net_plan::Plan;
+use plan_values::Plan;
 use std::alloc::{AllocError, Global};
 
 /// Where the badges of the nodes begin, and where their names do.

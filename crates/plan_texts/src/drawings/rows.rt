@@ -8,8 +8,8 @@ ghost use Rattle.plan_texts.specs.RowDrawings.{AreLegs, IsLegOf, IsLead, Comes, 
 use super::{FIRST_LINE, LAST_LINE, node_lines, round_lines};
 use crate::lookups::span_text;
 use mctp_transport::Eid;
-use net_plan::{Certificate, Node, Plan, Row};
 use net_tables::lookup::{covers, holds, rows_at};
+use plan_values::{Certificate, Node, Plan, Row};
 use std::alloc::{AllocError, Global};
 
 /// Where the way of an endpoint ID from a node leads.

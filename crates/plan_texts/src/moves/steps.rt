@@ -6,9 +6,9 @@ ghost use Rattle.plan_texts.specs.MoveSteps.{change_text, eids_text, part_text, 
 use super::super::names_after_spaces;
 use super::move_obstacle_line;
 use crate::lookups::name_or_none;
-use net_plan::Plan;
 use net_rollout::{Change, Part, Rollout, Step};
 use net_tables::lookup::node_name;
+use plan_values::Plan;
 use std::alloc::{AllocError, Global};
 
 /// What the command `rollout` prints, with the nodes' names in the plan before. Out of memory is an error, and has no

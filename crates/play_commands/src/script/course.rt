@@ -5,9 +5,9 @@ ghost use Rattle.play_commands.specs.Scripting.{IsOfWalk};
 
 use command_questions::Flights;
 use mctp_transport::Key;
-use net_plan::Event;
 use net_sim::{Effect, Handed, Outcome};
-use pdr_repository::WalkProgress;
+use pdr_repository::Step;
+use plan_values::Event;
 use std::alloc::{AllocError, Global};
 use std::collections::VecDeque;
 
@@ -118,7 +118,7 @@ impl<'a> Course<'a> {
     /// Notes a message that came whole: an answer, which a walker was handed, or a request.
     fn note_whole(&mut self, node: usize, handed: &Option<Handed>) -> Result<(), AllocError> {
         match handed {
-            Some(handed) => self.done = matches!(handed.result, Ok(WalkProgress::Done)),
+            Some(handed) => self.done = matches!(handed.result, Ok(Step::Done)),
             None => self.waiting.push_back(node)?,
         }
         Ok(())

@@ -10,9 +10,9 @@ use command_answers::planned_network;
 use command_questions::WalkScript;
 use mctp_transport::Tag;
 use net_check::{AcceptedNetwork, Checked};
-use net_plan::Event;
 use net_sim::{Effect, Handed, Outcome, Standing};
 use pdr_repository::{BlockTerminus, WalkFault};
+use plan_values::Event;
 use std::alloc::{AllocError, Global};
 
 /// How many events a list has at most.

@@ -3,8 +3,8 @@ ghost use Rattle.std.specs.Prelude.{◌≡◌, IfOk, string_bytes};
 ghost use Rattle.play_commands.specs.ScriptTexts.{script_text, event_lines, event_text, expire_text, truth_word, bit_word};
 
 use mctp_transport::Key;
-use net_plan::{Event, Plan};
 use net_tables::lookup::node_name;
+use plan_values::{Event, Plan};
 use std::alloc::{AllocError, Global};
 
 /// The text of a list of events (format 3), an event a line.

@@ -1,16 +1,16 @@
 //! The command `sim` over the files that it reads.
 ghost use Rattle.std.specs.Prelude.{◌≡◌, IfOk, IfErr, map};
-ghost use Rattle.net_json.specs.Stream.{HasRoom};
+ghost use Rattle.net_plan.specs.Stream.{HasRoom};
 ghost use Rattle.net_sim.specs.Outcomes.{event_value};
-ghost use Rattle.command_answers.specs.Answers.{stream, IsWithoutPlan, AreGiven, IsFaultText};
+ghost use Rattle.command_answers.specs.Answers.{stream, IsWithoutPlan, AreGiven, AreWithoutCertificate, IsFaultText};
 ghost use Rattle.play_commands.specs.Simulating.{RunsOn, IsPlayText, AreUnreadAmong, PlaysSo, ConcludesPlay, TellsRun, IsSimFault, IsSimAnswer};
 ghost use Rattle.command_answers.specs.Inputs.{GaveEvents};
 
 use crate::sim::{end, play_planned};
 use command_answers::{Refused, Status, fault_answer, give, given_events, read_inputs};
 use net_check::{AcceptedNetwork, check};
-use net_json::{Sink, Source};
-use net_plan::{Certificate, Event, Plan};
+use net_plan::{Sink, Source};
+use plan_values::{Certificate, Event, Plan};
 use std::alloc::Global;
 
 /// Gives on `output` what comes of the events of a file in the network of a plan with its certificate, or the fault for
@@ -38,6 +38,8 @@ pub fn simulate<P: Source, C: Source, V: Source, O: Sink, E: Sink>(
         (output.new ≡ output.old) (errors.new ≡ errors.old) }
     ensures in_order { IsWithoutPlan (stream P.account plan.old plan.new)
         → (certificate.new ≡ certificate.old) × (events.new ≡ events.old) }
+    ensures certified_in_order { AreWithoutCertificate (stream P.account plan.old plan.new) (stream C.account certificate.old certificate.new)
+        → events.new ≡ events.old }
 {
     let answered = answer_files(alloc, plan, certificate, events, output);
     end(alloc, answered, errors)
@@ -62,6 +64,8 @@ fn answer_files<P: Source, C: Source, V: Source, O: Sink>(
         (output.new ≡ output.old) result (stream O.account output.old output.new) }
     ensures in_order { IsWithoutPlan (stream P.account plan.old plan.new)
         → (certificate.new ≡ certificate.old) × (events.new ≡ events.old) }
+    ensures certified_in_order { AreWithoutCertificate (stream P.account plan.old plan.new) (stream C.account certificate.old certificate.new)
+        → events.new ≡ events.old }
 {
     let (plan, certificate, events) = read_run(alloc, plan, certificate, events)?;
     play(alloc, &plan, &certificate, events.as_slice(), output)
@@ -88,6 +92,8 @@ pub fn read_run<P: Source, C: Source, V: Source>(
         IfErr result (λ why. AreUnreadAmong why plans certificates happenings) }
     ensures in_order { IsWithoutPlan (stream P.account plan.old plan.new)
         → (certificate.new ≡ certificate.old) × (events.new ≡ events.old) }
+    ensures certified_in_order { AreWithoutCertificate (stream P.account plan.old plan.new) (stream C.account certificate.old certificate.new)
+        → events.new ≡ events.old }
 {
     let (plan, certificate) = read_inputs(alloc, plan, certificate)?;
     let events = given_events(alloc, &plan, events)?;

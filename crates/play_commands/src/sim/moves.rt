@@ -1,17 +1,17 @@
 //! The command `simmove` over the files that it reads.
 ghost use Rattle.std.specs.Prelude.{◌≡◌, IfOk, IfErr, map};
-ghost use Rattle.net_json.specs.Stream.{HasRoom};
+ghost use Rattle.net_plan.specs.Stream.{HasRoom};
 ghost use Rattle.net_sim.specs.Outcomes.{event_value};
 ghost use Rattle.command_answers.specs.Answers.{stream, IsWithoutPlan};
-ghost use Rattle.command_answers.specs.Moves.{IsMoveFaultText};
+ghost use Rattle.command_answers.specs.Moves.{AreWithoutMoveCertificate, IsMoveFaultText};
 ghost use Rattle.play_commands.specs.MoveSimulating.{IsPlayGiven, MovesOn, IsMovePlayText, TellsMovedRun, IsPlayFault, IsPlayAnswer, IsPlayUnread};
 ghost use Rattle.play_commands.specs.Simulating.{PlaysSo, ConcludesPlay};
 
 use crate::sim::{end, play_planned};
 use command_answers::{Refused, Status, give, given_events, move_fault_answer, read_move};
 use net_check::{AcceptedNetwork, check_move};
-use net_json::{Sink, Source};
-use net_plan::{Certificate, Event, Plan};
+use net_plan::{Sink, Source};
+use plan_values::{Certificate, Event, Plan};
 use std::alloc::Global;
 
 /// Gives on `output` what comes of the events of a file in the network of the plan before, whose nodes may switch to
@@ -44,6 +44,9 @@ pub fn simulate_move<P: Source, Q: Source, C: Source, V: Source, O: Sink, E: Sin
         → (after.new ≡ after.old) × (certificate.new ≡ certificate.old) × (events.new ≡ events.old) }
     ensures after_in_order { IsWithoutPlan (stream Q.account after.old after.new)
         → (certificate.new ≡ certificate.old) × (events.new ≡ events.old) }
+    ensures certified_in_order { AreWithoutMoveCertificate (stream P.account before.old before.new)
+        (stream Q.account after.old after.new) (stream C.account certificate.old certificate.new)
+        → events.new ≡ events.old }
 {
     let answered = answer_move_files(alloc, before, after, certificate, events, output);
     end(alloc, answered, errors)
@@ -73,6 +76,9 @@ fn answer_move_files<P: Source, Q: Source, C: Source, V: Source, O: Sink>(
         → (after.new ≡ after.old) × (certificate.new ≡ certificate.old) × (events.new ≡ events.old) }
     ensures after_in_order { IsWithoutPlan (stream Q.account after.old after.new)
         → (certificate.new ≡ certificate.old) × (events.new ≡ events.old) }
+    ensures certified_in_order { AreWithoutMoveCertificate (stream P.account before.old before.new)
+        (stream Q.account after.old after.new) (stream C.account certificate.old certificate.new)
+        → events.new ≡ events.old }
 {
     let (before, after, certificate, events) = read_move_files(
         alloc,
@@ -119,6 +125,9 @@ fn read_move_files<P: Source, Q: Source, C: Source, V: Source>(
         → (after.new ≡ after.old) × (certificate.new ≡ certificate.old) × (events.new ≡ events.old) }
     ensures after_in_order { IsWithoutPlan (stream Q.account after.old after.new)
         → (certificate.new ≡ certificate.old) × (events.new ≡ events.old) }
+    ensures certified_in_order { AreWithoutMoveCertificate (stream P.account before.old before.new)
+        (stream Q.account after.old after.new) (stream C.account certificate.old certificate.new)
+        → events.new ≡ events.old }
 {
     let (before, after, certificate) = read_move(alloc, before, after, certificate)?;
     let events = given_events(alloc, &before, events)?;

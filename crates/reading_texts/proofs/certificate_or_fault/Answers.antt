@@ -1,6 +1,6 @@
 use Rattle.std.proofs.Common.{◌≡◌, Err, rules}
 use Rattle.json.specs.Value.{value_view}
-use Rattle.net_plan.specs.PlanValues.{plan_value}
+use Rattle.plan_values.specs.PlanValues.{plan_value}
 use Rattle.reading_texts.proofs.TextErrors.{certificate_sound, certificate_told}
 use Rattle.reading_texts.proofs.certificate_or_fault.Goals as goal
 

@@ -16,3 +16,6 @@ returns-in-Ok-clause-in_order g c = λ without. absurd (without c.in-Ok.plan c.i
 
 pub returns-in-Err-clause-concludes : goal.returns-in-Err-clause-concludes
 returns-in-Err-clause-concludes g c = on_both (concludes_unread _ _ _ _ _ _ _ c.in-Err.refused c.in-Err.ensures.unread c.refuse.ensures.refuses refl)
+
+pub returns-in-Ok-clause-certified_in_order : goal.returns-in-Ok-clause-certified_in_order
+returns-in-Ok-clause-certified_in_order g c = λ without. absurd (without c.in-Ok.plan c.in-Ok.certificate c.in-Ok.ensures.given)

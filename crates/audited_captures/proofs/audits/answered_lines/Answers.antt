@@ -1,6 +1,6 @@
 use Rattle.std.proofs.Common.{◌≡◌, ◌∙◌, ap, map}
 use Rattle.mctp_control.specs.RouteEntries.{entry_value}
-use Rattle.net_plan.specs.NodeValues.{name_bytes}
+use Rattle.plan_values.specs.NodeValues.{name_bytes}
 use Rattle.audited_captures.specs.Exchanges.{exchange_value}
 use Rattle.audited_captures.specs.Answers.{answer_values}
 use Rattle.audited_captures.specs.Lines.{line_value}

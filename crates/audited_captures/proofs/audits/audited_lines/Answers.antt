@@ -1,7 +1,7 @@
 use Rattle.std.proofs.Common.{sym, subst, ap, ◌∙◌, length, map}
 use Rattle.std.proofs.lemmas.List.{length-map}
 use Rattle.bus_captures.specs.Values.{entry_value}
-use Rattle.net_plan.specs.declared.plan.Plan.{Plan}
+use Rattle.plan_values.specs.declared.plan.Plan.{Plan}
 use Rattle.pdr_repository.specs.Records.{entries}
 use Rattle.audited_captures.specs.Audits.{HasTables, AreBeside}
 use Rattle.audited_captures.specs.Lines.{line_value}

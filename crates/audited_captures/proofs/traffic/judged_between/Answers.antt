@@ -1,6 +1,6 @@
 use Rattle.std.proofs.Common.{sym, ap, ◌∙◌, subst}
 use Rattle.std.specs.Prelude.{Option}
-use Rattle.net_plan.specs.declared.plan.Plan.{Plan}
+use Rattle.plan_values.specs.declared.plan.Plan.{Plan}
 use Rattle.audited_captures.specs.Judging.{why_by}
 use Rattle.audited_captures.specs.Traffic.{Unplanned, IsJudged}
 use Rattle.audited_captures.proofs.TrafficLaws.{way_decides}

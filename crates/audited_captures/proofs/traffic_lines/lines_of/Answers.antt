@@ -1,6 +1,6 @@
 use Rattle.std.proofs.Common.{subst, map, []}
 use Rattle.std.specs.Prelude.{IfOk, Option, option_map}
-use Rattle.net_plan.specs.declared.plan.Plan.{Plan}
+use Rattle.plan_values.specs.declared.plan.Plan.{Plan}
 use Rattle.audited_captures.specs.Judging.{unplanned_value}
 use Rattle.audited_captures.specs.Lines.{line_value}
 use Rattle.audited_captures.specs.Packets.{numbered_packet}

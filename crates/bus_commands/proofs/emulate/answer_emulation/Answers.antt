@@ -12,3 +12,6 @@ returns-clause-answers g c =
 
 pub returns-clause-in_order : goal.returns-clause-in_order
 returns-clause-in_order g c = λ without. absurd (without c.in_ok-plan.plan c.in_ok-plan.ensures.given.plan_text)
+
+pub returns-clause-certified_in_order : goal.returns-clause-certified_in_order
+returns-clause-certified_in_order g c = λ without. absurd (without c.in_ok-plan.plan c.in_ok-plan.certificate c.in_ok-plan.ensures.given)

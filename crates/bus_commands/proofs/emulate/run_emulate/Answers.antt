@@ -44,3 +44,12 @@ returns-in-Err-Unsaid-clause-emulates g c =
     let is : answered.result ≡ Err stop.Unsaid = search rules in
     stops_unsaid c.args.emulation.now plans certificates inputs outputs said
     (subst (λ (r : Result Status Stop). AnswersEmulation c.args.emulation.now plans certificates r inputs outputs said) is answered.ensures.answers)
+
+pub returns-in-Ok-clause-in_order : goal.returns-in-Ok-clause-in_order
+returns-in-Ok-clause-in_order g c = λ without. let kept = c.answer_emulation.ensures.in_order without in (kept.0, kept.1, kept.2)
+
+pub returns-in-Err-Refused-clause-in_order : goal.returns-in-Err-Refused-clause-in_order
+returns-in-Err-Refused-clause-in_order g c = λ without. let kept = c.answer_emulation.ensures.in_order without in (kept.0, kept.1, kept.2)
+
+pub returns-in-Err-Unsaid-clause-in_order : goal.returns-in-Err-Unsaid-clause-in_order
+returns-in-Err-Unsaid-clause-in_order g c = λ without. let kept = c.answer_emulation.ensures.in_order without in (kept.0, kept.1, kept.2)

@@ -1,6 +1,6 @@
 use Rattle.std.proofs.Common.{rules, ◌≡◌, ◌∙◌, None, ap, slice_get}
 use Rattle.std.specs.Option.{option_and_then}
-use Rattle.net_plan.specs.declared.nodes.Row.{Row}
+use Rattle.plan_values.specs.declared.nodes.Row.{Row}
 use Rattle.net_tables.specs.Routing.{ports_of}
 use Rattle.bus_commands.proofs.hops.port_towards.Goals as goal
 

@@ -1,7 +1,7 @@
 use Rattle.std.proofs.Common.{◌≡◌, ◌<◌, length, Some, sym, subst, refl}
 use Rattle.std.proofs.lemmas.Option.{slice_get_read}
 use Rattle.command_answers.proofs.Places.{checked_orders}
-use Rattle.net_plan.specs.declared.plan.Plan.{Plan}
+use Rattle.plan_values.specs.declared.plan.Plan.{Plan}
 use Rattle.net_tables.specs.Routing.{node_at, rows_of}
 use Rattle.net_tables.specs.Tables.{AreRows}
 use Rattle.plan_exports.specs.PlannedTables.{HasLawfulRows}

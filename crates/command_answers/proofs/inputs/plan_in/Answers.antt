@@ -1,6 +1,6 @@
 use Rattle.std.proofs.Common.{rules, List, ℕ, refl, subst}
-use Rattle.net_json.specs.PlanReading.{plan}
-use Rattle.net_json.specs.PlanText.{IsPlanOf}
+use Rattle.net_plan.specs.PlanReading.{plan}
+use Rattle.net_plan.specs.PlanText.{IsPlanOf}
 use Rattle.net_pointers.specs.Asks.{plan_text}
 use Rattle.reading_texts.specs.TextErrors.{IsToldAs}
 use Rattle.reading_texts.specs.declared.text_error.TextError.TheVariants.{Faulty}

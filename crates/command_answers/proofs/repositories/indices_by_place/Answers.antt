@@ -2,7 +2,7 @@ use Rattle.std.proofs.Common.{◌≡◌, ◌∙◌, ◌==◌, ◌<◌, ◌+◌, 
 use Rattle.std.specs.Option.{option_or}
 use Rattle.std.specs.Prelude.{position, slice_index_or}
 use Rattle.net_rules.proofs.KnownEnds.{written_whole}
-use Rattle.net_plan.specs.declared.certificate.RecordPlace.{RecordPlace}
+use Rattle.plan_values.specs.declared.certificate.RecordPlace.{RecordPlace}
 use Rattle.command_answers.specs.Ordering.{AreFirstAt}
 use Rattle.command_answers.proofs.Places.{first_given_more}
 use Rattle.command_answers.proofs.repositories.indices_by_place.Goals as goal

@@ -5,8 +5,8 @@ use Rattle.net_check.proofs.Accepted.{orders}
 use Rattle.net_runs.specs.Walkers.{walked_at_start}
 use Rattle.net_sim.specs.Networks.{network_value, StandsAtStart}
 use Rattle.net_sim.specs.WalkedStanding.{StandsForWalked}
-use Rattle.net_plan.specs.declared.certificate.Certificate.{Certificate}
-use Rattle.net_plan.specs.declared.plan.Plan.{Plan}
+use Rattle.plan_values.specs.declared.certificate.Certificate.{Certificate}
+use Rattle.plan_values.specs.declared.plan.Plan.{Plan}
 use Rattle.net_sim.specs.Dealing.{planned_termini}
 use Rattle.command_answers.proofs.Places.{same_order}
 use Rattle.command_answers.proofs.termini.planned_network.Goals as goal

@@ -1,7 +1,7 @@
 //! What two plans of a move differ in beside rows.
 ghost use Rattle.std.specs.Prelude.{◌≡◌, ◌≢◌, ◌<◌, IfOk, None, length, map, string_bytes};
-ghost use Rattle.net_json.specs.Finding.{step_value};
-ghost use Rattle.net_plan.specs.NodeValues.{bus_value, but_rows, node_value};
+ghost use Rattle.net_plan.specs.Finding.{step_value};
+ghost use Rattle.plan_values.specs.NodeValues.{bus_value, but_rows, node_value};
 ghost use Rattle.net_rules.specs.MoveRules.{HaveSameFrame, IsSameNode};
 ghost use Rattle.net_rules.specs.MoveObstacles.{NamesDifference};
 ghost use Rattle.net_rules.specs.declared.move_error.MoveError.TheVariants as move_error;
@@ -11,9 +11,9 @@ ghost use Rattle.explain_commands.specs.MoveDifferences.{AreUnlikeIn, IsDifferen
 use super::place_of;
 use command_answers::PlanText;
 use fault_texts::part_pointer;
-use net_json::PointerStep;
-use net_plan::{Bus, Node, Plan, PlanPart, are_same};
+use net_plan::PointerStep;
 use net_tables::lookup::node_name;
+use plan_values::{Bus, Node, Plan, PlanPart, are_same};
 use std::alloc::{AllocError, Global};
 
 /// What a node says beside its rows.

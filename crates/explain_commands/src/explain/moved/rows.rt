@@ -11,9 +11,9 @@ use explanation_texts::index_for;
 use fault_texts::{part_pointer, way_pointer};
 use mctp_transport::Eid;
 use net_check::{CertifyError, MixedLoop, MoveFault, Side, certify};
-use net_plan::{Plan, Row};
 use net_tables::lookup::{node_name, row_at as row_of};
 use plan_texts::number_text;
+use plan_values::{Plan, Row};
 use std::alloc::{AllocError, Global};
 
 /// What M02 asks of the next node.

@@ -1,5 +1,5 @@
 use Rattle.std.proofs.Common.{rules, ◌≡◌, Some, sym, subst}
-use Rattle.net_plan.specs.declared.plan.Plan.{Plan}
+use Rattle.plan_values.specs.declared.plan.Plan.{Plan}
 use Rattle.net_tables.specs.Routing.{eid_of}
 use Rattle.plan_exports.specs.PlannedTables.{HasLawfulRows}
 use Rattle.export_commands.proofs.Lawful.{have_lawful_rows, is_assignable}

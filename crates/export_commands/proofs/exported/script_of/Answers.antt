@@ -1,5 +1,5 @@
 use Rattle.std.proofs.Common.{sym, subst}
-use Rattle.net_plan.specs.declared.plan.Plan.{Plan}
+use Rattle.plan_values.specs.declared.plan.Plan.{Plan}
 use Rattle.net_tables.specs.Routing.{rows_of}
 use Rattle.net_tables.specs.Tables.{AreRows}
 use Rattle.export_commands.proofs.Lawful.{are_rows}

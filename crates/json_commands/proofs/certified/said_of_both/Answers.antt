@@ -1,7 +1,7 @@
 use Rattle.std.proofs.Common.{rules, List, ℕ, inl, inr, sym, ap, subst}
 use Rattle.serde_json.specs.View.{view}
-use Rattle.net_plan.specs.declared.certificate.Certificate.{Certificate}
-use Rattle.net_plan.specs.declared.plan.Plan.{Plan}
+use Rattle.plan_values.specs.declared.certificate.Certificate.{Certificate}
+use Rattle.plan_values.specs.declared.plan.Plan.{Plan}
 use Rattle.command_questions.specs.declared.form.Form.{Form}
 use Rattle.json_commands.specs.Certified.{AreCheckedSaid, IsNamedIn, command_of}
 use Rattle.json_commands.specs.Unread.{IsUnknownSaid}

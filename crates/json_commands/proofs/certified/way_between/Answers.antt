@@ -1,6 +1,6 @@
 use Rattle.std.proofs.Common.{List, ℕ, subst}
 use Rattle.serde_json.specs.View.{view}
-use Rattle.net_plan.specs.declared.plan.Plan.{Plan}
+use Rattle.plan_values.specs.declared.plan.Plan.{Plan}
 use Rattle.command_answers.specs.Naming.{IsDestination, IsFirstNamed}
 use Rattle.json_commands.specs.Traced.{IsTraceSaid}
 use Rattle.json_commands.proofs.certified.way_between.Goals as goal

@@ -1,6 +1,6 @@
 use Rattle.std.proofs.Common.{◌≡◌, List, refl, subst}
 use Rattle.serde_json.specs.View.{view}
-use Rattle.net_plan.specs.declared.plan.Plan.{Plan}
+use Rattle.plan_values.specs.declared.plan.Plan.{Plan}
 use Rattle.net_questions.specs.declared.pair.Pair.{Pair}
 use Rattle.json_commands.specs.Lists.{IsListTold}
 use Rattle.json_commands.specs.Reached.{pair_data}

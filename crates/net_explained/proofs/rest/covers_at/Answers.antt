@@ -1,4 +1,4 @@
-use Rattle.net_plan.specs.declared.nodes.Row.{Row}
+use Rattle.plan_values.specs.declared.nodes.Row.{Row}
 use Rattle.net_tables.specs.Routing.{rows_of, Covers}
 use Rattle.net_explained.proofs.Items.{item_tells, no_item_has}
 use Rattle.net_explained.proofs.rest.covers_at.Goals as goal

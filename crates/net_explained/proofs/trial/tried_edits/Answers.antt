@@ -1,7 +1,7 @@
 use Rattle.std.proofs.Common.{◌≡◌, ◌≤◌, ◌++◌, ◌∷◌, [], length, subst, sym, rules}
 use Rattle.std.proofs.lemmas.List.Elements.{All-push}
 use Rattle.std.specs.List.{All}
-use Rattle.net_plan.specs.PlanValues.{plan_value}
+use Rattle.plan_values.specs.PlanValues.{plan_value}
 use Rattle.net_explained.specs.Obstacles.{IsTried}
 use Rattle.net_explained.specs.declared.trial.Tried.{Tried}
 use Rattle.net_explained.proofs.trial.tried_edits.Goals as goal

@@ -1,6 +1,6 @@
 use Rattle.std.proofs.Common.{◌≤◌, length}
 use Rattle.std.specs.List.{All}
-use Rattle.net_plan.specs.PlanValues.{plan_value}
+use Rattle.plan_values.specs.PlanValues.{plan_value}
 use Rattle.net_explained.specs.Obstacles.{IsTried}
 use Rattle.net_explained.proofs.trial.tried_edits.Given as goal
 

@@ -1,5 +1,5 @@
 use Rattle.std.proofs.Common.{Some, rules}
-use Rattle.net_plan.specs.PlanValues.{plan_value}
+use Rattle.plan_values.specs.PlanValues.{plan_value}
 use Rattle.net_explained.specs.Edits.{IsEdited}
 use Rattle.net_explained.specs.Obstacles.{IsLater}
 use Rattle.net_explained.proofs.Later.{later_known, tried_so}

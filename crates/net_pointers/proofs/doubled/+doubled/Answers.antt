@@ -4,8 +4,8 @@ use Rattle.json.specs.Json.{array, object}
 use Rattle.json.proofs.Trees.{view-Object}
 use Rattle.json.specs.Strict.{keys}
 use Rattle.json.specs.Value.{value_view, items_view, members_view}
-use Rattle.net_json.specs.Names.{names_differ}
-use Rattle.net_json.specs.SingleKeys.{single}
+use Rattle.net_plan.specs.Names.{names_differ}
+use Rattle.net_plan.specs.SingleKeys.{single}
 use Rattle.net_pointers.specs.Doubles.{IsFirstDoubled, part_at, NoneBefore, IsFirstDoubledKey}
 use Rattle.net_pointers.proofs.Doubling.{item_of_view, member_of_view, Passed, passed_more, part_first, no_object, keys_once, none_before_whole}
 use Rattle.net_pointers.proofs.doubled.+doubled.Goals as goal

@@ -3,7 +3,7 @@ use Rattle.std.proofs.Common.{◌≡◌, map, take, true}
 use Rattle.std.specs.BTreeMap.{get_by}
 use Rattle.std.specs.Cmp.Lexicographic.{slice_cmp}
 use Rattle.std.specs.Ordering.{nat_cmp}
-use Rattle.net_json.specs.Names.{names_differ}
+use Rattle.net_plan.specs.Names.{names_differ}
 use Rattle.net_pointers.proofs.Doubling.{AreNoted}
 use Rattle.net_pointers.proofs.doubled.first_doubled.Given as goal
 

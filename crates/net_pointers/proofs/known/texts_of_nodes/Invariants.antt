@@ -1,6 +1,6 @@
 -- The names that were passed.
 use Rattle.std.proofs.Common.{◌≡◌, map, take}
-use Rattle.net_plan.specs.PlanValues.{name_bytes}
+use Rattle.plan_values.specs.PlanValues.{name_bytes}
 use Rattle.net_pointers.proofs.known.texts_of_nodes.Given as goal
 
 abbrev pub invariant-loop-node : goal.invariant-loop-node

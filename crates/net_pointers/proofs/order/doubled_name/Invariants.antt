@@ -1,6 +1,6 @@
 -- What is left decides.
 use Rattle.std.proofs.Common.{drop}
-use Rattle.net_json.specs.Trees.{view}
+use Rattle.net_plan.specs.Trees.{view}
 use Rattle.net_pointers.specs.Asks.{DoDiffer, IsDoubledIn}
 use Rattle.net_pointers.specs.declared.doubled.TwoIndices.{TwoIndices}
 use Rattle.net_pointers.specs.declared.order.NameList.{NameList}

@@ -1,9 +1,9 @@
 use Rattle.std.proofs.Common.{rules, ◌≡◌, None, Some}
 use Rattle.json.specs.Value.{value_view}
-use Rattle.net_json.specs.Finding.{first_fault, located}
-use Rattle.net_json.specs.Grammar.{grammar}
-use Rattle.net_json.specs.Trees.{view}
-use Rattle.net_json.proofs.Fitting.{none_fits}
+use Rattle.net_plan.specs.Finding.{first_fault, located}
+use Rattle.net_plan.specs.Grammar.{grammar}
+use Rattle.net_plan.specs.Trees.{view}
+use Rattle.net_plan.proofs.Fitting.{none_fits}
 use Rattle.net_pointers.specs.Asks.{asks}
 use Rattle.net_pointers.specs.OrderOfTests.{AreKeysSingle}
 use Rattle.net_pointers.proofs.Leads.{leads}

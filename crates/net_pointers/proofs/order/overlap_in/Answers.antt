@@ -1,5 +1,5 @@
 use Rattle.net_pointers.specs.Ascending.{ranks_ascend, AreFirst, DoOverlap}
-use Rattle.net_json.specs.Trees.{view}
+use Rattle.net_plan.specs.Trees.{view}
 use Rattle.serde_json.specs.Find.{get}
 use Rattle.std.proofs.Common.{codes}
 use Rattle.net_pointers.proofs.Ordered.{overlap_told}

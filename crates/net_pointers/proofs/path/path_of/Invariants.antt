@@ -1,7 +1,7 @@
 -- What is left leads on.
 use Rattle.std.proofs.Common.{◌≡◌, ◌++◌, map, drop, option_map, option_and_then}
 use Rattle.json.specs.Value.{value_view}
-use Rattle.net_json.specs.Finding.{step_value}
+use Rattle.net_plan.specs.Finding.{step_value}
 use Rattle.net_pointers.specs.Paths.{path_of}
 use Rattle.net_pointers.proofs.path.path_of.Given as goal
 

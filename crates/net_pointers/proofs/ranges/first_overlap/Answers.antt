@@ -1,5 +1,5 @@
 use Rattle.std.proofs.Common.{Some, rules}
-use Rattle.net_json.specs.Trees.{view}
+use Rattle.net_plan.specs.Trees.{view}
 use Rattle.net_pointers.proofs.Overlaps.{first_of_ranks}
 use Rattle.net_pointers.proofs.ranges.first_overlap.Goals as goal
 

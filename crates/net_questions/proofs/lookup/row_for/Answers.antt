@@ -1,5 +1,5 @@
 use Rattle.std.proofs.Common.{arith}
-use Rattle.net_plan.specs.declared.nodes.Row.{Row}
+use Rattle.plan_values.specs.declared.nodes.Row.{Row}
 use Rattle.net_tables.specs.Routing.{Covers}
 use Rattle.net_tables.proofs.RowSearches.{of_one_more, of_all_items, no_row_for}
 use Rattle.net_questions.proofs.FirstRows.{first_row}

@@ -1,5 +1,5 @@
 use Rattle.std.proofs.Common.{◌≡◌, ◌++◌, ◌∙◌, [], length, ap, subst, sym, arith}
-use Rattle.net_plan.specs.declared.plan.Plan.{Plan}
+use Rattle.plan_values.specs.declared.plan.Plan.{Plan}
 use Rattle.net_questions.specs.Reaching.{NeverCircles, AreHopsToEach, hops_in, pairs_from}
 use Rattle.net_questions.proofs.Listing.{flat_map_range_more}
 use Rattle.net_questions.proofs.Tables.{never_circles, are_pairs}

@@ -1,6 +1,6 @@
 use Rattle.std.proofs.Common.{ap, arith, length, subst, ◌∙◌}
 use Rattle.std.proofs.lemmas.List.{length_push}
-use Rattle.mctp_bridge.specs.declared.decision.Decision.TheVariants.{Drop, Forward}
+use Rattle.mctp_routing.specs.declared.decision.Decision.TheVariants.{Drop, Forward}
 use Rattle.net_questions.specs.Ways.{DoesAfter}
 use Rattle.net_questions.proofs.WayLaws.{one_step_more, steps_within}
 use Rattle.net_questions.proofs.way.follow.Goals as goal
@@ -25,8 +25,8 @@ loop-hop-preserved c =
     rw c.in_ok-push-in-Forward.ensures.items
     (one_step_more plan e 0 c.args.from c.loop-hop.steps.items c.loop-hop.last c.len.result hop (omega (arith, c.len.ensures, c.loop-hop.steps.ok.0)) c.loop-hop.invariant sent)
 
-pub returns-in-Deliver-clause-within : goal.returns-in-Deliver-clause-within
-returns-in-Deliver-clause-within c =
+pub returns-in-Here-clause-within : goal.returns-in-Here-clause-within
+returns-in-Here-clause-within c =
     steps_within c.args.checked.now.0 c.args.checked.now.1 c.args.eid.value c.args.from c.loop-hop.steps.items c.loop-hop.last c.plan-plan.ensures.accepted c.loop-hop.invariant
 
 pub returns-in-Drop-clause-way : goal.returns-in-Drop-clause-way

@@ -1,9 +1,9 @@
 use Rattle.std.proofs.Common.{refl, arith}
 use Rattle.std.proofs.lemmas.Bool.{false≢true}
-use Rattle.net_plan.specs.NodeValues.{row_value}
+use Rattle.plan_values.specs.NodeValues.{row_value}
 use Rattle.net_rollout.proofs.Items.{same_more, same_all}
 use Rattle.net_rollout.proofs.changed_plan.are_same.Goals as goal
-use Rattle.net_plan.proofs.SameItems.{others_here}
+use Rattle.plan_values.proofs.SameItems.{others_here}
 
 pub returns-then-not-is_same : goal.returns-then-not-is_same
 returns-then-not-is_same c = (

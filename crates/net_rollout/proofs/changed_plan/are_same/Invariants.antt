@@ -1,5 +1,5 @@
 use Rattle.std.proofs.Common.{◌≡◌, map, take}
-use Rattle.net_plan.specs.NodeValues.{row_value}
+use Rattle.plan_values.specs.NodeValues.{row_value}
 use Rattle.net_rollout.proofs.changed_plan.are_same.Given as goal
 
 abbrev pub invariant-loop-index : goal.invariant-loop-index

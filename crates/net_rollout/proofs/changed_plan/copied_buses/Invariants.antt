@@ -1,5 +1,5 @@
 use Rattle.std.proofs.Common.{◌≡◌, length, map, take}
-use Rattle.net_plan.specs.NodeValues.{bus_value}
+use Rattle.plan_values.specs.NodeValues.{bus_value}
 use Rattle.net_rollout.proofs.changed_plan.copied_buses.Given as goal
 
 abbrev pub invariant-loop-bus : goal.invariant-loop-bus

@@ -1,5 +1,5 @@
 use Rattle.std.proofs.Common.{◌≡◌, length, map, take}
-use Rattle.net_plan.specs.NodeValues.{port_value}
+use Rattle.plan_values.specs.NodeValues.{port_value}
 use Rattle.net_rollout.proofs.changed_plan.copied_ports.Given as goal
 
 abbrev pub invariant-loop-port : goal.invariant-loop-port

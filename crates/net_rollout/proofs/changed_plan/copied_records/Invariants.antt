@@ -1,5 +1,5 @@
 use Rattle.std.proofs.Common.{◌≡◌, length, map, take}
-use Rattle.net_plan.specs.NodeValues.{record_value}
+use Rattle.plan_values.specs.NodeValues.{record_value}
 use Rattle.net_rollout.proofs.changed_plan.copied_records.Given as goal
 
 abbrev pub invariant-loop-listed : goal.invariant-loop-listed

@@ -1,7 +1,7 @@
 use Rattle.std.proofs.Common.{◌≡◌, ◌+◌, ◌++◌, ◌∷◌, [], Some, length, arith, subst, sym, rules}
 use Rattle.std.specs.Prelude.{slice_get}
 use Rattle.std.proofs.lemmas.Option.{slice_get_read}
-use Rattle.net_plan.specs.NodeValues.{but_rows}
+use Rattle.plan_values.specs.NodeValues.{but_rows}
 use Rattle.net_rollout.specs.Steps.{AreNodesAfter, IsNodeAfter}
 use Rattle.net_rollout.proofs.Made.{node_more, node_so}
 use Rattle.net_rollout.proofs.changed_plan.nodes_after.Goals as goal

@@ -1,7 +1,7 @@
 use Rattle.std.proofs.Common.{◌≡◌, ◌≢◌, ◌+◌, ◌≤◌, List, Some, length, arith, subst, sym, rules}
 use Rattle.std.specs.Prelude.{slice_get}
 use Rattle.std.proofs.lemmas.Option.{slice_get_read}
-use Rattle.net_plan.specs.declared.nodes.Row.{Row}
+use Rattle.plan_values.specs.declared.nodes.Row.{Row}
 use Rattle.net_tables.specs.Routing.{rows_of}
 use Rattle.net_rollout.specs.Steps.{SendAs}
 use Rattle.net_rollout.proofs.Made.{IsTakenBefore, none_taken, other_node, its_part, all_taken}

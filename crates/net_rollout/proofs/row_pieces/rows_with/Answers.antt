@@ -1,5 +1,5 @@
 use Rattle.std.proofs.Common.{◌≡◌, ◌+◌, [], List, ℕ, ◌↔◌, ◌⊎◌, ◌≤◌, ◌<◌, arith, subst}
-use Rattle.net_plan.specs.declared.nodes.Row.{Row}
+use Rattle.plan_values.specs.declared.nodes.Row.{Row}
 use Rattle.net_rollout.specs.Steps.{SendsBy}
 use Rattle.net_rollout.proofs.Sending.{three_runs}
 use Rattle.net_rollout.proofs.row_pieces.rows_with.Goals as goal

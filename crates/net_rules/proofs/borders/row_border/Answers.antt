@@ -1,5 +1,5 @@
 use Rattle.std.proofs.Common.{◌+◌, arith}
-use Rattle.net_plan.specs.declared.nodes.Row.{Row}
+use Rattle.plan_values.specs.declared.nodes.Row.{Row}
 use Rattle.net_rules.proofs.StretchLaws.{IsBetween, one_more_alike, between_alike, row_alike}
 use Rattle.net_rules.proofs.borders.row_border.Goals as goal
 

@@ -1,5 +1,5 @@
 use Rattle.std.proofs.Common.{◌≡◌, rules, refl, sym, Err}
-use Rattle.net_plan.specs.declared.certificate.Certificate.{Certificate}
+use Rattle.plan_values.specs.declared.certificate.Certificate.{Certificate}
 use Rattle.net_rules.specs.MoveObstacles.{obstacle_of_error}
 use Rattle.net_rules.specs.MoveRanks.{IsMoveRank}
 use Rattle.net_rules.proofs.ExactCertificates.{exact_only_by, exact_well_formed, exact_few}

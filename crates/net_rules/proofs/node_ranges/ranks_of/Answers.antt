@@ -1,7 +1,7 @@
 use Rattle.std.proofs.Common.{◌≡◌, ◌∷◌, List, ℕ, ◌+◌, ◌-◌, drop, replicate, sym, subst, arith}
 use Rattle.std.proofs.Math.Seq.{drop-length}
 use Rattle.std.proofs.lemmas.List.{drop_more}
-use Rattle.net_plan.specs.declared.certificate.RankRange.{RankRange}
+use Rattle.plan_values.specs.declared.certificate.RankRange.{RankRange}
 use Rattle.net_rules.specs.RanksByEid.{AreRanksOf}
 use Rattle.net_rules.proofs.RanksByEid.{none_ranked}
 use Rattle.net_rules.proofs.node_ranges.ranks_of.Goals as goal

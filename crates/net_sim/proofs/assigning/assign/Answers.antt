@@ -1,6 +1,6 @@
 use Rattle.std.proofs.Common.{◌≡◌, List, map, sym, ap, subst}
-use Rattle.net_plan.specs.declared.plan.Plan.{Plan}
-use Rattle.net_plan.specs.declared.certificate.Certificate.{Certificate}
+use Rattle.plan_values.specs.declared.plan.Plan.{Plan}
+use Rattle.plan_values.specs.declared.certificate.Certificate.{Certificate}
 use Rattle.net_rules.specs.Rules.{Accepts}
 use Rattle.net_sim.specs.declared.assigning.assignment.Assignment.{Assignment}
 use Rattle.net_sim.specs.Assignments.{assignment_value, IsAssignmentOf}

@@ -11,7 +11,7 @@ use crate::network::Network;
 use crate::network_walker::NetworkWalker;
 use crate::outcome::Outcome;
 use crate::traffic::DecidedMove;
-use mctp_bridge::Decision;
+use mctp_routing::Decision;
 use mctp_transport::Key;
 use pdr_repository::Terminus;
 use std::alloc::AllocError;
@@ -51,7 +51,7 @@ impl<'a, T: Terminus> Network<'a, T> {
         ensures within { IfSome result (λ index. index < length self.now.walkers.items) }
         ensures finds { FindsListener decided.now self.now.walkers.items result }
     {
-        let Decision::Deliver = decided.decision else {
+        let Decision::Here = decided.decision else {
             return None;
         };
         self.listener_at(decided.node, decided.key)

@@ -1,7 +1,7 @@
 use Rattle.std.proofs.Common.{◌+◌, List, ◌++◌, ◌∷◌, [], map, sym, subst}
-use Rattle.mctp_bridge.specs.declared.row.TableRow as bridge
-use Rattle.mctp_bridge.specs.Rows.{HasSameRoutes}
-use Rattle.net_plan.specs.declared.nodes.Row.{Row}
+use Rattle.mctp_routing.specs.declared.row.TableRow as bridge
+use Rattle.mctp_routing.specs.Rows.{HasSameRoutes}
+use Rattle.plan_values.specs.declared.nodes.Row.{Row}
 use Rattle.net_tables.specs.Tables.{AreRows, AreTabled, table_row}
 use Rattle.net_tables.proofs.TableLaws.{none_tabled, more_tabled}
 use Rattle.net_tables.proofs.node_tables.routing_tables.Goals as goal

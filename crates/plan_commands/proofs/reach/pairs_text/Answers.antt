@@ -1,6 +1,6 @@
 use Rattle.std.proofs.Common.{◌≡◌, ℕ, List, string_bytes, Result, Ok, Err, IfOk, ap, ◌∙◌}
-use Rattle.net_plan.specs.declared.plan.Plan.{Plan}
-use Rattle.net_plan.specs.declared.certificate.Certificate.{Certificate}
+use Rattle.plan_values.specs.declared.plan.Plan.{Plan}
+use Rattle.plan_values.specs.declared.certificate.Certificate.{Certificate}
 use Rattle.net_questions.specs.declared.pair.Pair.{Pair}
 use Rattle.net_questions.specs.Reaching.{ArePairs}
 use Rattle.net_questions.proofs.Packets.{keeps_to_ways}

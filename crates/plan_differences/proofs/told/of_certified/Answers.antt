@@ -1,7 +1,7 @@
 use Rattle.std.proofs.Common.{◌≡◌, ◌++◌, subst, rules}
 use Rattle.std.specs.Prelude.{IfOk, string_bytes}
-use Rattle.net_plan.specs.declared.certificate.Certificate.{Certificate}
-use Rattle.net_plan.specs.declared.plan.Plan.{Plan}
+use Rattle.plan_values.specs.declared.certificate.Certificate.{Certificate}
+use Rattle.plan_values.specs.declared.plan.Plan.{Plan}
 use Rattle.std.specs.List.{flat_map}
 use Rattle.plan_differences.specs.WayDifferences.{AreOtherWays}
 use Rattle.plan_differences.specs.WayLines.{way_text}

@@ -1,6 +1,6 @@
 use Rattle.std.proofs.Common.{ℕ, subst}
 use Rattle.std.specs.Prelude.{MatchOption}
-use Rattle.net_plan.specs.declared.plan.Plan.{Plan}
+use Rattle.plan_values.specs.declared.plan.Plan.{Plan}
 use Rattle.plan_differences.specs.WayDifferences.{IsOneNode}
 use Rattle.plan_differences.proofs.ways.same_node.Goals as goal
 

@@ -1,5 +1,5 @@
 use Rattle.std.proofs.Common.{List, subst, sym}
-use Rattle.net_plan.specs.declared.nodes.Row.{Row}
+use Rattle.plan_values.specs.declared.nodes.Row.{Row}
 use Rattle.net_tables.specs.Tables.{AreRows}
 use Rattle.plan_exports.proofs.planned_tables.range_table.Goals as goal
 

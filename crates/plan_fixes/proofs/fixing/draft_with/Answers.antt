@@ -1,6 +1,6 @@
 use Rattle.std.proofs.Common.{◌≡◌, ◌++◌, ℕ, List, Some, string_bytes, subst, rules}
 use Rattle.net_explained.specs.Edits.{IsEdited}
-use Rattle.net_plan.specs.PlanValues.{PlanValue, plan_value}
+use Rattle.plan_values.specs.PlanValues.{PlanValue, plan_value}
 use Rattle.plan_fixes.specs.Fixes.{IsAsEdited, IsTextOf}
 use Rattle.plan_fixes.specs.Splices.{IsSpliced}
 use Rattle.explanation_texts.specs.EditLines.{edit_text}

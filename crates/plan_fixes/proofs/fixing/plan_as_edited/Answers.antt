@@ -1,6 +1,6 @@
 use Rattle.std.proofs.Common.{◌≡◌, Some, subst}
 use Rattle.net_explained.specs.Edits.{IsEdited}
-use Rattle.net_plan.specs.PlanValues.{PlanValue, plan_value}
+use Rattle.plan_values.specs.PlanValues.{PlanValue, plan_value}
 use Rattle.plan_fixes.specs.Fixes.{IsTextOf}
 use Rattle.plan_fixes.proofs.fixing.plan_as_edited.Goals as goal
 

@@ -1,6 +1,6 @@
 use Rattle.std.proofs.Common.{◌∙◌, string_bytes}
 use Rattle.std.specs.List.{concat}
-use Rattle.net_plan.specs.declared.nodes.Node.{Node}
+use Rattle.plan_values.specs.declared.nodes.Node.{Node}
 use Rattle.plan_texts.specs.DrawingLines.{owner_lines}
 use Rattle.plan_texts.proofs.Drawn.{one_more}
 use Rattle.plan_texts.proofs.drawings.arrow_lines.Goals as goal

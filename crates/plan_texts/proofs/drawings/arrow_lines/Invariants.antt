@@ -1,6 +1,6 @@
 use Rattle.std.proofs.Common.{◌≡◌, string_bytes, take}
 use Rattle.std.specs.List.{concat}
-use Rattle.net_plan.specs.declared.nodes.Node.{Node}
+use Rattle.plan_values.specs.declared.nodes.Node.{Node}
 use Rattle.plan_texts.specs.DrawingLines.{all_by_index, owner_lines}
 use Rattle.plan_texts.proofs.drawings.arrow_lines.Given as goal
 

@@ -1,5 +1,5 @@
 use Rattle.std.proofs.Common.{◌≡◌, string_bytes, take}
-use Rattle.net_plan.specs.declared.nodes.Node.{Node}
+use Rattle.plan_values.specs.declared.nodes.Node.{Node}
 use Rattle.plan_texts.specs.DrawingLines.{all_by_index, port_line}
 use Rattle.plan_texts.proofs.drawings.port_lines.Given as goal
 

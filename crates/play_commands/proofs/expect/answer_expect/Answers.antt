@@ -1,7 +1,7 @@
 use Rattle.std.proofs.Common.{rules, ◌≡◌, List, ℕ, Ok, Err, map, refl, subst, string_bytes}
 use Rattle.std.specs.Prelude.{IfOk}
 use Rattle.std.specs.Cow.{cow_str_bytes}
-use Rattle.net_plan.specs.declared.event.Event.{Event}
+use Rattle.plan_values.specs.declared.event.Event.{Event}
 use Rattle.net_sim.specs.Outcomes.{event_value}
 use Rattle.command_answers.specs.declared.answer.Answer.{Answer}
 use Rattle.command_answers.specs.Answers.{stream}
@@ -34,3 +34,9 @@ returns-in_err-wanted-clause-in_order g c = λ without. absurd (without c.in_ok-
 
 pub returns-clause-in_order : goal.returns-clause-in_order
 returns-clause-in_order g c = λ without. absurd (without c.in_ok-plan.plan c.in_ok-plan.ensures.given.plan_text)
+
+pub returns-in_err-wanted-clause-certified_in_order : goal.returns-in_err-wanted-clause-certified_in_order
+returns-in_err-wanted-clause-certified_in_order g c = λ without. absurd (without c.in_ok-plan.plan c.in_ok-plan.certificate c.in_ok-plan.ensures.given)
+
+pub returns-clause-certified_in_order : goal.returns-clause-certified_in_order
+returns-clause-certified_in_order g c = λ without. absurd (without c.in_ok-plan.plan c.in_ok-plan.certificate c.in_ok-plan.ensures.given)

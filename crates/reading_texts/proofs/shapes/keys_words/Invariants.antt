@@ -1,6 +1,6 @@
 use Rattle.std.proofs.Common.{◌≡◌, string_bytes, take}
 use Rattle.std.specs.List.{flat_map}
-use Rattle.net_json.specs.declared.shape.Field.{Field, out-Field}
+use Rattle.net_plan.specs.declared.shape.Field.{Field, out-Field}
 use Rattle.reading_texts.specs.ReadingLines.{key_words}
 use Rattle.reading_texts.proofs.shapes.keys_words.Given as goal
 

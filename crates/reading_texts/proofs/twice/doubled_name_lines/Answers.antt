@@ -1,6 +1,6 @@
 use Rattle.std.proofs.Common.{ℕ, List, string_bytes, subst}
 use Rattle.std.specs.Prelude.{IfOk}
-use Rattle.net_json.specs.Trees.{view}
+use Rattle.net_plan.specs.Trees.{view}
 use Rattle.net_pointers.specs.Asks.{list_key, name_key}
 use Rattle.reading_texts.specs.TroubleLines.{IsDoubledNameTold}
 use Rattle.reading_texts.proofs.twice.doubled_name_lines.Goals as goal

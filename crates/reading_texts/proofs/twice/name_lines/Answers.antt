@@ -1,5 +1,5 @@
 use Rattle.std.proofs.Common.{◌≡◌, string_bytes, rules}
-use Rattle.net_json.specs.Trees.{view}
+use Rattle.net_plan.specs.Trees.{view}
 use Rattle.reading_texts.specs.TroubleLines.{two_lines, entry_pointer, doubled_name}
 use Rattle.reading_texts.proofs.ToldTexts.{name_told_twice}
 use Rattle.reading_texts.proofs.twice.name_lines.Goals as goal

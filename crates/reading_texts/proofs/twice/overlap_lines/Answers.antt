@@ -1,5 +1,5 @@
 use Rattle.std.proofs.Common.{◌≡◌, ◌++◌, string_bytes, rules}
-use Rattle.net_json.specs.Trees.{view}
+use Rattle.net_plan.specs.Trees.{view}
 use Rattle.reading_texts.specs.TroubleLines.{overlap_of}
 use Rattle.reading_texts.proofs.twice.overlap_lines.Goals as goal
 

@@ -1,6 +1,6 @@
 use Rattle.std.proofs.Common.{◌≡◌, drop}
-use Rattle.net_json.specs.Trees.{view}
-use Rattle.net_json.specs.Grammar.{fields_view}
+use Rattle.net_plan.specs.Trees.{view}
+use Rattle.net_plan.specs.Grammar.{fields_view}
 use Rattle.reading_texts.specs.TroubleLines.{lacked_key}
 use Rattle.reading_texts.proofs.values.lacked_key.Given as goal
 

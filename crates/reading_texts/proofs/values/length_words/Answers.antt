@@ -2,11 +2,11 @@ use Rattle.std.proofs.Common.{◌≡◌, ◌++◌, ℕ, string_bytes, codes, sym
 use Rattle.std.specs.Prelude.{IfOk}
 use Rattle.std.specs.Fmt.{decimal}
 use Rattle.serde_json.specs.Data.{Data, array}
-use Rattle.net_json.specs.Json.{items_count}
-use Rattle.net_json.specs.Trees.{view, items_view}
-use Rattle.net_json.proofs.Trees.{view-Array}
+use Rattle.net_plan.specs.Json.{items_count}
+use Rattle.net_plan.specs.Trees.{view, items_view}
+use Rattle.net_plan.proofs.Trees.{view-Array}
 use Rattle.reading_texts.specs.TroubleLines.{IsLengthTold}
-use Rattle.net_json.proofs.Items.{items_count_of_view}
+use Rattle.net_plan.proofs.Items.{items_count_of_view}
 use Rattle.reading_texts.proofs.values.length_words.Goals as goal
 
 pub returns-in-Array : goal.returns-in-Array

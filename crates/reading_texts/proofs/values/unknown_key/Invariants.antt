@@ -1,7 +1,7 @@
 -- What is left decides.
 use Rattle.std.proofs.Common.{◌≡◌, drop}
 use Rattle.json.specs.Value.{members_view}
-use Rattle.net_json.specs.Grammar.{fields_view}
+use Rattle.net_plan.specs.Grammar.{fields_view}
 use Rattle.reading_texts.specs.TroubleLines.{first_unknown}
 use Rattle.reading_texts.proofs.values.unknown_key.Given as goal
 

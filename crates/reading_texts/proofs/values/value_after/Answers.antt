@@ -1,9 +1,9 @@
 use Rattle.std.proofs.Common.{◌≡◌, option_map, sym, subst}
 use Rattle.serde_json.specs.Find.{get}
-use Rattle.net_json.specs.Trees.{view, data_of}
+use Rattle.net_plan.specs.Trees.{view, data_of}
 use Rattle.net_pointers.specs.Pointers.{value_after}
-use Rattle.net_json.specs.Finding.{step_value}
-use Rattle.net_json.specs.declared.found.PointerStep.{PointerStep}
+use Rattle.net_plan.specs.Finding.{step_value}
+use Rattle.net_plan.specs.declared.found.PointerStep.{PointerStep}
 use Rattle.json.specs.Value.{value_view}
 use Rattle.reading_texts.proofs.ToldTexts.{data_given}
 use Rattle.reading_texts.proofs.values.value_after.Goals as goal

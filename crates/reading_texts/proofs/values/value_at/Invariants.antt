@@ -1,8 +1,8 @@
 use Rattle.std.proofs.Common.{◌≡◌, map, drop, option_map, option_and_then}
 use Rattle.json.specs.Value.{value_view}
-use Rattle.net_json.specs.Trees.{view}
+use Rattle.net_plan.specs.Trees.{view}
 use Rattle.net_pointers.specs.Pointers.{value_at}
-use Rattle.net_json.specs.Finding.{step_value}
+use Rattle.net_plan.specs.Finding.{step_value}
 use Rattle.reading_texts.specs.TroubleLines.{tree_at}
 use Rattle.reading_texts.proofs.values.value_at.Given as goal
 

@@ -1,6 +1,6 @@
 use Rattle.std.proofs.Common.{Some, string_bytes, rules}
 use Rattle.json.specs.Value.{value_view}
-use Rattle.net_json.specs.Finding.{located}
+use Rattle.net_plan.specs.Finding.{located}
 use Rattle.reading_texts.proofs.ToldTexts.{value_told, rest_is_text}
 use Rattle.reading_texts.proofs.values.value_line.Goals as goal
 

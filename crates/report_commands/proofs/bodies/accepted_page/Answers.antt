@@ -1,7 +1,7 @@
 use Rattle.std.proofs.Common.{string_bytes, subst, sym}
 use Rattle.std.specs.Prelude.{IfOk}
-use Rattle.net_plan.specs.declared.certificate.Certificate.{Certificate}
-use Rattle.net_plan.specs.declared.plan.Plan.{Plan}
+use Rattle.plan_values.specs.declared.certificate.Certificate.{Certificate}
+use Rattle.plan_values.specs.declared.plan.Plan.{Plan}
 use Rattle.report_commands.specs.Matrices.{IsReachedSection}
 use Rattle.report_commands.specs.Pages.{IsAcceptedPage}
 use Rattle.report_commands.proofs.bodies.accepted_page.Goals as goal

@@ -51,7 +51,7 @@ returns-else-packet-clause-table c = λ q e.
     c.in-Some.is c.requires c.index.ensures c.in-Ok.ensures.fault e in
     let l = leaves_more c.args.self.now.limit q (packet_value_of c.args.packet.now) h.fault_is c.if-packet.false in
     let n = next_is c.args.self.now c.args.index c.in-Some.open c.in-Ok.next q (packet_value_of c.args.packet.now) c.extend.new.self.block.items h.held
-    c.in-Ok.ensures.key (rw c.in-Ok.ensures.sequence refl) c.in-Ok.ensures.unit c.in-Ok.ensures.len c.extend.ensures.part in
+    c.in-Ok.ensures.key (rw c.in-Ok.ensures.number refl) c.in-Ok.ensures.unit c.in-Ok.ensures.len c.extend.ensures.part in
     c.extend.ensures.table ∙ ap (λ (o : Option Partial). slice_set (table_of c.args.self.now) c.args.index o) (n ∙ sym l.rest_is)
 
 pub returns-else-packet-clause-answer : goal.returns-else-packet-clause-answer

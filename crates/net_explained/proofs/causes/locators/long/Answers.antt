@@ -1,5 +1,5 @@
 use Rattle.std.proofs.Common.{◌≢◌, ℕ, List, length, refl, sym}
-use Rattle.net_plan.specs.declared.terminus.PlannedRecord as listed
+use Rattle.plan_values.specs.declared.terminus.PlannedRecord as listed
 use Rattle.net_tables.specs.Repositories.{records_of}
 use Rattle.net_rules.specs.Locators.{IsEidLocator, HasOneByteAsEid}
 use Rattle.net_explained.proofs.Items.{of_item, not_of_item}

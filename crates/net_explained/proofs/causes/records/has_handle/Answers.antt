@@ -1,5 +1,5 @@
 use Rattle.std.proofs.Common.{◌≡◌}
-use Rattle.net_plan.specs.declared.terminus.PlannedRecord.{PlannedRecord}
+use Rattle.plan_values.specs.declared.terminus.PlannedRecord.{PlannedRecord}
 use Rattle.net_tables.specs.Repositories.{records_of}
 use Rattle.net_explained.proofs.Items.{item_tells}
 use Rattle.net_explained.proofs.causes.records.has_handle.Goals as goal

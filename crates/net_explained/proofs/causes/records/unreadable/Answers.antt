@@ -1,6 +1,6 @@
 use Rattle.std.proofs.Common.{◌≡◌, ◌≢◌, ℕ, List, refl, sym, subst}
 use Rattle.std.specs.Prelude.{◌↔◌}
-use Rattle.net_plan.specs.declared.terminus.PlannedRecord.{PlannedRecord}
+use Rattle.plan_values.specs.declared.terminus.PlannedRecord.{PlannedRecord}
 use Rattle.pdr_repository.specs.Records.{IsRecordOf}
 use Rattle.net_tables.specs.Repositories.{records_of}
 use Rattle.net_explained.specs.Causes.{AreNoRecordFor}

@@ -1,7 +1,7 @@
 use Rattle.std.proofs.Common.{ℕ, ◌≤◌, refl, sym, ◌∙◌, subst, arith, inl, inr}
 use Rattle.std.proofs.lemmas.Bool.{cases_lt}
 use Rattle.std.proofs.lemmas.Option.{same_Some, none-some}
-use Rattle.net_plan.specs.declared.nodes.Row.{Row}
+use Rattle.plan_values.specs.declared.nodes.Row.{Row}
 use Rattle.net_tables.specs.Routing.{rows_of, IsBridge}
 use Rattle.net_tables.specs.Rows.{IsOnBus, IsJoined, NamesNeighbor}
 use Rattle.net_explained.proofs.Items.{not_of_item}

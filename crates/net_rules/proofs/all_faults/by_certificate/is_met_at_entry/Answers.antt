@@ -1,6 +1,6 @@
 use Rattle.std.proofs.Common.{Some, None, sym, subst}
 use Rattle.std.specs.Prelude.{IsTrue, ◌↔◌}
-use Rattle.net_plan.specs.declared.certificate.Certificate.{Certificate}
+use Rattle.plan_values.specs.declared.certificate.Certificate.{Certificate}
 use Rattle.net_rules.specs.declared.rule.Rule.{Rule}
 use Rattle.net_tables.specs.Routing.{OfItem}
 use Rattle.net_tables.specs.Repositories.{records_of, places_of, IsChained}

@@ -1,6 +1,6 @@
 use Rattle.std.proofs.Common.{◌≡◌, ℕ, ◌<◌, Some, map}
 use Rattle.std.specs.Prelude.{slice_get}
-use Rattle.net_plan.specs.declared.terminus.PlannedRecord as listed
+use Rattle.plan_values.specs.declared.terminus.PlannedRecord as listed
 use Rattle.net_rules.proofs.all_faults.records.has_handle_at.Given as goal
 
 abbrev pub invariant-loop-index : goal.invariant-loop-index

@@ -1,6 +1,6 @@
 use Rattle.std.proofs.Common.{List, subst, sym}
 use Rattle.std.proofs.lemmas.Bool.{le-leb}
-use Rattle.net_plan.specs.declared.terminus.PlannedRecord.{PlannedRecord}
+use Rattle.plan_values.specs.declared.terminus.PlannedRecord.{PlannedRecord}
 use Rattle.net_tables.specs.Routing.{OfItem}
 use Rattle.net_tables.specs.Repositories.{records_of, HasNewHandle}
 use Rattle.net_rules.proofs.EntryLaws.{of_nothing}

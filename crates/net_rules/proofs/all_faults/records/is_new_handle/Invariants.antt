@@ -1,6 +1,6 @@
 use Rattle.std.proofs.Common.{◌≡◌, ◌≢◌, ℕ, ◌<◌, Some}
 use Rattle.std.specs.Prelude.{slice_get}
-use Rattle.net_plan.specs.declared.terminus.PlannedRecord as listed
+use Rattle.plan_values.specs.declared.terminus.PlannedRecord as listed
 use Rattle.net_rules.proofs.all_faults.records.is_new_handle.Given as goal
 
 abbrev pub invariant-loop-earlier : goal.invariant-loop-earlier

@@ -1,5 +1,5 @@
 use Rattle.std.proofs.Common.{◌≡◌, List, sym, ◌∙◌, ap, subst, arith, rules, inl, inr}
-use Rattle.net_plan.specs.declared.certificate.RankRange.{RankRange}
+use Rattle.plan_values.specs.declared.certificate.RankRange.{RankRange}
 use Rattle.net_tables.specs.Ranks.{ranges_of}
 use Rattle.net_rules.specs.RanksByEid.{AreRangesByNode}
 use Rattle.net_tables.proofs.Elements.{in_push}

@@ -1,7 +1,7 @@
 use Rattle.std.proofs.Common.{◌≡◌, ℕ, ◌+◌, ◌≤◌, length, arith, List, sym, ◌∙◌, subst}
 use Rattle.net_rules.specs.declared.certifying.longest_ways.Longest.{Longest}
 use Rattle.net_rules.specs.declared.certifying.longest_ways.Longest.TheVariants.{Ended}
-use Rattle.net_plan.specs.declared.certificate.NodeRanks.{NodeRanks}
+use Rattle.plan_values.specs.declared.certificate.NodeRanks.{NodeRanks}
 use Rattle.net_tables.specs.Routing.{MovesTo}
 use Rattle.net_rules.specs.LongestWays.{IsLongestOrLoop}
 use Rattle.net_rules.specs.RankRuns.{AreNone, AreGrown}

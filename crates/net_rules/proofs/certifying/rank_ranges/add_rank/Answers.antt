@@ -1,7 +1,7 @@
 use Rattle.std.proofs.Common.{◌≡◌, ℕ, List, ◌+◌, ◌-◌, ◌<◌, ◌≤◌, length, sym, ◌∙◌, ap, arith, subst}
 use Rattle.std.specs.Prelude.{slice_set}
 use Rattle.std.proofs.lemmas.Bool.{false≢true}
-use Rattle.net_plan.specs.declared.certificate.RankRange.{RankRange}
+use Rattle.plan_values.specs.declared.certificate.RankRange.{RankRange}
 use Rattle.net_rules.specs.RankRuns.{AreLongestRuns, Continues, below}
 use Rattle.net_rules.proofs.RankRunLaws.{skipped, pushed, extended, read_last, precedes_ends}
 use Rattle.net_rules.proofs.certifying.rank_ranges.add_rank.Goals.{After-index}

@@ -2,7 +2,7 @@ use Rattle.std.proofs.Common.{◌≡◌, ◌<◌, length, Some, sym, ◌∙◌, 
 use Rattle.std.specs.Prelude.{slice_get}
 use Rattle.std.proofs.lemmas.Option.{slice_get_within, get_or_from_slice_get}
 use Rattle.std.proofs.lemmas.List.{length-set}
-use Rattle.net_plan.specs.declared.certificate.NodeRanks.{NodeRanks}
+use Rattle.plan_values.specs.declared.certificate.NodeRanks.{NodeRanks}
 use Rattle.net_rules.specs.RankRuns.{IsGrown, AreLongestRuns, below}
 use Rattle.net_tables.proofs.Elements.{in_set, set_elsewhere}
 use Rattle.net_rules.proofs.certifying.rank_ranges.add_ranks.Goals as goal

@@ -1,5 +1,5 @@
 use Rattle.std.proofs.Common.{ℕ, List, ◌∷◌, subst, arith}
-use Rattle.mctp_bridge.specs.Pieces.{PieceValue, piece_value, ArePieces}
+use Rattle.mctp_routing.specs.Pieces.{PieceValue, piece_value, ArePieces}
 use Rattle.net_rules.proofs.AlikeLaws.{piece_inside, piece_hop, piece_ends, some_piece}
 use Rattle.net_rules.proofs.certifying.stretches.routed_until.Goals.{In-Some}
 use Rattle.net_rules.proofs.certifying.stretches.routed_until.Goals as goal

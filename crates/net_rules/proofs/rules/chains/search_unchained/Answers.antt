@@ -2,7 +2,7 @@ use Rattle.std.proofs.Common.{◌≡◌, ◌≤◌, Some, length, refl, sym, ◌
 use Rattle.std.specs.Prelude.{slice_get}
 use Rattle.std.proofs.lemmas.Option.{slice_get_read, slice_get_within, same_Some}
 use borrow.Author.Count.{below_more}
-use Rattle.net_plan.specs.declared.terminus.PlannedRecord.{PlannedRecord}
+use Rattle.plan_values.specs.declared.terminus.PlannedRecord.{PlannedRecord}
 use Rattle.net_tables.specs.Routing.{OfItem}
 use Rattle.net_tables.specs.Repositories.{IsChained}
 use Rattle.net_rules.proofs.Handles.{values, value_of_place, has_one_more, missed, had, is_chained, not_given, not_new, not_led_on}

@@ -1,5 +1,5 @@
 use Rattle.std.proofs.Common.{subst}
-use Rattle.net_plan.specs.declared.plan.Plan.{Plan}
+use Rattle.plan_values.specs.declared.plan.Plan.{Plan}
 use Rattle.net_tables.specs.Routing.{Holds}
 use Rattle.net_rules.proofs.OtherSearches.{held_by, held_by_nobody}
 use Rattle.net_rules.proofs.rules.locators.is_held_by_terminus.Goals as goal

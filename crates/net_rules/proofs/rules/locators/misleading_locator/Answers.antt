@@ -1,5 +1,5 @@
 use Rattle.std.proofs.Common.{ℕ, arith}
-use Rattle.net_plan.specs.declared.terminus.PlannedRecord as plan
+use Rattle.plan_values.specs.declared.terminus.PlannedRecord as plan
 use Rattle.net_tables.specs.Repositories.{records_of}
 use Rattle.net_rules.specs.Locators.{HasOneByteAsEid, LocatesTerminus}
 use Rattle.net_rules.proofs.OtherSpots.{meets_everywhere}

@@ -2,7 +2,7 @@ use Rattle.std.proofs.Common.{◌≡◌, Some, length, sym, ◌∙◌, subst, ar
 use Rattle.std.specs.Prelude.{slice_get}
 use Rattle.std.proofs.lemmas.Option.{slice_get_read, slice_get_within, same_Some}
 use borrow.Author.Count.{below_more}
-use Rattle.net_plan.specs.declared.terminus.PlannedRecord.{PlannedRecord}
+use Rattle.plan_values.specs.declared.terminus.PlannedRecord.{PlannedRecord}
 use Rattle.net_tables.specs.Routing.{OfItem}
 use Rattle.net_tables.specs.Repositories.{HasNewHandle}
 use Rattle.net_rules.proofs.Handles.{handles_of, handle_of_record, has_one_more, is_new, is_not_new}

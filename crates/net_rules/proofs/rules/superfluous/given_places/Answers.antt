@@ -1,6 +1,6 @@
 use Rattle.std.proofs.Common.{ℕ, List, length, sym, ap, ◌∙◌}
 use Rattle.std.proofs.lemmas.List.{length-map}
-use Rattle.net_plan.specs.declared.certificate.RecordPlace.{RecordPlace}
+use Rattle.plan_values.specs.declared.certificate.RecordPlace.{RecordPlace}
 use Rattle.net_rules.proofs.rules.superfluous.given_places.Goals as goal
 
 pub returns : goal.returns

@@ -3,7 +3,7 @@ use Rattle.std.specs.Prelude.{slice_get, slice_set, option_map}
 use Rattle.std.proofs.lemmas.List.{length-set, map-set}
 use Rattle.std.proofs.lemmas.Option.{slice_get_read, slice_get-map, same_Some}
 use Rattle.mctp_transport.specs.Packets.{key_value}
-use Rattle.mctp_bridge.specs.declared.decision.Decision.TheVariants.{Deliver}
+use Rattle.mctp_routing.specs.declared.decision.Decision.TheVariants.{Here}
 use Rattle.net_runs.specs.Events.{Move}
 use Rattle.net_runs.specs.Walkers.{WalkerValue, Happening}
 use Rattle.net_tables.proofs.Elements.{set_there}
@@ -135,7 +135,7 @@ returns-in_err-reserve-clause-full g c =
     let x = c.index_mut.result.now in
     let there : slice_get items c.in-Some.index ≡ Some x = slice_get_read items _ _ x refl c.in-Some.ensures.within c.index_mut.ensures.value in
     let mine = subst (λ (z : NetworkWalker). Listens m.node (key_value m.key) (walker_value z)) (same_Some y x (sym at ∙ there)) listens in
-    let holds = decided_as now.traffic.router f m on Deliver here in
+    let holds = decided_as now.traffic.router f m on Here here in
     err_lacks _ c.from_residual-in_err-reserve.result c.from_residual-in_err-reserve.ensures.0
     (inr (m.node, key_value m.key, (f, (at_number, holds), sym on.node, sym on.key), c.in-Some.index, x, there, mine, c.in_err-reserve.ensures.full))
 

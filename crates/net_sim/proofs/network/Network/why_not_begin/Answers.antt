@@ -1,5 +1,5 @@
 use Rattle.std.proofs.Common.{◌≡◌, ℕ, None, refl, ap, inl, inr, arith}
-use Rattle.net_plan.specs.declared.plan.Plan.{Plan}
+use Rattle.plan_values.specs.declared.plan.Plan.{Plan}
 use Rattle.net_tables.specs.Routing.{Holds}
 use Rattle.net_runs.specs.Walkers.{IsThere}
 use Rattle.net_sim.proofs.Begins.{is_there, is_among, begins_twice, begins_without_terminus, begins_with_wrong_count, may_begin}

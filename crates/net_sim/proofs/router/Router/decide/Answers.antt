@@ -1,7 +1,7 @@
 use Rattle.std.proofs.Common.{◌≡◌, ◌<◌, length, Some, refl, sym, subst}
 use Rattle.std.specs.Prelude.{slice_get}
 use Rattle.std.proofs.lemmas.Option.{slice_get_read}
-use Rattle.net_plan.specs.declared.plan.Plan.{Plan}
+use Rattle.plan_values.specs.declared.plan.Plan.{Plan}
 use Rattle.net_sim.specs.Flights.{flight_value}
 use Rattle.net_sim.specs.Routers.{has_switched, rows_in_force}
 use Rattle.net_sim.proofs.Deciding.{decided_by, goes_on}
@@ -17,8 +17,8 @@ returns-clause-decided c =
     let within : f.node < length c.plan.result.now.nodes.items = subst (λ (p : Plan). f.node < length p.nodes.items) (sym same) c.requires in
     let there : slice_get c.plan.result.now.nodes.items f.node ≡ Some node = slice_get_read _ _ _ node refl within c.index-node.ensures in
     let here : slice_get plan.nodes.items f.node ≡ Some node = subst (λ (p : Plan). slice_get p.nodes.items f.node ≡ Some node) same there in
-    decided_by plan (rows_in_force now f.node) f node c.table_in_force.result.now c.device_kind.result c.progress.result c.decide.result
-    c.table_in_force.ensures here c.device_kind.ensures c.progress.ensures c.decide.ensures
+    decided_by plan (rows_in_force now f.node) f node c.table_in_force.result.now c.device_kind.result c.at_origin.result c.decide.result
+    c.table_in_force.ensures here c.device_kind.ensures c.at_origin.ensures c.decide.ensures
 
 pub returns-clause-goes_on : goal.returns-clause-goes_on
 returns-clause-goes_on c =

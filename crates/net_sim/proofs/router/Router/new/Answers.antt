@@ -1,5 +1,5 @@
 use Rattle.std.proofs.Common.{List, Bool, sym, ◌∙◌, ap, subst}
-use Rattle.net_plan.specs.declared.plan.Plan.{Plan}
+use Rattle.plan_values.specs.declared.plan.Plan.{Plan}
 use Rattle.net_tables.specs.Rows.{RowsAreApart, RowsAreInRange}
 use Rattle.net_sim.specs.Routers.{has_switched}
 use Rattle.net_sim.proofs.Tabled.{are_rows_before, none_marked}

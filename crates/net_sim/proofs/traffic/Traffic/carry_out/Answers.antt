@@ -27,7 +27,7 @@ receive-requires-clause-node g c =
 pub receive-requires-clause-enough : goal.receive-requires-clause-enough
 receive-requires-clause-enough g c =
     let (f, there, on) = c.requires.decided in
-    let room = c.requires.enough c.in-Deliver.is in
+    let room = c.requires.enough c.in-Here.is in
     let same : flight_value c.in-Some.flight ≡ f = same_Some _ f (c.in-Some.ensures.flight ∙ there) in
     let ends : c.in-Some.flight.packet.header.eom ≡ true → c.args.decided.now.header.eom ≡ true = λ is. on.ends ∙ (ap (λ (x : Flight). x.packet.eom) (sym same) ∙ is) in
     let at : c.in-Some.flight.node ≡ c.args.decided.now.node = ap (λ (x : Flight). x.node) same ∙ sym on.node in (
@@ -76,7 +76,7 @@ returns-in-Some-clause-moves g c =
       f,
       there,
       enters router.tables _ _ c.args.number f there c.end.ensures.assemblers (same_means _ _ _ c.end.ensures.queues) (same_marks _ _ c.end.ensures.router) _ _
-          (receives_same _ _ c.args.number _ _ f same c.receive.ensures.receives) (decided_as router f c.args.decided.now on _ c.in-Deliver.is) c.end.ensures.flights,
+          (receives_same _ _ c.args.number _ _ f same c.receive.ensures.receives) (decided_as router f c.args.decided.now on _ c.in-Here.is) c.end.ensures.flights,
     )
 
 pub returns-in-Drop-clause-moves : goal.returns-in-Drop-clause-moves

@@ -1,7 +1,7 @@
 use Rattle.std.proofs.Common.{ℕ, ◌≡◌, length, refl, sym, ◌∙◌, ap, arith, below_more}
 use Rattle.std.proofs.lemmas.List.{map-id}
 use Rattle.mctp_transport.specs.Packets.{key_value}
-use Rattle.net_plan.specs.declared.plan.Plan.{Plan}
+use Rattle.plan_values.specs.declared.plan.Plan.{Plan}
 use Rattle.net_tables.specs.Routing.{Holds}
 use Rattle.net_sim.specs.Flights.{slots_of}
 use Rattle.net_sim.specs.Settling.{IsClearAt}

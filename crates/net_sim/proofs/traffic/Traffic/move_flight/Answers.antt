@@ -1,6 +1,6 @@
 use Rattle.std.proofs.Common.{◌≡◌, ◌<◌, ◌≤◌, ◌++◌, ◌∷◌, [], List, length, Option, Some, inl, inr, sym, ◌∙◌, ap, subst}
 use Rattle.std.specs.Prelude.{is_some, IfSome, slice_get}
-use Rattle.mctp_bridge.specs.declared.decision.Decision.TheVariants.{Deliver}
+use Rattle.mctp_routing.specs.declared.decision.Decision.TheVariants.{Here}
 use Rattle.net_runs.specs.States.{Flight}
 use Rattle.net_runs.specs.Events.{most_flights}
 use Rattle.net_sim.specs.Flights.{slots_of, flight_at}
@@ -26,7 +26,7 @@ returns-in_err-room-clause-plays g c =
     let (f, there, on) = c.requires.decided in
     err_told _ _ c.from_residual.result c.from_residual.ensures.0
     (wants_move router.tables _ c.args.number c.args.keep f there c.requires.few _ room.assemblers room.termini (same_marks _ _ room.router)
-    (inr (decided_as router f c.args.decided.now on Deliver c.in_err-room.ensures.full.0)) room.flights)
+    (inr (decided_as router f c.args.decided.now on Here c.in_err-room.ensures.full.0)) room.flights)
 
 pub returns-in_err-room-clause-full : goal.returns-in_err-room-clause-full
 returns-in_err-room-clause-full g c =
@@ -36,7 +36,7 @@ returns-in_err-room-clause-full g c =
     err_lacks _ c.from_residual.result c.from_residual.ensures.0
     (inr (
       f,
-      (there, decided_as now.router f c.args.decided.now on Deliver here),
+      (there, decided_as now.router f c.args.decided.now on Here here),
       elim lacks [ inl ends ↦ inl (sym on.ends ∙ ends) | inr none ↦ inr (λ room. none (subst (HasRoomAt now) (sym on.node) room)) ],
     ))
 

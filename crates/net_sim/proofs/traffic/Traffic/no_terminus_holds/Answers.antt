@@ -1,5 +1,5 @@
 use Rattle.std.proofs.Common.{ℕ, ◌≡◌, ◌≢◌, length, Option, Some, None, refl, ◌∙◌, ap, arith, below_more}
-use Rattle.net_plan.specs.declared.plan.Plan.{Plan}
+use Rattle.plan_values.specs.declared.plan.Plan.{Plan}
 use Rattle.net_tables.specs.Routing.{Holds}
 use Rattle.net_tables.proofs.Elements.{holder_within}
 use Rattle.net_sim.proofs.traffic.Traffic.no_terminus_holds.Goals as goal

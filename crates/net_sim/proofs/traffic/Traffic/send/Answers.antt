@@ -4,8 +4,8 @@ use Rattle.std.proofs.lemmas.Option.{slice_get_read}
 use Rattle.mctp_transport.specs.PacketsLeft.{frames_left}
 use Rattle.mctp_transport.specs.Cutting.{ArePacketsOf}
 use Rattle.mctp_transport.proofs.Sending.{few_packets}
-use Rattle.net_plan.specs.declared.plan.Plan.{Plan}
-use Rattle.net_plan.specs.declared.nodes.Node.{Node}
+use Rattle.plan_values.specs.declared.plan.Plan.{Plan}
+use Rattle.plan_values.specs.declared.nodes.Node.{Node}
 use Rattle.net_sim.specs.Flights.{slots_of}
 use Rattle.net_sim.proofs.Packing.{begun_length}
 use Rattle.net_sim.proofs.Rooms.{enough_rooms}

@@ -1,5 +1,5 @@
 use Rattle.std.proofs.Common.{◌≡◌, length, refl, ◌∙◌, ap}
-use Rattle.net_plan.specs.declared.plan.Plan.{Plan}
+use Rattle.plan_values.specs.declared.plan.Plan.{Plan}
 use Rattle.net_tables.specs.TwoPlans.{Tables}
 use Rattle.mctp_transport.specs.Heard.{IsIdle}
 use Rattle.net_sim.proofs.Dealt.{all_at, queues_long, no_flight_there, dealt_same, stands_at_rest, rest_is_start}

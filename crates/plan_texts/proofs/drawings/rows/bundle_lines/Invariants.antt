@@ -1,5 +1,5 @@
 use Rattle.std.proofs.Common.{◌≡◌, string_bytes, take}
-use Rattle.net_plan.specs.declared.nodes.Node.{Node}
+use Rattle.plan_values.specs.declared.nodes.Node.{Node}
 use Rattle.plan_texts.specs.DrawingLines.{all_by_index}
 use Rattle.plan_texts.specs.RowDrawings.{bundles_of}
 use Rattle.plan_texts.proofs.drawings.rows.bundle_lines.Given as goal

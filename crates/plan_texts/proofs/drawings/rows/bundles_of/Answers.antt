@@ -1,5 +1,5 @@
 use Rattle.std.proofs.Common.{◌∙◌, string_bytes}
-use Rattle.net_plan.specs.declared.nodes.Node.{Node}
+use Rattle.plan_values.specs.declared.nodes.Node.{Node}
 use Rattle.plan_texts.specs.RowDrawings.{bundle_text}
 use Rattle.plan_texts.proofs.Drawn.{one_more}
 use Rattle.plan_texts.proofs.drawings.rows.bundles_of.Goals as goal

@@ -1,6 +1,6 @@
 use Rattle.std.proofs.Common.{length, refl, arith}
 use Rattle.std.proofs.lemmas.Option.{slice_get_read}
-use Rattle.net_plan.specs.declared.nodes.Row.{Row}
+use Rattle.plan_values.specs.declared.nodes.Row.{Row}
 use Rattle.net_tables.specs.Routing.{Covers}
 use Rattle.net_tables.proofs.RowSearches.{of_one_more, of_all_items}
 use Rattle.plan_texts.proofs.drawings.rows.named_for.Goals as goal

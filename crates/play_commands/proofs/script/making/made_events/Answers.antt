@@ -1,7 +1,7 @@
 use Rattle.std.proofs.Common.{◌≡◌, ◌∙◌, ◌+◌, ◌++◌, ◌∷◌, [], ap, length, arith}
 use Rattle.std.proofs.lemmas.List.{length_push}
-use Rattle.net_plan.specs.declared.event.Event.{Event}
-use Rattle.net_plan.specs.declared.event.Event.TheVariants as event
+use Rattle.plan_values.specs.declared.event.Event.{Event}
+use Rattle.plan_values.specs.declared.event.Event.TheVariants as event
 use Rattle.net_tables.specs.TwoPlans.{one_plan}
 use Rattle.net_sim.specs.Networks.{checked_of}
 use Rattle.command_answers.proofs.Places.{starts_in}

@@ -1,6 +1,6 @@
 use Rattle.std.proofs.Common.{◌≡◌, length}
 use Rattle.pdr_repository.specs.BlockTermini.{block_tid, block_records}
-use Rattle.net_plan.specs.declared.event.Event.{Event}
+use Rattle.plan_values.specs.declared.event.Event.{Event}
 use Rattle.net_runs.specs.Walkers.{BeginWalk}
 use Rattle.net_sim.specs.Networks.{network_value, checked_of}
 use Rattle.net_sim.specs.Outcomes.{event_value}

@@ -1,5 +1,5 @@
 use Rattle.std.proofs.Common.{rules, ◌≡◌, List, map, Err, refl, subst}
-use Rattle.net_plan.specs.declared.event.Event.{Event}
+use Rattle.plan_values.specs.declared.event.Event.{Event}
 use Rattle.net_sim.specs.Outcomes.{event_value}
 use Rattle.command_answers.specs.Answers.{stream, IsFaultText}
 use Rattle.play_commands.specs.Simulating.{RunsOn, IsPlayText, TellsRun, IsSimFault, IsSimAnswer, AreUnreadAmong, PlaysSo}

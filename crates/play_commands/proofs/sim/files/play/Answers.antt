@@ -4,8 +4,8 @@ use Rattle.net_check.specs.declared.check_error.CheckError.{CheckError}
 use Rattle.net_check.specs.declared.check_error.CheckError.TheVariants as check_error
 use Rattle.net_check.specs.Errors.{NamesFirstFault}
 use Rattle.net_tables.specs.TwoPlans.{one_plan}
-use Rattle.net_plan.specs.declared.certificate.Certificate.{Certificate}
-use Rattle.net_plan.specs.declared.plan.Plan.{Plan}
+use Rattle.plan_values.specs.declared.certificate.Certificate.{Certificate}
+use Rattle.plan_values.specs.declared.plan.Plan.{Plan}
 use Rattle.net_sim.specs.Outcomes.{event_value}
 use Rattle.command_answers.specs.Answers.{stream, IsErrorText, IsFaultText}
 use Rattle.play_commands.specs.Simulating.{RunsOn, IsPlayText}

@@ -17,3 +17,12 @@ returns-in_err-events-clause-in_order g c = λ without. absurd (without c.in_ok-
 
 pub returns-clause-in_order : goal.returns-clause-in_order
 returns-clause-in_order g c = λ without. absurd (without c.in_ok-plan.plan c.in_ok-plan.ensures.given.plan_text)
+
+pub returns-in_err-plan-clause-certified_in_order : goal.returns-in_err-plan-clause-certified_in_order
+returns-in_err-plan-clause-certified_in_order g c = λ without. refl
+
+pub returns-in_err-events-clause-certified_in_order : goal.returns-in_err-events-clause-certified_in_order
+returns-in_err-events-clause-certified_in_order g c = λ without. absurd (without c.in_ok-plan.plan c.in_ok-plan.certificate c.in_ok-plan.ensures.given)
+
+pub returns-clause-certified_in_order : goal.returns-clause-certified_in_order
+returns-clause-certified_in_order g c = λ without. absurd (without c.in_ok-plan.plan c.in_ok-plan.certificate c.in_ok-plan.ensures.given)

@@ -1,8 +1,8 @@
 use Rattle.std.proofs.Common.{rules, ◌≡◌, ◌∙◌, map, Err, inr, refl, ap}
 use Rattle.std.specs.Cow.{cow_str_bytes}
 use Rattle.net_tables.specs.TwoPlans.{moving}
-use Rattle.net_plan.specs.declared.certificate.Certificate.{Certificate}
-use Rattle.net_plan.specs.declared.plan.Plan.{Plan}
+use Rattle.plan_values.specs.declared.certificate.Certificate.{Certificate}
+use Rattle.plan_values.specs.declared.plan.Plan.{Plan}
 use Rattle.net_sim.specs.Outcomes.{event_value}
 use Rattle.command_answers.specs.declared.refused.Refused.TheVariants as refused
 use Rattle.command_answers.specs.Answers.{stream}

@@ -27,3 +27,12 @@ returns-clause-in_order g c = λ without. absurd (without c.in_ok-before.before 
 
 pub returns-clause-after_in_order : goal.returns-clause-after_in_order
 returns-clause-after_in_order g c = λ without. absurd (without c.in_ok-before.after c.in_ok-before.ensures.given.after_text)
+
+pub returns-in_err-before-clause-certified_in_order : goal.returns-in_err-before-clause-certified_in_order
+returns-in_err-before-clause-certified_in_order g c = λ without. refl
+
+pub returns-in_err-events-clause-certified_in_order : goal.returns-in_err-events-clause-certified_in_order
+returns-in_err-events-clause-certified_in_order g c = λ without. absurd (without c.in_ok-before.before c.in_ok-before.after c.in_ok-before.certificate c.in_ok-before.ensures.given)
+
+pub returns-clause-certified_in_order : goal.returns-clause-certified_in_order
+returns-clause-certified_in_order g c = λ without. absurd (without c.in_ok-before.before c.in_ok-before.after c.in_ok-before.certificate c.in_ok-before.ensures.given)

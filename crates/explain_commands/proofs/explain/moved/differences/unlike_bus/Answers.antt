@@ -1,7 +1,7 @@
 use Rattle.std.proofs.Common.{refl, arith, below_more}
 use Rattle.std.proofs.lemmas.Bool.{false≢true}
-use Rattle.net_plan.proofs.SameItems.{IsSameAt, same_items, same_here}
-use Rattle.net_plan.specs.NodeValues.{bus_value}
+use Rattle.plan_values.proofs.SameItems.{IsSameAt, same_items, same_here}
+use Rattle.plan_values.specs.NodeValues.{bus_value}
 use Rattle.explain_commands.proofs.Differing.{unlike_bus_there}
 use Rattle.explain_commands.proofs.explain.moved.differences.unlike_bus.Goals as goal
 

@@ -1,6 +1,6 @@
 use Rattle.std.proofs.Common.{ℕ, ◌<◌}
-use Rattle.net_plan.proofs.SameItems.{IsSameAt}
-use Rattle.net_plan.specs.NodeValues.{bus_value}
+use Rattle.plan_values.proofs.SameItems.{IsSameAt}
+use Rattle.plan_values.specs.NodeValues.{bus_value}
 use Rattle.explain_commands.proofs.explain.moved.differences.unlike_bus.Given as goal
 
 abbrev pub invariant-loop-index : goal.invariant-loop-index

@@ -1,6 +1,6 @@
 use Rattle.std.proofs.Common.{◌≡◌, ◌++◌, ◌∙◌, List, ℕ, string_bytes, ap, subst}
 use Rattle.std.specs.Prelude.{IfOk, map}
-use Rattle.net_json.specs.Finding.{Step, step_value}
+use Rattle.net_plan.specs.Finding.{Step, step_value}
 use Rattle.fault_texts.specs.Places.{IsPlaceTold}
 use Rattle.explain_commands.specs.MoveRows.{file_of}
 use Rattle.explain_commands.proofs.MovedTexts.{row_told}

@@ -1,6 +1,0 @@
-use Rattle.std.proofs.Common.{take}
-use Rattle.mctp_bridge.specs.Rows.{AreLawful}
-use Rattle.mctp_bridge.proofs.row_faults.first_fault.Given as goal
-
-abbrev pub invariant-loop-index : goal.invariant-loop-index
-invariant-loop-index l = AreLawful (take l.index l.rows)

@@ -1,6 +1,0 @@
-use Rattle.std.proofs.Common.{take, All}
-use Rattle.mctp_bridge.specs.Rows.{AreApart}
-use Rattle.mctp_bridge.proofs.row_faults.first_overlap.Given as goal
-
-abbrev pub invariant-loop-index : goal.invariant-loop-index
-invariant-loop-index l = All (AreApart l.row) (take l.index l.rows)

@@ -1,5 +1,0 @@
-use Rattle.mctp_control.proofs.ReaderLaws.{asked}
-use Rattle.mctp_control.proofs.laws.asks_what_is_due.Goals as goal
-
-pub returns : goal.returns
-returns c = asked

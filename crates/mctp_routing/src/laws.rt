@@ -1,0 +1,11 @@
+//! A law of pieces. The function does nothing: its contract is the law.
+ghost use Rattle.std.specs.Prelude.{◌≡◌, ℕ, List};
+ghost use Rattle.mctp_routing.specs.declared.row.TableRow.{TableRow};
+ghost use Rattle.mctp_routing.specs.Rows.{IsTable};
+ghost use Rattle.mctp_routing.specs.Pieces.{PieceValue, ArePieces};
+
+/// A table cuts an interval into one list of pieces only.
+pub fn one_list_of_pieces()
+    ensures { (rows : List TableRow) (first last : ℕ) (pieces others : List PieceValue) → IsTable rows
+        → ArePieces rows first last pieces → ArePieces rows first last others → pieces ≡ others }
+{}

@@ -1,7 +1,0 @@
-use Rattle.net_json.specs.Grammar.{grammar, known_seen}
-use Rattle.net_json.specs.Trees.{view}
-use Rattle.net_json.proofs.Fitting.{searched}
-use Rattle.net_json.proofs.find.find_fault.Goals as goal
-
-pub returns-clause-fits : goal.returns-clause-fits
-returns-clause-fits c = searched (known_seen c.args.known) (grammar c.args.shape.now) (view c.args.value.now) c.first_fault.result c.first_fault.ensures

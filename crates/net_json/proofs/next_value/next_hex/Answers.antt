@@ -1,6 +1,0 @@
-use Rattle.net_json.proofs.Gathered.{hex_next}
-use Rattle.net_json.proofs.next_value.next_hex.Goals as goal
-
-pub returns : goal.returns
-returns c =
-    hex_next c.args.reader.now c.next_string.new.self c.in_ok-text.text.now c.in-Ok.bytes.items c.in_ok-text.ensures c.in-Ok.ensures.ok

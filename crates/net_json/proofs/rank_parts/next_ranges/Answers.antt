@@ -1,8 +1,0 @@
-use Rattle.net_json.specs.CertificateText.{IsRangeOf}
-use Rattle.net_plan.specs.CertificateValues.{range_value}
-use Rattle.net_json.proofs.Gathered.{any_list_there}
-use Rattle.net_json.proofs.rank_parts.next_ranges.Goals as goal
-
-pub returns : goal.returns
-returns c =
-    any_list_there IsRangeOf range_value c.args.depth c.args.reader.now c.next_list.new.reader c.in_ok-ranges.ranges.items c.in_ok-ranges.ensures.read

@@ -1,7 +1,0 @@
-use Rattle.std.proofs.Common.{rules, refl}
-use Rattle.net_json.specs.declared.shape.Shape.{the_lemmas}
-use Rattle.net_json.proofs.FieldKeys.{object_shows, list_shows, choice_shows, one_more_shows, none_show}
-use Rattle.net_json.proofs.tables.events_three.Goals as goal
-
-pub returns : goal.returns
-returns c = (object_shows _ _ _ (one_more_shows _ _ _ _ _ refl (record { is = search (rules, the_lemmas) }) (one_more_shows _ _ _ _ _ refl (list_shows _ _ _ (choice_shows _ _ _ _ _ _ refl refl (record { is = search (rules, the_lemmas) }) (one_more_shows _ _ _ _ _ refl (record { is = search (rules, the_lemmas) }) (one_more_shows _ _ _ _ _ refl (record { is = search (rules, the_lemmas) }) (one_more_shows _ _ _ _ _ refl (record { is = search (rules, the_lemmas) }) (one_more_shows _ _ _ _ _ refl (record { is = search (rules, the_lemmas) }) (one_more_shows _ _ _ _ _ refl (record { is = search (rules, the_lemmas) }) (one_more_shows _ _ _ _ _ refl (record { is = search (rules, the_lemmas) }) (one_more_shows _ _ _ _ _ refl (record { is = search (rules, the_lemmas) }) (one_more_shows _ _ _ _ _ refl (record { is = search (rules, the_lemmas) }) (one_more_shows _ _ _ _ _ refl (record { is = search (rules, the_lemmas) }) none_show))))))))))) none_show))).is

@@ -1,0 +1,14 @@
+use Rattle.std.proofs.Common.{Some, sym, subst, rules}
+use Rattle.net_plan.specs.EventParts.{IsEventBy}
+use Rattle.json.specs.Json.{object}
+use Rattle.plan_values.specs.EventValues.{walk}
+use Rattle.net_plan.specs.Gathered.{IsPlain}
+use Rattle.net_plan.specs.Trees.{data_of}
+use Rattle.net_plan.specs.NameIndexes.{noted}
+use Rattle.net_plan.proofs.EventParts.{walk_of}
+use Rattle.net_plan.proofs.event_parts.EventParts.walk.Goals as goal
+
+pub returns : goal.returns
+returns c =
+    λ ms h does. subst (λ v. IsEventBy (noted c.args.nodes.now) (data_of (object ms)) (walk c.in_ok-index.index v c.in_ok-tag.tag.value c.in_ok-count.count) × IsPlain (object ms)) (sym c.new.ensures)
+    (walk_of c.args.self.now ms h (noted c.args.nodes.now) c.in_ok-node.node c.in_ok-eid.eid c.in_ok-tag.tag c.in_ok-count.count c.in_ok-index.index (search rules) (search rules) (search rules) (search rules) (search rules) (search rules) does)

@@ -1,0 +1,8 @@
+use Rattle.json.specs.Json.{object}
+use Rattle.net_plan.proofs.Gathered.{if_some}
+use Rattle.net_plan.proofs.record_parts.NextRecordNextItem.next_item.Goals as goal
+
+pub returns : goal.returns
+returns c =
+    let read = c.in_ok-read_object.ensures.read in
+    if_some c.record.result (λ r told. (object read.0, read.1, told read.0 (read.2 c.none-parts.ensures))) c.record.ensures

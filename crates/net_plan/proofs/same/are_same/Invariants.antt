@@ -1,6 +1,0 @@
-use Rattle.std.proofs.Common.{ℕ, ◌<◌}
-use Rattle.net_plan.proofs.SameItems.{IsSameAt}
-use Rattle.net_plan.proofs.same.are_same.Given as goal
-
-abbrev pub invariant-loop-index : goal.invariant-loop-index
-invariant-loop-index g l = (k : ℕ) → k < l.index → IsSameAt g.P.PlanPart.meaning l.parts l.others k

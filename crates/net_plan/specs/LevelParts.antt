@@ -1,0 +1,17 @@
+-- What is gathered of a level, a key after another.
+use Rattle.std.specs.Prelude.{ℕ, codes, List, [], ◌∷◌, Option}
+use Rattle.serde_json.specs.Data.{Data}
+use Rattle.net_plan.specs.CertificateText.{IsLevelOf}
+use Rattle.plan_values.specs.CertificateValues.{LevelValue}
+use Rattle.net_plan.specs.Gathered.{Slot, slot}
+use Rattle.net_plan.specs.JsonWords.{IsName, IsNumberWithin}
+use Rattle.net_plan.specs.NameIndexes.{IsIndexOf}
+use Rattle.net_plan.specs.declared.level_parts.LevelParts.{LevelParts}
+
+abbrev pub level_slots : LevelParts → List Slot
+level_slots p =
+    slot (codes "level") (IsNumberWithin 1 63) p.level ∷ slot (codes "node") (λ d name. IsName d name.now) p.node ∷ []
+
+-- the level of a node whose index is found
+abbrev pub IsLevelBy : (List ℕ → Option ℕ) → Data → LevelValue → Type 0
+IsLevelBy find d l = (names : List (List ℕ)) → IsIndexOf find names → IsLevelOf names d l
