@@ -1,20 +1,12 @@
--- Endpoint IDs that rows cover: those of one row more, and rows that share one.
-use Rattle.std.proofs.Common.{◌≡◌, ◌⊎◌, ◌↔◌, ℕ, zero, suc, ◌+◌, ◌<◌, ◌≤◌, List, length, get_or, Some, false, true, slice_index_or, replicate, take, refl, sym, ◌∙◌, subst, arith, inl, inr}
+-- Endpoint IDs that rows cover: those of one row more, and those of all rows.
+use Rattle.std.proofs.Common.{◌≡◌, ◌⊎◌, ◌↔◌, ℕ, ◌+◌, ◌<◌, ◌≤◌, List, length, Some, refl, sym, ◌∙◌, subst, arith, inl, inr}
 use Rattle.std.specs.Prelude.{slice_get}
 use Rattle.std.proofs.lemmas.Bool.{cases_lt}
-use Rattle.std.proofs.lemmas.List.{get_or-take, length-take-le}
-use Rattle.std.proofs.lemmas.Option.{same_Some, slice_get_within, slice_get-get_or, get_or_from_slice_get}
+use Rattle.std.proofs.lemmas.Option.{same_Some, slice_get_within}
 use Rattle.plan_values.specs.declared.nodes.Row.{Row}
 use Rattle.plan_values.specs.declared.plan.Plan.{Plan}
 use Rattle.net_tables.specs.Routing.{Covers, HasRow, rows_of}
-use Rattle.net_tables.specs.Rows.{AreApart, IsApartFromEarlier}
-use Rattle.net_rules.specs.CoveredEids.{IsCovered}
-
--- there is no mark in a list of none
-pub no_mark : (n e : ℕ) → slice_index_or (replicate n false) e false ≡ true → ⊥
-no_mark zero e h = cc
-no_mark (suc n) zero h = cc
-no_mark (suc n) (suc e) h = no_mark n e h
+use Rattle.net_rules.specs.Spans.{IsCovered}
 
 -- one of the first so many rows covers e
 abbrev pub IsCoveredBefore : List Row → ℕ → ℕ → Type 0
@@ -48,24 +40,3 @@ covered_has plan n rows same e = (
   λ (r, row, is, covers). (let P : List Row → Type 0 = λ rs. slice_get rs r ≡ Some row in (row.next, (r, row, subst P same is, covers, refl))),
   λ (m, (r, row, is, covers, next)). (let P : List Row → Type 0 = λ rs. slice_get rs r ≡ Some row in (r, row, subst P (sym same) is, covers)),
 )
-
--- a row that shares no endpoint ID with those before it
-pub shares_none : (rows : List Row) (r : ℕ) (row : Row) → r ≤ length rows → ((e : ℕ) → Covers row e → ¬ IsCoveredBefore rows r e) → IsApartFromEarlier rows r row
-unfolding AreApart IsApartFromEarlier
-shares_none rows r row within none k d lt e covers other =
-    let less : k < r = omega (arith, length-take-le r rows within, lt) in
-    let there = slice_get-get_or rows k d (omega arith) in
-    let same : get_or (take r rows) k d ≡ get_or rows k d = get_or-take r rows k d less in
-    let C : Row → Type 0 = λ x. Covers x e in
-    none e covers (k, get_or rows k d, less, there, subst C same other)
-
--- and one that shares some
-pub shares_one : (rows : List Row) (r : ℕ) (row : Row) (e : ℕ) → r ≤ length rows → Covers row e → IsCoveredBefore rows r e → ¬ IsApartFromEarlier rows r row
-unfolding AreApart IsApartFromEarlier
-shares_one rows r row e within covers (k, one, less, is, others) apart =
-    let inside = slice_get_within rows k one is in
-    let long = length-take-le r rows within in
-    let same : get_or (take r rows) k one ≡ get_or rows k one = get_or-take r rows k one less in
-    let there : get_or rows k one ≡ one = get_or_from_slice_get rows k one one is in
-    let C : Row → Type 0 = λ x. Covers x e in
-    apart k one (omega arith) e covers (subst C (sym (same ∙ there)) others)

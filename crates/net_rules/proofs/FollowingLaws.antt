@@ -1,5 +1,5 @@
 -- What is found by halving among items that follow one another.
-use Rattle.std.proofs.Common.{◌≡◌, ℕ, ◌<◌, ◌≤◌, List, length, get_or, true, false, arith, inl, inr, subst}
+use Rattle.std.proofs.Common.{◌≡◌, ℕ, ◌-◌, ◌<◌, ◌≤◌, List, length, get_or, Some, true, false, arith, inl, inr, subst}
 use Rattle.std.specs.List.{AllWithin}
 use Rattle.std.specs.List.Sorted.{IsNonDecreasingBy, IsPartitionedBy}
 use Rattle.std.proofs.Math.Dec.{leb}
@@ -7,6 +7,9 @@ use Rattle.std.proofs.lemmas.Bool.{cases_lt}
 use Rattle.std.proofs.lemmas.Bool.Decides.{nat_tests}
 use Rattle.std.proofs.lemmas.List.Sorted.{IsPartitionedBy-leb}
 use Rattle.std.proofs.lemmas.Option.{slice_get_within, slice_get-get_or, get_or_from_slice_get}
+use Rattle.std.specs.Prelude.{slice_get}
+use Rattle.net_tables.specs.Routing.{OfItem}
+use Rattle.net_tables.proofs.Elements.{element}
 use Rattle.net_rules.specs.Following.{Follow, EndedBy}
 
 low_test : (n e : ℕ) → leb n e ≡ true → n ≤ e
@@ -40,4 +43,36 @@ module _ {A : Type 0} (first past : A → ℕ) (grows : (x : A) → first x ≤ 
     left = λ k le x is.
         let P : A → Type 0 = λ y. leb (past y) e ≡ false in
         high_test (past x) e (subst P (get_or_from_slice_get items k x x is) (high k x le (slice_get_within items k x is)));
+  }
+
+  -- so many are ended where the last of them is, and the next one isn't
+  pub ended_at : (e count : ℕ) → count ≤ length items → (0 < count → OfItem items (count - 1) (λ x. past x ≤ e)) → OfItem items count (λ x. e < past x) → EndedBy past items e count
+  ended_at e count within last next = record {
+    within = within;
+    ended = λ k lt x is.
+        let one = element items (count - 1) (omega arith) in
+        let low = last (omega arith) one.0 one.1 in
+        elim (cases_lt k (count - 1)) [
+          | inl before ↦ (
+              let apart = follow k (count - 1) x one.0 before is one.1 in
+              let longer = grows one.0 in
+              omega arith)
+          | inr after ↦ (
+              let same : k ≡ count - 1 = omega arith in
+              let P : ℕ → Type 0 = λ i. slice_get items i ≡ Some x in
+              last (omega arith) x (subst P same is))
+        ];
+    left = λ k le x is. elim (cases_lt count k) [
+      | inl after ↦ (
+          let inside = slice_get_within items k x is in
+          let one = element items count (omega arith) in
+          let high = next one.0 one.1 in
+          let apart = follow count k one.0 x after one.1 is in
+          let longer = grows x in
+          omega arith)
+      | inr last' ↦ (
+          let same : k ≡ count = omega arith in
+          let P : ℕ → Type 0 = λ i. slice_get items i ≡ Some x in
+          next x (subst P same is))
+    ];
   }

@@ -4,6 +4,9 @@ mod OtherSpots
 pub mod OtherSearches
 mod StretchLaws
 mod CoveredLaws
+mod SpanLaws
+mod PairsMoved
+mod FallLaws
 mod FollowingLaws
 mod RanksByEid
 mod HolderLaws

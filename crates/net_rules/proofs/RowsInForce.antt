@@ -1,17 +1,19 @@
 -- The stretches of what is asked of the rows in force, whichever plan each node goes by.
-use Rattle.std.proofs.Common.{◌≡◌, ◌≢◌, ℕ, ◌<◌, ◌≤◌, List, length, Option, Some, None, sym, ◌∙◌, arith, inl, inr}
+use Rattle.std.proofs.Common.{◌≡◌, ℕ, ◌<◌, ◌≤◌, List, length, Option, Some, None, sym, ◌∙◌, arith, inl, inr}
 use Rattle.std.specs.Prelude.{◌↔◌, MatchOption}
 use Rattle.mctp_transport.specs.declared.address.Eid.{Eid}
 use Rattle.plan_values.specs.declared.certificate.RankRange.{RankRange}
 use Rattle.plan_values.specs.declared.certificate.Certificate.{Certificate}
 use Rattle.plan_values.specs.declared.plan.Plan.{Plan}
-use Rattle.net_tables.specs.Routing.{Holds, HasRow, IsBridge, eid_number}
+use Rattle.net_tables.specs.Routing.{Holds, HasRow, IsBridge, OfItem, eid_number}
 use Rattle.net_tables.specs.TwoPlans.{Tables, moving, HasRowAlways, HasRowEver}
 use Rattle.net_rules.specs.HeldEids.{IsLedOn}
-use Rattle.net_rules.specs.Superfluous.{NeedsItsRank}
-use Rattle.net_rules.specs.Stretches.{IsStretch, IsLeastFailure}
+use Rattle.net_rules.specs.Superfluous.{NeedsItsRank, NeedsRankBy}
+use Rattle.net_rules.specs.Stretches.{IsStretch, IsAlong, IsLeastFailure}
 use Rattle.net_tables.specs.Ranks.{ranges_of, rank_in, rank}
 use Rattle.net_rules.proofs.StretchLaws.{shorter, rank_of_ranges}
+use Rattle.net_rules.proofs.RanksByEid.{Has, ranked_by}
+use Rattle.std.proofs.lemmas.Option.{slice_get_within}
 
 pub both_alike : (before after : Plan) (n at a b less : ℕ) → IsStretch (HasRow before n) at a → IsStretch (HasRow after n) at b → at < less → less ≤ a → less ≤ b
     → IsStretch (HasRowAlways (moving before after) n) at less
@@ -70,10 +72,6 @@ either_alike before after n at a b less one other some le le' =
           ),
     )
 
--- that a node needs the rank that its ranges give, by one of the plans
-abbrev pub NeedsRankBy : Tables → ℕ → List RankRange → ℕ → Type 0
-NeedsRankBy tables n ranges e = rank_in ranges e ≢ 0 → ¬ Holds tables.plan n e × HasRowEver tables n e
-
 need_of_ranges : (tables : Tables) (cert : Certificate) (n : ℕ) (ranges : List RankRange) (e : ℕ) → rank_in ranges e ≡ rank cert n e → (e ≤ 255 → NeedsRankBy tables n ranges e)
     → NeedsItsRank tables cert n e
 unfolding NeedsItsRank
@@ -93,3 +91,26 @@ first_of_all_eids tables cert n ranges (Some eid) within same found = (
   λ need. found.2 (range_of_need tables cert n ranges eid.value (rank_of_ranges cert n eid.value ranges same) within (omega arith) need),
   λ d less. need_of_ranges tables cert n ranges d (rank_of_ranges cert n d ranges same) (λ small. found.3 d (omega arith) less),
 )
+
+-- the stretch of what is asked of a rank that ranges give
+pub need_alike : (tables : Tables) (n : ℕ) (ranges : List RankRange) (at given covered held less rank : ℕ) → IsAlong (rank_in ranges) at given rank → IsStretch (HasRowEver tables n) at covered
+    → IsStretch (Holds tables.plan n) at held → less ≤ given → less ≤ covered → less ≤ held → at < less → IsStretch (NeedsRankBy tables n ranges) at less
+need_alike tables n ranges at given covered held less rank along rows holds le le' le'' some = (
+  some,
+  λ e low high.
+      let row = rows.1 e low (omega arith) in
+      let hold = holds.1 e low (omega arith) in
+      let here : rank_in ranges at ≡ rank = along.1 at (omega arith) (omega arith) in
+      let there : rank_in ranges e ≡ rank = along.1 e low (omega arith) in (
+        λ need some'. (let met = need (λ none. some' (here ∙ (sym there ∙ none))) in (λ h. met.0 (hold.1 h), row.0 met.1)),
+        λ need some'. (let met = need (λ none. some' (there ∙ (sym here ∙ none))) in (λ h. met.0 (hold.0 h), row.1 met.1)),
+      ),
+)
+
+-- what each range needs, all that is given a rank needs
+pub all_needed : (tables : Tables) (n : ℕ) (ranges : List RankRange) (count : ℕ) → length ranges ≤ count
+    → ((k : ℕ) → k < count → OfItem ranges k (λ range. (e : ℕ) → Has range e → ¬ Holds tables.plan n e × HasRowEver tables n e)) → (e : ℕ) → NeedsRankBy tables n ranges e
+all_needed tables n ranges count all each e some =
+    let found = ranked_by ranges e some in
+    let within = slice_get_within ranges found.0 found.1 found.2 in
+    each found.0 (omega arith) found.1 found.2 e found.3

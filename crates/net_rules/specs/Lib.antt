@@ -6,7 +6,8 @@ pub mod Holders
 pub mod Stretches
 pub mod Following
 pub mod RanksByEid
-pub mod CoveredEids
+pub mod Spans
+pub mod RowsByNode
 pub mod HeldEids
 pub mod Locators
 pub mod Superfluous

@@ -1,13 +1,18 @@
--- The ranks that ranges give, by endpoint ID and by node.
-use Rattle.std.specs.Prelude.{◌≡◌, ℕ, ◌<◌, List, slice_index_or}
+-- The ranges that give ranks, in order, and by node.
+use Rattle.std.specs.Prelude.{◌≡◌, ℕ, ◌+◌, List}
 use Rattle.plan_values.specs.declared.certificate.RankRange.{RankRange}
 use Rattle.plan_values.specs.declared.certificate.Certificate.{Certificate}
 use Rattle.net_tables.specs.Routing.{OfItem}
-use Rattle.net_tables.specs.Ranks.{rank_in, ranges_of}
+use Rattle.net_tables.specs.Ranks.{ranges_of}
+use Rattle.net_rules.specs.Following.{Follow}
 
--- by endpoint ID, the rank that the ranges give it
-abbrev pub AreRanksOf : List RankRange → List ℕ → Type 0
-AreRanksOf ranges ranks = (e : ℕ) → e < 256 → slice_index_or ranks e 0 ≡ rank_in ranges e
+-- the number after that of the range's last EID
+abbrev pub range_past : RankRange → ℕ
+range_past range = range.first.value + range.size
+
+-- each range ends before any later one begins
+abbrev pub RangesFollow : List RankRange → Type 0
+RangesFollow ranges = Follow (λ range. range.first.value) range_past ranges
 
 -- lists of ranges by the index of a node, each as the certificate gives it to that node
 abbrev pub AreRangesByNode : Certificate → List (List RankRange) → Type 0

@@ -1,10 +1,11 @@
 -- What a certificate gives that the plan has no use for.
-use Rattle.std.specs.Prelude.{◌≡◌, ◌≢◌, ℕ, ◌<◌, ◌≤◌, length, None}
+use Rattle.std.specs.Prelude.{◌≡◌, ◌≢◌, ℕ, ◌<◌, ◌≤◌, List, length, None}
 use Rattle.plan_values.specs.declared.plan.Plan.{Plan}
 use Rattle.plan_values.specs.declared.certificate.Certificate.{Certificate}
 use Rattle.net_tables.specs.Routing.{Holds}
 use Rattle.net_tables.specs.TwoPlans.{Tables, HasRowEver}
-use Rattle.net_tables.specs.Ranks.{rank}
+use Rattle.plan_values.specs.declared.certificate.RankRange.{RankRange}
+use Rattle.net_tables.specs.Ranks.{rank, rank_in}
 use Rattle.net_tables.specs.Ownership.{owner_of, given_level}
 use Rattle.net_tables.specs.Repositories.{records_of, places_of}
 
@@ -24,3 +25,7 @@ NeedsWhatItIsGiven plan cert n = n < length plan.nodes.items → NeedsItsLevel p
 unfoldable pub NeedsItsRank : Tables → Certificate → ℕ → ℕ → Type 0
 NeedsItsRank tables cert n e =
     n < length tables.plan.nodes.items → e ≤ 255 → rank cert n e ≢ 0 → ¬ Holds tables.plan n e × HasRowEver tables n e
+
+-- and so where these ranges give n its rank
+abbrev pub NeedsRankBy : Tables → ℕ → List RankRange → ℕ → Type 0
+NeedsRankBy tables n ranges e = rank_in ranges e ≢ 0 → ¬ Holds tables.plan n e × HasRowEver tables n e

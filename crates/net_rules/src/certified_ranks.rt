@@ -1,10 +1,11 @@
 //! The certified ranks by node and endpoint ID, ready for look-ups.
 ghost use Rattle.std.specs.Prelude.{◌≡◌, IfOk};
 ghost use Rattle.net_tables.specs.Ranks.{rank};
+ghost use Rattle.net_rules.specs.Stretches.{IsAlong};
 
-use crate::node_ranges::NodeRanges;
+use crate::node_ranges::{NodeRanges, RankStretch};
 use mctp_transport::Eid;
-use net_tables::lookup::{ranges_at, rank_in_ranges};
+use net_tables::lookup::ranges_at;
 use plan_values::Certificate;
 use std::alloc::{AllocError, Global};
 use std::marker::Model;
@@ -51,13 +52,22 @@ impl<'a> CertifiedRanks<'a> {
         self.certificate
     }
 
+    /// The rank of a node for an endpoint ID, and how far it goes on. The guess, where the node's range may stand,
+    /// changes nothing but the time that this takes.
+    #[inline(always)]
+    pub fn stretch(&self, node: usize, eid: Eid, guess: usize) -> RankStretch
+        ensures { IsAlong (rank self.now node) eid.value result.end result.rank }
+    {
+        match self.by_node.get(node) {
+            Some(ranges) => ranges.stretch(eid, guess),
+            None => NodeRanges::of(ranges_at(self.certificate, node)).stretch(eid, guess),
+        }
+    }
+
     /// The rank of a node for an endpoint ID.
     pub fn rank_of(&self, node: usize, eid: Eid) -> u8
         ensures { result ≡ rank self.now node eid.value }
     {
-        match self.by_node.get(node) {
-            Some(ranges) => ranges.rank_of(eid),
-            None => rank_in_ranges(ranges_at(self.certificate, node), eid.value),
-        }
+        self.stretch(node, eid, 0).rank
     }
 }

@@ -29,8 +29,8 @@ use crate::certify_error::CertifyError;
 use crate::certifying::exact_levels::exact_levels;
 use crate::certifying::exact_places::exact_places;
 use crate::certifying::exact_ranks::exact_ranks;
-use crate::holders::Holders;
 use crate::plan_fault::first_of_plan_rule;
+use crate::plan_index::PlanIndex;
 use crate::rule::{RULES, Rule};
 use plan_values::{Certificate, Plan};
 use std::alloc::Global;
@@ -54,9 +54,9 @@ pub fn certify(alloc: Global, plan: &Plan) -> Result<Certificate, CertifyError>
         places: Vec::new(alloc),
         ranks: Vec::new(alloc),
     };
-    let holders = Holders::of(alloc, plan)?;
+    let index = PlanIndex::of(alloc, plan)?;
     for rule in RULES {
-        meet_rule(alloc, plan, &holders, rule, &mut made)?;
+        meet_rule(alloc, plan, &index, rule, &mut made)?;
     }
     Ok(made)
 }
@@ -65,16 +65,16 @@ pub fn certify(alloc: Global, plan: &Plan) -> Result<Certificate, CertifyError>
 fn meet_rule(
     alloc: Global,
     plan: &Plan,
-    holders: &Holders<'_>,
+    index: &PlanIndex<'_>,
     rule: Rule,
     made: &mut Certificate,
 ) -> Result<(), CertifyError>
-    requires holders { holders.now ≡ plan.now }
+    requires index { index.now ≡ plan.now }
     requires made { IsMadeBefore plan.now (order_of rule) made.old }
     ensures more { OnOk result (IsMadeBefore plan.now (order_of rule + 1) made.new) }
     ensures obstacle { IfErr result (λ error. NamesObstacle plan.now error) }
 {
-    if let Some(fault) = first_of_plan_rule(alloc, plan, holders, rule)? {
+    if let Some(fault) = first_of_plan_rule(alloc, plan, index, rule)? {
         return Err(CertifyError::Fault(fault));
     }
     add_part(alloc, plan, rule, made)

@@ -17,9 +17,9 @@ use crate::certifying::certify;
 use crate::certifying::exact_move_ranks::exact_move_ranks;
 use crate::first_fault::first_of_asked;
 use crate::first_move_fault::{fault_of_plan, meet_frames, meet_rules_of_move};
-use crate::holders::Holders;
 use crate::move_error::MoveError;
 use crate::move_obstacle::MoveObstacle;
+use crate::plan_index::PlanIndex;
 use crate::rule::Rule;
 use plan_values::{Certificate, Plan};
 use std::alloc::Global;
@@ -83,8 +83,8 @@ fn meet_new_rows(
     ensures met { OnOk result (RowsMeetBefore after.now made.now (order_of C10)) }
     ensures obstacle { IfErr result (λ obstacle. NamesMoveObstacle before.now after.now obstacle) }
 {
-    let holders = Holders::of(alloc, after)?;
-    let Some(fault) = first_of_asked(alloc, after, &holders, made, Asked::After)? else {
+    let index = PlanIndex::of(alloc, after)?;
+    let Some(fault) = first_of_asked(alloc, after, &index, made, Asked::After)? else {
         return Ok(());
     };
     if comes_before_ranks(fault.rule) {

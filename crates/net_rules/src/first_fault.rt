@@ -8,8 +8,8 @@ ghost use Rattle.net_rules.specs.MoveSearch.{IsFirstByRule, IsFirstByRules};
 use crate::asked::Asked;
 use crate::certified_ranks::CertifiedRanks;
 use crate::fault::Fault;
-use crate::holders::Holders;
 use crate::plan_fault::first_of_plan_at;
+use crate::plan_index::PlanIndex;
 use crate::plans::Plans;
 use crate::rule::{RULES, Rule};
 use crate::rules::{chains, owners, ranks, superfluous};
@@ -25,23 +25,23 @@ pub fn first_of_all(
 ) -> Result<Option<Fault>, AllocError>
     ensures { IfOk result (IsFirstOfAll plan.now certificate.now) }
 {
-    let holders = Holders::of(alloc, plan)?;
-    first_of_asked(alloc, plan, &holders, certificate, Asked::Alone)
+    let index = PlanIndex::of(alloc, plan)?;
+    first_of_asked(alloc, plan, &index, certificate, Asked::Alone)
 }
 
 /// The first fault of the rules that are asked, by their order.
 pub fn first_of_asked(
     alloc: Global,
     plan: &Plan,
-    holders: &Holders<'_>,
+    index: &PlanIndex<'_>,
     certificate: &Certificate,
     asked: Asked,
 ) -> Result<Option<Fault>, AllocError>
-    requires { holders.now ≡ plan.now }
+    requires { index.now ≡ plan.now }
     ensures { IfOk result (IsFirstByRules (DemandsAsked asked plan.now certificate.now)) }
 {
     for rule in RULES {
-        if let Some(fault) = first_where_asked(alloc, plan, holders, certificate, asked, rule)? {
+        if let Some(fault) = first_where_asked(alloc, plan, index, certificate, asked, rule)? {
             return Ok(Some(fault));
         }
     }
@@ -52,16 +52,16 @@ pub fn first_of_asked(
 fn first_where_asked(
     alloc: Global,
     plan: &Plan,
-    holders: &Holders<'_>,
+    index: &PlanIndex<'_>,
     certificate: &Certificate,
     asked: Asked,
     rule: Rule,
 ) -> Result<Option<Fault>, AllocError>
-    requires { holders.now ≡ plan.now }
+    requires { index.now ≡ plan.now }
     ensures { IfOk result (IsFirstByRule (DemandsAsked asked plan.now certificate.now) rule) }
 {
     if asked.asks(rule) {
-        first_of_rule(alloc, plan, holders, certificate, rule)
+        first_of_rule(alloc, plan, index, certificate, rule)
     } else {
         Ok(None)
     }
@@ -71,16 +71,16 @@ fn first_where_asked(
 fn first_of_rule(
     alloc: Global,
     plan: &Plan,
-    holders: &Holders<'_>,
+    index: &PlanIndex<'_>,
     certificate: &Certificate,
     rule: Rule,
 ) -> Result<Option<Fault>, AllocError>
-    requires { holders.now ≡ plan.now }
+    requires { index.now ≡ plan.now }
     ensures { IfOk result (IsFirstByRule (Demands plan.now certificate.now) rule) }
 {
     let ranks = ranks_for(alloc, plan, certificate, rule)?;
     for node in 0..plan.nodes.len() {
-        if let Some(spot) = first_at(alloc, plan, holders, certificate, &ranks, rule, node)? {
+        if let Some(spot) = first_at(alloc, plan, index, certificate, &ranks, rule, node)? {
             return Ok(Some(Fault {
                 rule,
                 node,
@@ -111,26 +111,29 @@ fn ranks_for<'a>(
 pub(crate) fn first_at(
     alloc: Global,
     plan: &Plan,
-    holders: &Holders<'_>,
+    index: &PlanIndex<'_>,
     certificate: &Certificate,
     ranks: &CertifiedRanks<'_>,
     rule: Rule,
     node: usize,
 ) -> Result<Option<Spot>, AllocError>
     requires within { node < length plan.now.nodes.items }
-    requires holders { holders.now ≡ plan.now }
+    requires index { index.now ≡ plan.now }
     requires ranks { ranks.now ≡ certificate.now }
     ensures { IfOk result (IsFirstSpot (Demands plan.now certificate.now rule node)) }
 {
     match rule {
         Rule::C07 => Ok(owners::unlawful_owner(plan, certificate, node)),
-        Rule::C10 => Ok(ranks::row_without_fall(plan, ranks, node)),
+        Rule::C10 => Ok(ranks::row_without_fall(plan, index, ranks, node)),
         Rule::C14 => chains::unchained_record(alloc, plan, certificate, node),
         Rule::C16 => Ok(superfluous::superfluous_entry(
-            &Plans { plan, after: None },
+            &Plans {
+                plan: index,
+                after: None,
+            },
             certificate,
             node,
         )),
-        rule => first_of_plan_at(alloc, plan, holders, rule, node),
+        rule => first_of_plan_at(alloc, plan, index, rule, node),
     }
 }

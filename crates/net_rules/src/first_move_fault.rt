@@ -1,6 +1,6 @@
 //! The search for the first fault of a move.
 ghost use Rattle.std.specs.Prelude.{◌≡◌, OnOk, IfErr};
-ghost use Rattle.net_rules.specs.PlanTables.{plans_value};
+ghost use Rattle.net_tables.specs.TwoPlans.{moving};
 ghost use Rattle.net_rules.specs.Rules.{AtRowEid, AtNodeOrEid};
 ghost use Rattle.net_rules.specs.HeldEids.{IsLedOn};
 ghost use Rattle.net_rules.specs.Superfluous.{NeedsWhatItIsGiven, NeedsItsRank};
@@ -12,9 +12,9 @@ ghost use Rattle.net_rules.specs.MoveObstacles.{DifferInRowsAlone, NamesDifferen
 use crate::asked::Asked;
 use crate::fault::Fault;
 use crate::first_fault::first_of_asked;
-use crate::holders::Holders;
 use crate::move_error::MoveError;
 use crate::move_fault::{MoveFault, MoveRule};
+use crate::plan_index::PlanIndex;
 use crate::plans::Plans;
 use crate::rules::frames::{first_unlike_node, have_same_frame};
 use crate::rules::held_eids::row_without_way_on;
@@ -33,25 +33,21 @@ pub fn meet_rules_of_move(
     ensures first_fault { IfErr result (λ error. NamesFirstMoveFault before.now after.now certificate.now error) }
 {
     meet_frames(before, after)?;
-    let holders = Holders::of(alloc, before)?;
-    let new_holders = Holders::of(alloc, after)?;
-    if let Some(fault) = first_of_asked(alloc, before, &holders, certificate, Asked::Before)? {
+    let index = PlanIndex::of(alloc, before)?;
+    let new_index = PlanIndex::of(alloc, after)?;
+    if let Some(fault) = first_of_asked(alloc, before, &index, certificate, Asked::Before)? {
         return Err(MoveError::Old(fault_of_plan(fault)));
     }
-    if let Some(fault) = first_of_asked(alloc, after, &new_holders, certificate, Asked::After)? {
+    if let Some(fault) = first_of_asked(alloc, after, &new_index, certificate, Asked::After)? {
         return Err(MoveError::New(fault_of_plan(fault)));
     }
-    let plans = Plans {
-        plan: before,
-        after: Some(after),
-    };
-    if let Some(fault) = first_without_way_on(&plans, &holders, before) {
+    if let Some(fault) = first_without_way_on(&index, &new_index, before) {
         return Err(MoveError::Old(fault));
     }
-    if let Some(fault) = first_without_way_on(&plans, &holders, after) {
+    if let Some(fault) = first_without_way_on(&index, &new_index, after) {
         return Err(MoveError::New(fault));
     }
-    if let Some(fault) = first_superfluous(&plans, certificate) {
+    if let Some(fault) = first_superfluous(&index, &new_index, certificate) {
         return Err(MoveError::Both(fault));
     }
     Ok(())
@@ -84,12 +80,19 @@ pub fn fault_of_plan(fault: Fault) -> MoveFault
 }
 
 /// The first fault of M02 along the rows of one of the plans.
-fn first_without_way_on(plans: &Plans<'_>, holders: &Holders<'_>, whose: &Plan) -> Option<MoveFault>
-    requires { holders.now ≡ plans.now.plan.now }
-    ensures { IsFirstByNode MoveRule.M02 (λ n. AtRowEid whose.now n (λ row e. IsLedOn (plans_value plans.now) n e row.next)) result }
+fn first_without_way_on(
+    index: &PlanIndex<'_>,
+    new_index: &PlanIndex<'_>,
+    whose: &Plan,
+) -> Option<MoveFault>
+    ensures { IsFirstByNode MoveRule.M02 (λ n. AtRowEid whose.now n (λ row e. IsLedOn (moving index.now new_index.now) n e row.next)) result }
 {
+    let plans = Plans {
+        plan: index,
+        after: Some(new_index),
+    };
     for node in 0..whose.nodes.len() {
-        if let Some(spot) = row_without_way_on(plans, holders, whose, node) {
+        if let Some(spot) = row_without_way_on(&plans, whose, node) {
             return Some(MoveFault {
                 rule: MoveRule::M02,
                 node,
@@ -102,11 +105,20 @@ fn first_without_way_on(plans: &Plans<'_>, holders: &Holders<'_>, whose: &Plan) 
 }
 
 /// The first fault of M03.
-fn first_superfluous(plans: &Plans<'_>, certificate: &Certificate) -> Option<MoveFault>
-    ensures { IsFirstByNode MoveRule.M03 (λ n. AtNodeOrEid (NeedsWhatItIsGiven plans.now.plan.now certificate.now n) (NeedsItsRank (plans_value plans.now) certificate.now n)) result }
+fn first_superfluous(
+    index: &PlanIndex<'_>,
+    new_index: &PlanIndex<'_>,
+    certificate: &Certificate,
+) -> Option<MoveFault>
+    ensures { IsFirstByNode MoveRule.M03 (λ n. AtNodeOrEid (NeedsWhatItIsGiven index.now certificate.now n) (NeedsItsRank (moving index.now new_index.now) certificate.now n)) result }
 {
-    for node in 0..plans.plan.nodes.len() {
-        if let Some(spot) = superfluous_entry(plans, certificate, node) {
+    let plans = Plans {
+        plan: index,
+        after: Some(new_index),
+    };
+    let plan = index.plan();
+    for node in 0..plan.nodes.len() {
+        if let Some(spot) = superfluous_entry(&plans, certificate, node) {
             return Some(MoveFault {
                 rule: MoveRule::M03,
                 node,

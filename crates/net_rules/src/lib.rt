@@ -4,12 +4,10 @@
 
 mod all_faults;
 mod asked;
-mod borders;
 mod certified_ranks;
 mod certify_error;
 mod certifying;
 mod certifying_move;
-mod covered_eids;
 mod fault;
 mod fault_run;
 mod first_fault;
@@ -20,11 +18,14 @@ mod move_error;
 mod move_fault;
 mod move_obstacle;
 mod node_ranges;
+mod node_rows;
 mod plan_fault;
+mod plan_index;
 mod plans;
-mod rows_in_force;
 mod rule;
 mod rules;
+mod span;
+mod spans;
 mod spot;
 mod stretches;
 

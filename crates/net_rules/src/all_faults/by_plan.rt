@@ -3,7 +3,7 @@ ghost use Rattle.std.specs.Prelude.{◌≡◌, ◌↔◌, ◌<◌, IsTrue, Some,
 ghost use Rattle.net_rules.specs.Rules.{PlanDemands};
 
 use crate::all_faults::{records, rows};
-use crate::holders::Holders;
+use crate::plan_index::PlanIndex;
 use crate::rule::Rule;
 use crate::rules::eids::is_newly_held;
 use crate::rules::names::has_new_name;
@@ -29,13 +29,13 @@ pub fn is_met_at_node(plan: &Plan, rule: Rule, node: usize) -> bool
 }
 
 /// Whether it does at an endpoint ID of the node.
-pub fn is_met_at_eid(plan: &Plan, holders: &Holders<'_>, rule: Rule, node: usize, eid: Eid) -> bool
-    requires { holders.now ≡ plan.now }
+pub fn is_met_at_eid(plan: &Plan, index: &PlanIndex<'_>, rule: Rule, node: usize, eid: Eid) -> bool
+    requires { index.now ≡ plan.now }
     ensures { IsTrue result ↔ PlanDemands plan.now rule node None (Some eid.value) }
 {
     match rule {
         Rule::C02 => !holds(plan, node, eid) || eid.is_assignable(),
-        Rule::C03 => !holds(plan, node, eid) || is_newly_held(holders, node, eid),
+        Rule::C03 => !holds(plan, node, eid) || is_newly_held(index.holders(), node, eid),
         Rule::C08 => !holds(plan, node, eid) || is_in_its_pool(plan, node, eid),
         _ => true,
     }
@@ -59,18 +59,18 @@ pub fn is_met_at_entry(plan: &Plan, rule: Rule, node: usize, entry: usize) -> bo
 /// Whether it does at an endpoint ID of a row or a record.
 pub fn is_met_at_entry_eid(
     plan: &Plan,
-    holders: &Holders<'_>,
+    index: &PlanIndex<'_>,
     rule: Rule,
     node: usize,
     entry: usize,
     eid: Eid,
 ) -> bool
-    requires { holders.now ≡ plan.now }
+    requires { index.now ≡ plan.now }
     ensures { IsTrue result ↔ PlanDemands plan.now rule node (Some entry) (Some eid.value) }
 {
     match rule {
-        Rule::C11 => rows::does_row_lead_on(plan, holders, node, entry, eid),
-        Rule::C15 => records::does_locate(plan, holders, node, entry, eid),
+        Rule::C11 => rows::does_row_lead_on(plan, index, node, entry, eid),
+        Rule::C15 => records::does_locate(plan, index.holders(), node, entry, eid),
         _ => true,
     }
 }

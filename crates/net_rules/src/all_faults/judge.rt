@@ -4,21 +4,21 @@ ghost use Rattle.std.specs.Prelude.{◌≡◌, IfOk, option_map};
 use crate::all_faults::{by_certificate, by_plan};
 use crate::certified_ranks::CertifiedRanks;
 use crate::first_fault::first_at;
-use crate::holders::Holders;
 use crate::plan_fault::first_of_plan_at;
+use crate::plan_index::PlanIndex;
 use crate::rule::Rule;
 use crate::spot::Spot;
 use mctp_transport::Eid;
 use plan_values::{Certificate, Plan};
 use std::alloc::{AllocError, Global};
 
-/// A plan, the first holders of its endpoint IDs, and, where there is a certificate, its ranks.
+/// A plan, its index, and, where there is a certificate, its ranks.
 #[derive(Drop)]
 pub struct Judge<'a> {
     pub plan: &'a Plan,
-    pub holders: Holders<'a>,
+    pub index: PlanIndex<'a>,
     pub ranks: Option<CertifiedRanks<'a>>,
-    pub ghost same: { holders ≡ plan.now },
+    pub ghost same: { index ≡ plan.now },
 }
 
 impl<'a> Judge<'a> {
@@ -36,13 +36,9 @@ impl<'a> Judge<'a> {
     ) -> Result<Self, AllocError>
         ensures { IfOk result (λ judge. (judge.plan.now ≡ plan.now) × (judge.ranks ≡ option_map (λ c. c.now) certificate.entry)) }
     {
-        let holders = Holders::of(alloc, plan)?;
+        let index = PlanIndex::of(alloc, plan)?;
         let ranks = ranks_of(alloc, plan, certificate)?;
-        Ok(Judge {
-            plan,
-            holders,
-            ranks,
-        })
+        Ok(Judge { plan, index, ranks })
     }
 
     /// Whether the rule is met everywhere at the node, by the search for the first place where it isn't.
@@ -59,10 +55,10 @@ impl<'a> Judge<'a> {
         requires { node < length self.now.plan.now.nodes.items }
         ensures { IfOk result (IsFirstSpot (DemandsOf self.now.plan.now self.now.ranks rule node)) }
     {
-        let (plan, holders) = (self.plan, &self.holders);
+        let (plan, index) = (self.plan, &self.index);
         match &self.ranks {
-            Some(ranks) => first_at(alloc, plan, holders, ranks.certificate(), ranks, rule, node),
-            None => first_of_plan_at(alloc, plan, holders, rule, node),
+            Some(ranks) => first_at(alloc, plan, index, ranks.certificate(), ranks, rule, node),
+            None => first_of_plan_at(alloc, plan, index, rule, node),
         }
     }
 
@@ -90,12 +86,12 @@ impl<'a> Judge<'a> {
         match entry {
             None => match eid {
                 None => by_plan::is_met_at_node(plan, rule, node),
-                Some(eid) => by_plan::is_met_at_eid(plan, &self.holders, rule, node, eid),
+                Some(eid) => by_plan::is_met_at_eid(plan, &self.index, rule, node, eid),
             },
             Some(entry) => match eid {
                 None => by_plan::is_met_at_entry(plan, rule, node, entry),
                 Some(eid) => {
-                    by_plan::is_met_at_entry_eid(plan, &self.holders, rule, node, entry, eid)
+                    by_plan::is_met_at_entry_eid(plan, &self.index, rule, node, entry, eid)
                 }
             },
         }

@@ -7,7 +7,7 @@ ghost use Rattle.net_rules.specs.HeldEids.{IsLedOn};
 ghost use Rattle.net_tables.specs.TwoPlans.{one_plan};
 
 use crate::certified_ranks::CertifiedRanks;
-use crate::holders::Holders;
+use crate::plan_index::PlanIndex;
 use crate::plans::Plans;
 use crate::rules::held_eids::is_led_on;
 use crate::rules::ranks::falls;
@@ -64,17 +64,20 @@ pub fn does_row_fall(
 /// Whether the row leads the endpoint ID on, if the row covers it.
 pub fn does_row_lead_on(
     plan: &Plan,
-    holders: &Holders<'_>,
+    index: &PlanIndex<'_>,
     node: usize,
     row: usize,
     eid: Eid,
 ) -> bool
-    requires { holders.now ≡ plan.now }
+    requires { index.now ≡ plan.now }
     ensures { IsTrue result ↔ OfItem (rows_of plan.now node) row (λ r. Covers r eid.value → IsLedOn (one_plan plan.now) node eid.value r.next) }
 {
-    let plans = Plans { plan, after: None };
+    let plans = Plans {
+        plan: index,
+        after: None,
+    };
     match row_at(plan, node, row) {
-        Some(row) => !covers(row, eid) || is_led_on(&plans, holders, node, eid, row.next),
+        Some(row) => !covers(row, eid) || is_led_on(&plans, node, eid, row.next),
         None => true,
     }
 }

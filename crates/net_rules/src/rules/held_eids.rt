@@ -7,7 +7,7 @@ ghost use Rattle.net_rules.specs.HeldEids.{IsLedOn};
 ghost use Rattle.net_rules.specs.Rules.{AtRowEid};
 ghost use Rattle.net_rules.specs.Search.{IsFirstSpot, IsFirstEid};
 
-use crate::holders::Holders;
+use crate::plan_index::PlanIndex;
 use crate::plans::Plans;
 use crate::spot::Spot;
 use crate::stretches::{Stretched, first_broken};
@@ -17,18 +17,12 @@ use plan_values::{Plan, Row};
 
 /// Where a row of one of the plans leads what another node holds to a node that neither holds it nor leads it on, by
 /// each of the plans.
-pub fn row_without_way_on(
-    plans: &Plans<'_>,
-    holders: &Holders<'_>,
-    whose: &Plan,
-    node: usize,
-) -> Option<Spot>
-    requires { holders.now ≡ plans.now.plan.now }
+pub fn row_without_way_on(plans: &Plans<'_>, whose: &Plan, node: usize) -> Option<Spot>
     ensures { IsFirstSpot (AtRowEid whose.now node (λ row e. IsLedOn (plans_value plans.now) node e row.next)) result }
 {
     let rows = rows_at(whose, node);
     for (r, row) in rows.iter().enumerate() {
-        if let Some(eid) = first_without_way_on(plans, holders, node, row) {
+        if let Some(eid) = first_without_way_on(plans, node, row) {
             return Some(Spot::at_entry_eid(r, eid));
         }
     }
@@ -37,18 +31,11 @@ pub fn row_without_way_on(
 
 /// The first of the row's endpoint IDs that another node holds, and that the row's next node neither holds nor leads
 /// on.
-fn first_without_way_on(
-    plans: &Plans<'_>,
-    holders: &Holders<'_>,
-    node: usize,
-    row: &Row,
-) -> Option<Eid>
-    requires { holders.now ≡ plans.now.plan.now }
+fn first_without_way_on(plans: &Plans<'_>, node: usize, row: &Row) -> Option<Eid>
     ensures { IsFirstEid row.now (λ e. IsLedOn (plans_value plans.now) node e row.now.next) (eid_number result) }
 {
     let way_on = WayOn {
         plans,
-        holders,
         node,
         next: row.next,
     };
@@ -59,10 +46,8 @@ fn first_without_way_on(
 #[derive(Clone, Copy)]
 struct WayOn<'a> {
     plans: &'a Plans<'a>,
-    holders: &'a Holders<'a>,
     node: usize,
     next: usize,
-    ghost same: { holders.now ≡ plans.now.plan.now },
 }
 
 impl<'a> Stretched for WayOn<'a> {
@@ -73,7 +58,7 @@ impl<'a> Stretched for WayOn<'a> {
     ghost Demand = { λ way e. IsLedOn (plans_value way.plans.now) way.node e way.next };
 
     fn is_met_at(&self, eid: Eid) -> bool {
-        is_led_on(self.plans, self.holders, self.node, eid, self.next)
+        is_led_on(self.plans, self.node, eid, self.next)
     }
 
     fn stretch_end(&self, eid: Eid) -> u16 {
@@ -82,7 +67,7 @@ impl<'a> Stretched for WayOn<'a> {
         if is_routing_bridge(self.plans, self.next, eid) {
             end
         } else {
-            self.holders.border(eid).min(end)
+            self.plans.plan.holders().border(eid).min(end)
         }
     }
 }
@@ -90,19 +75,12 @@ impl<'a> Stretched for WayOn<'a> {
 /// Whether no node other than this one holds the endpoint ID, or the next node holds it or is a bridge with a row for
 /// it in each of the plans.
 #[tactic(auto, unfolding(crate::specs::HeldEids::IsLedOn))]
-pub(crate) fn is_led_on(
-    plans: &Plans<'_>,
-    holders: &Holders<'_>,
-    node: usize,
-    eid: Eid,
-    next: usize,
-) -> bool
-    requires { holders.now ≡ plans.now.plan.now }
+pub(crate) fn is_led_on(plans: &Plans<'_>, node: usize, eid: Eid, next: usize) -> bool
     ensures { IsTrue result ↔ IsLedOn (plans_value plans.now) node eid.value next }
 {
     // Rows are looked through last.
-    holds(plans.plan, next, eid)
-        || !is_held_elsewhere(plans.plan, holders, node, eid)
+    holds(plans.plan.plan(), next, eid)
+        || !is_held_elsewhere(plans.plan, node, eid)
         || has_way_on(plans, next, eid)
 }
 
@@ -110,23 +88,22 @@ pub(crate) fn is_led_on(
 fn has_way_on(plans: &Plans<'_>, node: usize, eid: Eid) -> bool
     ensures { IsTrue result ↔ (Holds plans.now.plan.now node eid.value ⊎ (IsBridge plans.now.plan.now node × HasRowAlways (plans_value plans.now) node eid.value)) }
 {
-    holds(plans.plan, node, eid) || is_routing_bridge(plans, node, eid)
+    holds(plans.plan.plan(), node, eid) || is_routing_bridge(plans, node, eid)
 }
 
 /// Whether the node is a bridge with a row for the endpoint ID in each of the plans.
 fn is_routing_bridge(plans: &Plans<'_>, node: usize, eid: Eid) -> bool
     ensures { IsTrue result ↔ (IsBridge plans.now.plan.now node × HasRowAlways (plans_value plans.now) node eid.value) }
 {
-    is_bridge(plans.plan, node) && plans.has_row_in_each(node, eid)
+    is_bridge(plans.plan.plan(), node) && plans.has_row_in_each(node, eid)
 }
 
 /// Whether a node other than this one holds the endpoint ID.
-fn is_held_elsewhere(plan: &Plan, holders: &Holders<'_>, node: usize, eid: Eid) -> bool
-    requires { holders.now ≡ plan.now }
-    ensures { IsTrue result ↔ ((holder : ℕ) × Holds plan.now holder eid.value × (holder ≢ node)) }
+fn is_held_elsewhere(index: &PlanIndex<'_>, node: usize, eid: Eid) -> bool
+    ensures { IsTrue result ↔ ((holder : ℕ) × Holds index.now holder eid.value × (holder ≢ node)) }
 {
-    match holders.first(eid) {
-        Some(holder) => holder != node || is_held_by_another(plan, node, eid),
+    match index.holders().first(eid) {
+        Some(holder) => holder != node || is_held_by_another(index.plan(), node, eid),
         None => false,
     }
 }

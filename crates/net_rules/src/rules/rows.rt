@@ -4,7 +4,7 @@ ghost use Rattle.net_tables.specs.Rows.{IsInRange, AreApart, IsApartFromEarlier,
 ghost use Rattle.net_rules.specs.Rules.{PlanDemands};
 ghost use Rattle.net_rules.specs.Search.{IsFirstItem, IsFirstSpot};
 
-use crate::covered_eids::CoveredEids;
+use crate::plan_index::PlanIndex;
 use crate::rule::Rule;
 use crate::spot::Spot;
 use net_tables::lookup::{bus_at, is_bridge, is_on_bus, row_end, rows_at};
@@ -18,9 +18,13 @@ pub fn row_out_of_range(plan: &Plan, node: usize) -> Option<Spot>
 }
 
 /// Where a row overlaps an earlier one.
-pub fn overlapping_row(plan: &Plan, node: usize) -> Option<Spot>
+pub fn overlapping_row(plan: &Plan, index: &PlanIndex<'_>, node: usize) -> Option<Spot>
+    requires { index.now ≡ plan.now }
     ensures { IsFirstSpot (PlanDemands plan.now Rule.C05 node) result }
 {
+    if index.are_rows_apart(node) {
+        return None;
+    }
     Spot::at_found(first_overlapping(rows_at(plan, node)))
 }
 
@@ -55,12 +59,10 @@ pub fn is_in_range(row: &Row) -> bool
 fn first_overlapping(rows: &[Row]) -> Option<usize>
     ensures { IsFirstItem rows.now (IsApartFromEarlier rows.now) result }
 {
-    let mut covered = CoveredEids::none();
     for (r, row) in rows.iter().enumerate() {
-        if covered.has_one_of(row) {
+        if !is_apart_from_all(row, &rows[..r]) {
             return Some(r);
         }
-        covered.add(row);
     }
     None
 }

@@ -1,21 +1,24 @@
 //! C16 and M03: the certificate gives nothing that the plan has no use for, or of a move neither plan.
-ghost use Rattle.std.specs.Prelude.{◌≡◌, ◌≢◌, ℕ, ◌<◌, ◌↔◌, IsTrue, MatchOption, length};
-ghost use Rattle.net_tables.specs.Routing.{Holds};
+ghost use Rattle.std.specs.Prelude.{◌≡◌, ℕ, ◌<◌, ◌↔◌, IsTrue, MatchOption, Some, length};
+ghost use Rattle.net_tables.specs.Routing.{Holds, eid_number};
 ghost use Rattle.net_tables.specs.Repositories.{places_of};
-ghost use Rattle.net_rules.specs.Superfluous.{NeedsItsLevel, NeedsItsPlaces, NeedsWhatItIsGiven, NeedsItsRank};
+ghost use Rattle.net_rules.specs.Superfluous.{NeedsItsLevel, NeedsItsPlaces, NeedsWhatItIsGiven, NeedsItsRank, NeedsRankBy};
 ghost use Rattle.net_rules.specs.PlanTables.{plans_value};
 ghost use Rattle.net_tables.specs.TwoPlans.{HasRowEver};
-ghost use Rattle.net_tables.specs.Ranks.{rank_in};
+ghost use Rattle.net_rules.specs.Spans.{IsInSpan};
 ghost use Rattle.net_rules.specs.Rules.{AtNodeOrEid};
 ghost use Rattle.net_rules.specs.Search.{IsFirstSpot};
 
 use crate::node_ranges::NodeRanges;
 use crate::plans::Plans;
-use crate::rows_in_force::RowsInForce;
+use crate::span::Span;
 use crate::spot::Spot;
+use crate::stretches::{Stretched, first_broken};
 use mctp_transport::Eid;
-use net_tables::lookup::{given_level_of, holds, owner_at, places_at, ranges_at, records_at};
-use plan_values::{Certificate, Plan};
+use net_tables::lookup::{
+    eid_at, given_level_of, holds, owner_at, places_at, ranges_at, records_at,
+};
+use plan_values::{Certificate, Plan, RankRange};
 
 /// Where the certificate gives the node a level or places that the plan has no use for, or a rank that none of the
 /// plans has a use for.
@@ -23,7 +26,7 @@ pub fn superfluous_entry(plans: &Plans<'_>, certificate: &Certificate, node: usi
     requires { node < length plans.now.plan.now.nodes.items }
     ensures { IsFirstSpot (AtNodeOrEid (NeedsWhatItIsGiven plans.now.plan.now certificate.now node) (NeedsItsRank (plans_value plans.now) certificate.now node)) result }
 {
-    if !needs_what_it_is_given(plans.plan, certificate, node) {
+    if !needs_what_it_is_given(plans.plan.plan(), certificate, node) {
         return Some(Spot::at_node());
     }
     match superfluous_rank(plans, certificate, node) {
@@ -39,30 +42,76 @@ fn superfluous_rank(plans: &Plans<'_>, certificate: &Certificate, node: usize) -
         (λ eid. ¬ NeedsItsRank (plans_value plans.now) certificate.now node eid.value
         × ((d : ℕ) → d < eid.value → NeedsItsRank (plans_value plans.now) certificate.now node d)) }
 {
-    let rows = RowsInForce::of(plans, node);
-    let ranges = NodeRanges::of(ranges_at(certificate, node));
-    for number in 0..256u16 {
-        let eid = Eid::new(number as u8);
-        if !needs_its_rank(&rows, &ranges, eid) {
-            return Some(eid);
-        }
+    let ranges = ranges_at(certificate, node);
+    if needs_all(plans, node, ranges) {
+        return None;
     }
-    None
+    let ranks = NodeRanges::of(ranges);
+    let given = GivenRanks { plans, node, ranks };
+    first_broken(&given, 0, 256)
 }
 
-/// Whether the node is given no rank for the endpoint ID, or does not hold it and has a row for it in one of the plans.
-fn needs_its_rank(rows: &RowsInForce<'_>, ranges: &NodeRanges<'_>, eid: Eid) -> bool
-    ensures { IsTrue result ↔ (rank_in ranges.now eid.value ≢ 0
-        → ¬ Holds rows.now.0.plan.now rows.now.1 eid.value × HasRowEver (plans_value rows.now.0) rows.now.1 eid.value) }
+/// Whether each range lies in one span of what the node's rows cover, and doesn't have the endpoint ID that the node
+/// holds.
+fn needs_all(plans: &Plans<'_>, node: usize, ranges: &[RankRange]) -> bool
+    ensures { IsTrue result → (e : ℕ) → NeedsRankBy (plans_value plans.now) node ranges.now e }
 {
-    ranges.rank_of(eid) == 0 || may_be_ranked(rows, eid)
+    let held = eid_at(plans.plan.plan(), node);
+    let mut span = Span::none();
+    for range in ranges {
+        let eids = Span::of_range(range);
+        if !span.has_all_of(eids) {
+            span = plans.span_round(node, eids);
+        }
+        if !span.has_all_of(eids) || has(eids, held) {
+            return false;
+        }
+    }
+    true
+}
+
+/// Whether the endpoint ID, if there is one, lies in the span.
+fn has(eids: Span, eid: Option<Eid>) -> bool
+    ensures { IsTrue result ↔ ((e : ℕ) × (eid_number eid ≡ Some e) × IsInSpan eids e) }
+{
+    match eid {
+        Some(eid) => eids.has(eid),
+        None => false,
+    }
+}
+
+/// The ranks that ranges give a node.
+#[derive(Drop)]
+struct GivenRanks<'a> {
+    plans: &'a Plans<'a>,
+    node: usize,
+    ranks: NodeRanges<'a>,
+}
+
+impl<'a> Stretched for GivenRanks<'a> {
+    ghost use Rattle.std.specs.Prelude.{ℕ, ◌↔◌, IsTrue};
+    ghost use Rattle.net_rules.specs.PlanTables.{plans_value};
+    ghost use Rattle.net_rules.specs.Superfluous.{NeedsRankBy};
+
+    ghost Demand = { λ given e. NeedsRankBy (plans_value given.plans.now) given.node given.ranks e };
+
+    fn is_met_at(&self, eid: Eid) -> bool {
+        self.ranks.rank_of(eid) == 0 || may_be_ranked(self.plans, self.node, eid)
+    }
+
+    fn stretch_end(&self, eid: Eid) -> u16 {
+        let given = self.ranks.stretch(eid, 0).end;
+        let covered = self.plans.row_border(self.node, eid);
+        let held = self.plans.plan.holders().border(eid);
+        given.min(covered).min(held)
+    }
 }
 
 /// Whether the node does not hold the endpoint ID and has a row for it in one of the plans.
-fn may_be_ranked(rows: &RowsInForce<'_>, eid: Eid) -> bool
-    ensures { IsTrue result ↔ (¬ Holds rows.now.0.plan.now rows.now.1 eid.value × HasRowEver (plans_value rows.now.0) rows.now.1 eid.value) }
+fn may_be_ranked(plans: &Plans<'_>, node: usize, eid: Eid) -> bool
+    ensures { IsTrue result ↔ (¬ Holds plans.now.plan.now node eid.value × HasRowEver (plans_value plans.now) node eid.value) }
 {
-    !holds(rows.plan(), rows.node(), eid) && rows.has_in_one(eid)
+    !holds(plans.plan.plan(), node, eid) && plans.has_row_in_one(node, eid)
 }
 
 /// Whether the node is given no level and no places beyond its need.

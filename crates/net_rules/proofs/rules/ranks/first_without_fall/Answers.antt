@@ -1,25 +1,54 @@
-use Rattle.std.proofs.Common.{◌≡◌, ℕ, ◌<◌, arith, inl, inr, subst}
+use Rattle.std.proofs.Common.{◌≡◌, ℕ, refl, subst, arith}
 use Rattle.std.proofs.lemmas.Grind.{common_steps}
 use Rattle.net_tables.specs.Routing.{Covers, Holds}
-use Rattle.net_tables.specs.Ranks.{rank, Falls}
-use Rattle.std.proofs.lemmas.Bool.{cases_lt}
+use Rattle.net_tables.specs.Ranks.{rank}
+use Rattle.net_rules.specs.Stretches.{IsAlong}
+use Rattle.net_rules.proofs.FallLaws.{falls_on, falls_held, no_fall}
 use Rattle.net_rules.proofs.rules.ranks.first_without_fall.Goals as goal
 
-pub returns-then-not-falls : goal.returns-then-not-falls
-unfolding Falls
-returns-then-not-falls c =
-    let e = c.new-eid.result.value in
-    let low = c.loop-number.auto.number in
-    let high = c.loop-number-test.true in
-    let covers : Covers c.args.row.now e = (grind (arith, common_steps, low), grind (arith, common_steps, high), omega arith) in
-    (λ met. cc (c.falls.ensures.1 (met covers), c.if-not-falls.true), λ d less. c.loop-number.invariant d (omega (arith, less, c.new-eid.ensures)))
+pub loop-start-preserved-then-next-own : goal.loop-start-preserved-then-next-own
+loop-start-preserved-then-next-own c =
+    let cert = c.args.ranks.now in
+    let row = c.args.row.now in
+    let own = c.stretch-own.result in
+    let next = c.stretch-next.result in
+    let at = c.loop-start.start in
+    let same : c.new-eid.result.value ≡ at = omega (arith, c.new-eid.ensures) in
+    let A : ℕ → Type 0 = λ k. IsAlong (rank cert c.args.node) k own.end own.rank in
+    let B : ℕ → Type 0 = λ k. IsAlong (rank cert row.next) k next.end next.rank in
+    let along = subst A same c.stretch-own.ensures in
+    let along' = subst B same c.stretch-next.ensures in
+    let one = along.0 in
+    let other = along'.0 in
+    let reached = c.loop-start.invariant.reached in
+    record {
+      reached = grind (arith, common_steps, one, other, reached);
+      falls = falls_on c.args.plan.now cert c.args.node row at c.loop-start.invariant.falls own.end next.end own.rank next.rank c.min-start.result along along' c.if-next-own.true
+          (grind (arith, common_steps)) (grind (arith, common_steps));
+    }
 
-pub loop-number-preserved : goal.loop-number-preserved
-unfolding Falls
-loop-number-preserved c = λ e less covers. elim (cases_lt e c.loop-number.number) [
-  | inl before ↦ c.loop-number.invariant e before covers
-  | inr last ↦ (
-      let same : c.new-eid.result.value ≡ e = omega (arith, less, last, c.new-eid.ensures) in
-      let P : ℕ → Type 0 = λ d. ¬ Holds c.args.plan.now c.args.node d → rank c.args.ranks.now c.args.row.now.next d < rank c.args.ranks.now c.args.node d in
-      subst P same (c.falls.ensures.0 c.if-not-falls.false))
-]
+pub loop-start-preserved : goal.loop-start-preserved
+loop-start-preserved c =
+    let at = c.loop-start.start in
+    let same : c.new-eid.result.value ≡ at = omega (arith, c.new-eid.ensures) in
+    let reached = c.loop-start.invariant.reached in
+    let H : ℕ → Type 0 = λ k. Holds c.args.plan.now c.args.node k in
+    record {
+      reached = omega arith;
+      falls = falls_held c.args.plan.now c.args.ranks.now c.args.node c.args.row.now at c.loop-start.invariant.falls _ refl (subst H same (c.holds.ensures.0 c.if-holds.true));
+    }
+
+pub returns-else-holds : goal.returns-else-holds
+returns-else-holds c =
+    let e = c.new-eid.result.value in
+    let row = c.args.row.now in
+    let own = c.stretch-own.result in
+    let next = c.stretch-next.result in
+    let same : e ≡ c.loop-start.start = omega (arith, c.new-eid.ensures) in
+    let reached = c.loop-start.invariant.reached in
+    let high = c.loop-start-test.true in
+    let covers : Covers row e = (omega arith, grind (arith, common_steps, high), omega arith) in (
+      λ met. no_fall c.args.plan.now c.args.ranks.now c.args.node row e own.end next.end own.rank next.rank c.stretch-own.ensures c.stretch-next.ensures c.if-next-own.false
+          (λ holds. (let t = c.holds.ensures.1 holds in cc)) (met covers),
+      λ d less. c.loop-start.invariant.falls d (omega (arith, less)),
+    )

@@ -1,12 +1,7 @@
-use Rattle.std.proofs.Common.{ℕ, ◌↔◌, ◌<◌}
+use Rattle.std.proofs.Common.{ℕ, ◌<◌}
 use Rattle.net_tables.specs.Routing.{OfItem}
 use Rattle.net_tables.specs.Rows.{IsApartFromEarlier}
-use Rattle.net_rules.specs.CoveredEids.{IsMarked}
-use Rattle.net_rules.proofs.CoveredLaws.{IsCoveredBefore}
 use Rattle.net_rules.proofs.rules.rows.first_overlapping.Given as goal
 
 abbrev pub invariant-loop-r : goal.invariant-loop-r
-invariant-loop-r l = record {
-  apart : (k : ℕ) → k < l.r → OfItem l.rows k (IsApartFromEarlier l.rows k);
-  marked : (e : ℕ) → IsMarked l.covered e ↔ IsCoveredBefore l.rows l.r e;
-}
+invariant-loop-r l = (k : ℕ) → k < l.r → OfItem l.rows k (IsApartFromEarlier l.rows k)

@@ -18,7 +18,7 @@ returns-else-is_routing_bridge c =
     let way = c.args.self.now in
     let e = c.args.eid.value in
     let H : Plan → Type 0 = λ plan. (holder : ℕ) → IsStretch (Holds plan holder) e c.border.result in
-    let held = subst H way.same c.border.ensures in
+    let held = subst H c.holders.ensures c.border.ensures in
     let some = (held way.node).0 in
     led_alike (plans_value way.plans.now) way.node way.next e c.border.result c.row_border-end.result c.min.result held
     c.row_border-end.ensures.always (grind (arith, common_steps, some)) (grind (arith, common_steps)) (grind (arith, common_steps))

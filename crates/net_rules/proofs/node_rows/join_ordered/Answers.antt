@@ -1,0 +1,10 @@
+use Rattle.std.proofs.Common.{Option, subst}
+use Rattle.net_rules.specs.declared.spans.Joined.{Joined}
+use Rattle.net_rules.specs.Spans.{AreJoined}
+use Rattle.net_rules.proofs.SpanLaws.{no_turn}
+use Rattle.net_rules.proofs.node_rows.join_ordered.Goals as goal
+
+pub unreachable-requires : goal.unreachable-requires
+unreachable-requires c =
+    let A : Option Joined → Type 0 = AreJoined c.args.rows.now in
+    no_turn c.args.rows.now c.requires (subst A c.in-None.is c.in_ok-joined.ensures)

@@ -1,0 +1,28 @@
+use Rattle.std.proofs.Common.{◌≡◌, ℕ, List, length, Some, refl, subst}
+use Rattle.std.specs.Prelude.{◌↔◌, IsTrue, slice_get}
+use Rattle.std.proofs.lemmas.Option.{slice_get_read}
+use Rattle.plan_values.specs.declared.plan.Plan.{Plan}
+use Rattle.plan_values.specs.declared.nodes.Row.{Row}
+use Rattle.net_tables.specs.Routing.{HasRow, rows_of}
+use Rattle.net_rules.proofs.CoveredLaws.{covered_has}
+use Rattle.net_rules.proofs.plan_index.PlanIndex.has_row.Goals as goal
+
+pub returns-in-Some : goal.returns-in-Some
+returns-in-Some c =
+    let plan = c.self.inside.plan.now in
+    let n = c.args.node in
+    let lists = c.self.inside.rows.items in
+    let rows = c.in-Some.rows.now in
+    let L : List (List Row) → Type 0 = λ ls. slice_get ls n ≡ Some rows in
+    let here : slice_get lists n ≡ Some rows = let look = c.in-Some.ensures.lookup in subst L c.deref.ensures.value (slice_get_read c.deref.result.now (length c.deref.result.now) n rows refl look.3.0 look.1) in
+    let same : rows ≡ rows_of plan n = c.self.invariant.1 n rows here in
+    let e = c.args.eid.value in
+    let has = covered_has plan n rows same e in
+    let cover = c.cover.ensures in
+    let P : Plan → Type 0 = λ p. IsTrue c.cover.result ↔ HasRow p n e in
+    subst P c.self.view_is (λ t. has.0 (cover.0 t), λ h. cover.1 (has.1 h))
+
+pub returns-in-None : goal.returns-in-None
+returns-in-None c =
+    let P : Plan → Type 0 = λ p. IsTrue c.has_row.result ↔ HasRow p c.args.node c.args.eid.value in
+    subst P c.self.view_is c.has_row.ensures
