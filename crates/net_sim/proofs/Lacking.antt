@@ -1,5 +1,5 @@
 -- Where memory is wanted, room was lacking.
-use Rattle.std.proofs.Common.{ℕ, Some, Result, Ok, Err}
+use Rattle.std.proofs.Common.{Result, Ok, Err}
 use Rattle.std.specs.Prelude.{OnErr, IsErr}
 
 -- what is lacked where a call answers that memory ran out

@@ -15,6 +15,7 @@ mod Counting
 mod Tallying
 mod Rooms
 mod Lacking
+mod MemoryFree
 mod Changes
 mod Losing
 mod Switching

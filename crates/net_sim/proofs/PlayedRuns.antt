@@ -1,6 +1,6 @@
 -- Whole lists of events that are played, one after another.
 use Rattle.std.proofs.Common.{◌≡◌, ℕ, ◌+◌, ◌<◌, List, [], ◌∷◌, ◌++◌, length, map, take, get_or, Some, refl, sym, ◌∙◌, ap, subst, arith}
-use Rattle.std.specs.Prelude.{slice_get, option_map}
+use Rattle.std.specs.Prelude.{Option, IsSomeAnd, slice_get, option_map}
 use Rattle.std.proofs.lemmas.List.{length-map, map-append, take_more, length_push}
 use Rattle.std.proofs.lemmas.Option.{slice_get-map, slice_get-get_or, get_or_from_slice_get}
 use Rattle.plan_values.specs.declared.event.Event.{Event}
@@ -63,6 +63,11 @@ module _ (events : List Event) (count : ℕ) (e : Event) (within : count < lengt
   one_more =
       take_more (map event_value events) count (event_value e) (omega (arith, length-map events event_value))
       ∙ ap (λ x. take count (map event_value events) ++ x ∷ []) (get_or_from_slice_get (map event_value events) count (event_value e) (event_value e) there)
+
+  -- what holds of the event holds of the next one after so many outcomes
+  pub holds_of_next : (outcomes : List Outcome) → length outcomes ≡ count → (P : Event → Type 0) → P e → IsSomeAnd (slice_get events (length outcomes)) P
+  holds_of_next outcomes long P holds =
+      subst (λ (o : Option Event). IsSomeAnd o P) (sym (ap (slice_get events) long ∙ (slice_get-get_or events count e within ∙ ap Some (sym is)))) holds
 
   pub played_more : (tables : Tables) (v u new : NetworkValue) (outcomes : List Outcome) (o : Outcome) → HasPlayed tables v events count outcomes u
       → WalkedPlays tables u (event_value e) (outcome_value o) new → HasPlayed tables v events (count + 1) (outcomes ++ o ∷ []) new

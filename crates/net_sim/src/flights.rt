@@ -221,6 +221,7 @@ impl Flights {
         ensures same { slots_of self.new ≡ slots_of self.old }
         ensures room { OnOk result (count ≤ room_of self.new) }
         ensures full { OnErr result (room_of self.old < count) }
+        ensures lacks { OnErr result (room_of self.new < count) }
         // At most half of the slots are empty then.
         ensures half { 2 * self.new.empty ≤ length self.new.slots.items }
     {

@@ -1,5 +1,5 @@
 //! The network of a checked plan, or of a checked move, with its walkers.
-ghost use Rattle.std.specs.Prelude.{◌≡◌, ◌⊎◌, ◌∷◌, ◌+◌, ◌<◌, [], All, MatchOption, IfOk, OnErr, take, length, map, None, Some, false, true};
+ghost use Rattle.std.specs.Prelude.{◌≡◌, ◌⊎◌, ◌∷◌, ◌+◌, ◌<◌, [], All, MatchOption, IfOk, IsSomeAnd, OnErr, take, length, map, slice_get, None, Some, false, true};
 ghost use Rattle.net_sim.specs.NetworkWalkers.{walker_value};
 ghost use Rattle.net_sim.specs.Traffics.{traffic_checked};
 ghost use Rattle.net_sim.specs.WalkerIndexes.{AreNoted};
@@ -12,7 +12,7 @@ use crate::outcome::Outcome;
 use crate::traffic::Traffic;
 use crate::walker_index::WalkerIndex;
 use arrayvec::ArrayVec;
-pub use laws::requests_come_as_sent;
+pub use laws::{events_that_take_no_memory, requests_come_as_sent};
 use mctp_transport::PacketView;
 use net_check::{AcceptedNetwork, Checked, CheckedMove};
 use pdr_repository::{MAX_ANSWER, Terminus};
@@ -119,8 +119,9 @@ impl<'a, T: Terminus> Network<'a, T> {
     pub fn step(&mut self, event: &Event) -> Result<Outcome, AllocError>
         ensures checked { checked_of self.new ≡ checked_of self.old }
         ensures plays { EndsInOutcome T.tid T.records self.old (event_value event.now) result self.new }
-        // Memory is wanted only where the event makes some of its own, or where room was lacking.
+        // Memory is wanted only where the event makes some of its own, or where room was lacking, and lacks still.
         ensures full { OnErr result (NetworkLacksRoom self.old (event_value event.now)) }
+        ensures lacks { OnErr result (NetworkLacksRoom self.new (event_value event.now)) }
         // Every run with walkers that the network may stand for keeps the headline, and what is promised of deliveries.
         ensures promises { IsPromised (checked_of self.old).0 (checked_of self.old).1 }
         // The exchanges that each walker has taken are a walk over the records of the terminus that it asks.
@@ -153,6 +154,9 @@ impl<'a, T: Terminus> Network<'a, T> {
             (network_value T.tid T.records self.old)
             (map event_value events.now) (map outcome_value played.outcomes.items)
             (network_value T.tid T.records self.new)) }
+        // Memory is wanted there only where the event makes some of its own, or where room lacks.
+        ensures lacks { IfOk result (λ played. played.stopped ≡ true
+            → IsSomeAnd (slice_get events.now (length played.outcomes.items)) (λ event. NetworkLacksRoom self.new (event_value event))) }
         ensures unplayed { OnErr result (network_value T.tid T.records self.new
             ≡ network_value T.tid T.records self.old) }
     {

@@ -154,6 +154,7 @@ impl NetworkWalker {
         ensures value { walker_value self.new ≡ walker_value self.old }
         ensures room { OnOk result (IsReady self.new) }
         ensures full { OnErr result (¬ IsReady self.old) }
+        ensures lacks { OnErr result (¬ IsReady self.new) }
     {
         self.walker.reserve()
     }

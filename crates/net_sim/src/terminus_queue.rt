@@ -70,6 +70,7 @@ impl<T: Terminus> TerminusQueue<T> {
             ≡ queue_state T.tid T.records self.old }
         ensures room { OnOk result (deque_len self.new.waiting.messages < deque_capacity self.new.waiting.messages) }
         ensures full { OnErr result (¬ (deque_len self.old.waiting.messages < deque_capacity self.old.waiting.messages)) }
+        ensures lacks { OnErr result (¬ (deque_len self.new.waiting.messages < deque_capacity self.new.waiting.messages)) }
     {
         self.waiting.reserve()
     }
@@ -132,6 +133,7 @@ pub fn reserve_at<T: Terminus>(queue: &mut Option<TerminusQueue<T>>) -> Result<(
         ≡ option_map (queue_state T.tid T.records) queue.old }
     ensures room { OnOk result (HasRoomFor queue.new) }
     ensures full { OnErr result (¬ HasRoomFor queue.old) }
+    ensures lacks { OnErr result (¬ HasRoomFor queue.new) }
 {
     match queue {
         Some(queue) => queue.reserve(),

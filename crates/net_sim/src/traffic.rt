@@ -98,6 +98,7 @@ impl<'a, T: Terminus> Traffic<'a, T> {
         ensures flights { slots_of self.new.flights ≡ slots_of self.old.flights }
         ensures room { OnOk result (count ≤ room_of self.new.flights) }
         ensures full { OnErr result (room_of self.old.flights < count) }
+        ensures lacks { OnErr result (room_of self.new.flights < count) }
         ensures router { self.new.router ≡ self.old.router }
         ensures assemblers { self.new.assemblers.items ≡ self.old.assemblers.items }
         ensures queues { self.new.queues.items ≡ self.old.queues.items }
@@ -114,6 +115,7 @@ impl<'a, T: Terminus> Traffic<'a, T> {
         ensures queues { self.new.queues.items ≡ self.old.queues.items }
         ensures payload { IfOk result (IsRoomFor count) }
         ensures full { OnErr result ((room_of self.old.flights < 1) ⊎ (64 < count)) }
+        ensures lacks { OnErr result ((room_of self.new.flights < 1) ⊎ (64 < count)) }
     {
         self.reserve(1)?;
         room_for_payload(self.alloc, count)

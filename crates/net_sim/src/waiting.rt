@@ -10,6 +10,9 @@ use plan_values::Node;
 use std::alloc::{AllocError, Global};
 use std::collections::VecDeque;
 
+/// The fewest messages for which the list grows.
+const FEWEST: usize = 4;
+
 /// A message that waits for an answer, and the key of its packets.
 #[derive(Debug, Drop)]
 pub struct Waiting {
@@ -70,8 +73,14 @@ impl WaitingMessages {
         ensures same { self.new.messages.items ≡ self.old.messages.items }
         ensures room { OnOk result (deque_len self.new.messages < deque_capacity self.new.messages) }
         ensures full { OnErr result (¬ (deque_len self.old.messages < deque_capacity self.old.messages)) }
+        ensures lacks { OnErr result (¬ (deque_len self.new.messages < deque_capacity self.new.messages)) }
     {
-        self.messages.reserve(1)
+        let len = self.messages.len();
+        if len < self.messages.capacity() {
+            return Ok(());
+        }
+        // `reserve` wouldn't say that a refusal leaves the capacity as it was.
+        self.messages.reserve_exact(len.max(FEWEST))
     }
 
     /// Lets a message wait.

@@ -3,3 +3,4 @@ mod Differing
 mod RowDrawn
 mod ObstacleLines
 mod StepLines
+mod SameNames

@@ -7,6 +7,7 @@ ghost use Rattle.plan_texts.specs.Lines.{names_text, as_line, fault_words, fault
 
 mod differences;
 mod drawings;
+mod laws;
 mod lookups;
 mod moves;
 mod shown;
@@ -14,6 +15,7 @@ mod walks;
 
 pub use differences::first_difference;
 pub use drawings::{bundle_drawing, drawing, way_drawing};
+pub use laws::lines_depend_on_values_alone;
 pub use lookups::{address_text, bus_text, from_to, name_or_none, number_text, span_text};
 use mctp_transport::Eid;
 pub use moves::steps::rollout_lines;

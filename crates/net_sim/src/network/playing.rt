@@ -26,6 +26,7 @@ impl<'a, T: Terminus> Network<'a, T> {
         ensures checked { checked_of self.new ≡ checked_of self.old }
         ensures plays { EndsInOutcome T.tid T.records self.old (event_value event.now) result self.new }
         ensures full { OnErr result (NetworkLacksRoom self.old (event_value event.now)) }
+        ensures lacks { OnErr result (NetworkLacksRoom self.new (event_value event.now)) }
     {
         match event {
             Event::Put { node, bytes } => Ok(happened(self.traffic.put(*node, bytes)?)),

@@ -31,6 +31,7 @@ impl<'a, T: Terminus> Traffic<'a, T> {
         ensures router { self.new.router ≡ self.old.router }
         ensures plays { EndsInEffect T.tid T.records self.old (AnswerAt node) result self.new }
         ensures full { OnErr result (LacksRoom self.old (AnswerAt node)) }
+        ensures lacks { OnErr result (LacksRoom self.new (AnswerAt node)) }
     {
         if !self.has_node(node) {
             return Ok(Effect::Refused(Refusal::NoNode));

@@ -76,6 +76,7 @@ impl<'a, T: Terminus> Traffic<'a, T> {
         ensures router { self.new.router ≡ self.old.router }
         ensures plays { EndsInEffect T.tid T.records self.old (Move number keep) result self.new }
         ensures full { OnErr result (LacksRoom self.old (Move number keep)) }
+        ensures lacks { OnErr result (LacksRoom self.new (Move number keep)) }
     {
         let room = self.room_for(decided)?;
         if keep {
@@ -99,6 +100,8 @@ impl<'a, T: Terminus> Traffic<'a, T> {
         ensures enough { IfOk result (λ room. decided.now.decision ≡ Decision.Here → IsRoomAt self.new decided.now.node decided.now.header room) }
         ensures full { OnErr result ((decided.now.decision ≡ Decision.Here)
             × ((decided.now.header.eom ≡ true) ⊎ ¬ HasRoomAt self.old decided.now.node)) }
+        ensures lacks { OnErr result ((decided.now.decision ≡ Decision.Here)
+            × ((decided.now.header.eom ≡ true) ⊎ ¬ HasRoomAt self.new decided.now.node)) }
     {
         let Decision::Here = decided.decision else {
             return Ok(Room {
@@ -123,6 +126,8 @@ impl<'a, T: Terminus> Traffic<'a, T> {
         ensures assemblers { self.new.assemblers.items ≡ self.old.assemblers.items }
         ensures queues { self.new.queues.items ≡ self.old.queues.items }
         ensures full { OnErr result ((room_of self.old.flights < 1)
+            ⊎ IfSome (flight_at (slots_of self.old.flights) number) (λ f. 64 < length f.packet.payload)) }
+        ensures lacks { OnErr result ((room_of self.new.flights < 1)
             ⊎ IfSome (flight_at (slots_of self.old.flights) number) (λ f. 64 < length f.packet.payload)) }
     {
         let Some(flight) = self.flights.get(number) else {

@@ -26,6 +26,7 @@ impl<'a, T: Terminus> Traffic<'a, T> {
         ensures router { self.new.router ≡ self.old.router }
         ensures plays { EndsInEffect T.tid T.records self.old (Put node bytes.now) result self.new }
         ensures full { OnErr result (LacksRoom self.old (Put node bytes.now)) }
+        ensures lacks { OnErr result (LacksRoom self.new (Put node bytes.now)) }
     {
         if !self.has_node(node) {
             return Ok(Effect::Refused(Refusal::NoNode));

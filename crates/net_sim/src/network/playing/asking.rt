@@ -28,6 +28,7 @@ impl<'a, T: Terminus> Network<'a, T> {
         ensures checked { checked_of self.new ≡ checked_of self.old }
         ensures plays { EndsInOutcome T.tid T.records self.old (Ask number) result self.new }
         ensures full { OnErr result (NetworkLacksRoom self.old (Ask number)) }
+        ensures lacks { OnErr result (NetworkLacksRoom self.new (Ask number)) }
     {
         if self.traffic.left() < 1 {
             return Ok(Outcome::Refused(WalkRefusal::Shared(Refusal::NoNumbers)));

@@ -31,6 +31,7 @@ impl<'a, T: Terminus> Network<'a, T> {
         ensures checked { checked_of self.new ≡ checked_of self.old }
         ensures plays { EndsInOutcome T.tid T.records self.old (Happening (Move number keep)) result self.new }
         ensures full { OnErr result (NetworkLacksRoom self.old (Happening (Move number keep))) }
+        ensures lacks { OnErr result (NetworkLacksRoom self.new (Happening (Move number keep))) }
     {
         let decided = match self.traffic.decide(number, keep) {
             Ok(decided) => decided,

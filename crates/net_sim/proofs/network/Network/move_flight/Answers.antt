@@ -142,3 +142,28 @@ returns-in_err-reserve-clause-full g c =
 pub returns-in_err-effect-2-clause-full : goal.returns-in_err-effect-2-clause-full
 returns-in_err-effect-2-clause-full g c =
     err_lacks _ c.from_residual-in_err-effect-2.result c.from_residual-in_err-effect-2.ensures.0 (inl c.in_err-effect-2.ensures.full)
+
+pub returns-in_err-effect-clause-lacks : goal.returns-in_err-effect-clause-lacks
+returns-in_err-effect-clause-lacks g c = err_lacks _ c.from_residual.result c.from_residual.ensures.0 (inl c.in_err-effect.ensures.lacks)
+
+pub returns-in_err-reserve-clause-lacks : goal.returns-in_err-reserve-clause-lacks
+returns-in_err-reserve-clause-lacks g c =
+    let now = c.args.self.now in
+    let items = now.walkers.items in
+    let m = c.in-Ok.decided in
+    let i = c.in-Some.index in
+    let (f, at_number, on) = c.in-Ok.ensures.0 in
+    let (here, (y, at, listens)) = c.in-Some.ensures.finds in
+    let x = c.index_mut.result.now in
+    let after = c.reserve.new.self in
+    let within = c.in-Some.ensures.within in
+    let there : slice_get items i ≡ Some x = slice_get_read items _ _ x refl within c.index_mut.ensures.value in
+    let mine = subst (λ (z : NetworkWalker). Listens m.node (key_value m.key) (walker_value z)) (same_Some y x (sym at ∙ there)) listens in
+    let still = subst (λ (z : WalkerValue). Listens m.node (key_value m.key) z) (sym c.reserve.ensures.value) mine in
+    let holds = decided_as now.traffic.router f m on Here here in
+    err_lacks _ c.from_residual-in_err-reserve.result c.from_residual-in_err-reserve.ensures.0
+    (inr (m.node, key_value m.key, (f, (at_number, holds), sym on.node, sym on.key), i, after, set_there items after i within, still, c.in_err-reserve.ensures.lacks))
+
+pub returns-in_err-effect-2-clause-lacks : goal.returns-in_err-effect-2-clause-lacks
+returns-in_err-effect-2-clause-lacks g c =
+    err_lacks _ c.from_residual-in_err-effect-2.result c.from_residual-in_err-effect-2.ensures.0 (inl c.in_err-effect-2.ensures.lacks)

@@ -1,11 +1,11 @@
-use Rattle.std.proofs.Common.{refl, sym, ◌∙◌, ap, subst}
+use Rattle.std.proofs.Common.{ℕ, List, refl, sym, ◌∙◌, ap, subst}
 use Rattle.net_runs.specs.Events.{Put, Lose, Expire, AnswerAt, Switch}
 use Rattle.net_runs.specs.Walkers.{Happening}
 use Rattle.mctp_transport.specs.Packets.{key_value}
 use Rattle.net_sim.specs.Effects.{effect_value}
 use Rattle.net_sim.specs.Outcomes.{event_value}
 use Rattle.net_sim.proofs.Walking.{err_told, walked_as, wants_as, happens_apart, happens_wants}
-use Rattle.net_sim.specs.LackingRooms.{NetworkLacksRoom}
+use Rattle.net_sim.specs.LackingRooms.{LacksRoom, NetworkLacksRoom}
 use Rattle.net_sim.proofs.Lacking.{err_lacks}
 use Rattle.net_sim.proofs.network.Network.play.Goals as goal
 
@@ -65,3 +65,12 @@ pub returns-in_err-answer-in-Answer-clause-full : goal.returns-in_err-answer-in-
 returns-in_err-answer-in-Answer-clause-full g c =
     err_lacks _ c.from_residual-in_err-answer-in-Answer.result c.from_residual-in_err-answer-in-Answer.ensures.0
     (subst (λ e. NetworkLacksRoom c.args.self.now e) (ap event_value (sym c.in-Answer.is)) c.in_err-answer-in-Answer.ensures.full)
+
+pub returns-in_err-put-in-Put-clause-lacks : goal.returns-in_err-put-in-Put-clause-lacks
+returns-in_err-put-in-Put-clause-lacks g c =
+    let lacks = subst (λ (bytes : List ℕ). LacksRoom c.put.new.self (Put c.in-Put.node bytes)) c.deref.ensures.value c.in_err-put-in-Put.ensures.lacks in
+    err_lacks _ c.from_residual.result c.from_residual.ensures.0 (rw c.in-Put.is lacks)
+
+pub returns-in_err-answer-in-Answer-clause-lacks : goal.returns-in_err-answer-in-Answer-clause-lacks
+returns-in_err-answer-in-Answer-clause-lacks g c =
+    err_lacks _ c.from_residual-in_err-answer-in-Answer.result c.from_residual-in_err-answer-in-Answer.ensures.0 (rw c.in-Answer.is c.in_err-answer-in-Answer.ensures.lacks)

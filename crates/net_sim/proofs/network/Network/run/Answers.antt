@@ -1,7 +1,9 @@
 use Rattle.std.proofs.Common.{refl, ◌∙◌, ap, arith}
 use Rattle.net_runs.specs.States.{unit_of}
 use Rattle.net_sim.specs.Networks.{checked_of}
-use Rattle.net_sim.proofs.PlayedRuns.{played_start, played_plays, played_next, stopped_plays, stopped_after}
+use Rattle.net_sim.specs.LackingRooms.{NetworkLacksRoom}
+use Rattle.net_sim.specs.Outcomes.{event_value}
+use Rattle.net_sim.proofs.PlayedRuns.{holds_of_next, played_start, played_plays, played_next, stopped_plays, stopped_after}
 use Rattle.net_sim.proofs.AsSent.{plays_as_sent}
 use Rattle.net_sim.proofs.PlayedWalks.{plays_walks, promised}
 use Rattle.net_sim.proofs.PutInBefore.{plays_what_was_put_in}
@@ -77,3 +79,8 @@ returns-in-Err-clause-joins g c =
 pub returns-clause-joins : goal.returns-clause-joins
 returns-clause-joins g c =
     plays_what_was_put_in (checked_of c.args.self.now).0 (checked_of c.args.self.now).1 _ _ _ _ c.plan-plan.ensures.accepted (returns-clause-plays g c)
+
+pub returns-in-Err-clause-lacks : goal.returns-in-Err-clause-lacks
+returns-in-Err-clause-lacks g c = λ stopped.
+    holds_of_next c.args.events.now c.loop-event.event-index c.event-item.result c.loop-event-test.true c.event-item.is _ c.loop-event.invariant.1.long
+    (λ event. NetworkLacksRoom c.step.new.self (event_value event)) c.in-Err.ensures.lacks

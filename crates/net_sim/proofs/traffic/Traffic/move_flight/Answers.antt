@@ -1,7 +1,8 @@
 use Rattle.std.proofs.Common.{◌≡◌, ◌<◌, ◌≤◌, ◌++◌, ◌∷◌, [], List, length, Option, Some, inl, inr, sym, ◌∙◌, ap, subst}
 use Rattle.std.specs.Prelude.{is_some, IfSome, slice_get}
 use Rattle.mctp_routing.specs.declared.decision.Decision.TheVariants.{Here}
-use Rattle.net_runs.specs.States.{Flight}
+use Rattle.net_tables.specs.Routing.{Holds}
+use Rattle.net_runs.specs.States.{Flight, destination}
 use Rattle.net_runs.specs.Events.{most_flights}
 use Rattle.net_sim.specs.Flights.{slots_of, flight_at}
 use Rattle.net_sim.specs.Routers.{RouterValue}
@@ -114,3 +115,30 @@ returns-else-keep-clause-plays g c =
     let there = ap (λ (fs : List (Option Flight)). flight_at fs c.args.number) (sym room.flights) ∙ after in
     plays_itself c.args.self.now.router.tables _ c.args.number c.args.keep f there c.requires.few _ room.assemblers room.termini (same_marks _ _ room.router) _ _ c.if-keep.false room.flights
     _ (ap (λ (r : RouterValue). r.tables) room.router) moves
+
+pub returns-in_err-room-clause-lacks : goal.returns-in_err-room-clause-lacks
+returns-in_err-room-clause-lacks g c =
+    let room = c.room_for.ensures in
+    let (f, there, on) = c.requires.decided in
+    let (here, lacks) = c.in_err-room.ensures.lacks in
+    let holds = subst (λ (r : RouterValue). Holds r.tables.plan f.node (destination f)) (sym room.router) (decided_as c.args.self.now.router f c.args.decided.now on Here here) in
+    err_lacks _ c.from_residual.result c.from_residual.ensures.0
+    (inr (
+      f,
+      (ap (λ (fs : List (Option Flight)). flight_at fs c.args.number) room.flights ∙ there, holds),
+      elim lacks [ inl ends ↦ inl (sym on.ends ∙ ends) | inr none ↦ inr (λ r. none (subst (HasRoomAt c.room_for.new.self) (sym on.node) r)) ],
+    ))
+
+pub returns-in_err-copy-clause-lacks : goal.returns-in_err-copy-clause-lacks
+returns-in_err-copy-clause-lacks g c =
+    let (f, there, on) = c.requires.decided in
+    let before = ap (λ (fs : List (Option Flight)). flight_at fs c.args.number) c.room_for.ensures.flights ∙ there in
+    let after = ap (λ (fs : List (Option Flight)). flight_at fs c.args.number) c.in_err-copy.ensures.none ∙ before in
+    err_lacks _ c.from_residual-in_err-copy.result c.from_residual-in_err-copy.ensures.0
+    (inl (
+      c.if-keep.true,
+      elim c.in_err-copy.ensures.lacks [
+        | inl none ↦ inl none
+        | inr long ↦ inr (f, after, subst (λ (o : Option Flight). IfSome o (λ x. 64 < length x.packet.payload)) before long)
+      ],
+    ))
