@@ -1,9 +1,8 @@
 -- What the end of `audit` tells of an answer.
-use Rattle.std.proofs.Common.{◌≡◌, ◌≢◌, ℕ, zero, suc, List, Result, Ok, Err, inl, inr, refl, sym, subst}
-use Rattle.std.proofs.Math.Nat.{suc-ne-zero}
+use Rattle.std.proofs.Common.{◌≡◌, ◌≢◌, ℕ, Bool, true, false, List, Result, Ok, Err, inl, inr, refl, sym, subst}
 use Rattle.std.specs.Prelude.{IfOk, Option, codes}
 use Rattle.std.specs.Cow.{cow_str_bytes}
-use Rattle.audited_captures.specs.Audits.{AreAudited, difference_count, audit_text}
+use Rattle.audited_captures.specs.Audits.{AreAudited, is_match, audit_text}
 use Rattle.audited_captures.specs.Lines.{LineValue}
 use Rattle.bus_captures.specs.Captures.{IsCapture}
 use Rattle.bus_captures.specs.Values.{EntryValue}
@@ -23,26 +22,25 @@ use Rattle.audit_commands.specs.Buses.{IsBusOf, NamesNoBus}
 
 module _ (plan : Plan) (cert : Certificate) (bus : Option ℕ) (bytes text : List ℕ) (ended : Status) where
   -- of a capture that was read whole
-  whole_so : (count : ℕ) → TellsCapture plan cert bus bytes end.Whole count text → (count ≡ 0 → ended ≡ status.Yes) → (count ≢ 0 → ended ≡ status.Fault) → AuditsCapture plan cert bus bytes ended text
-  whole_so zero tells matches differs = subst (λ (s : Status). AuditsCapture plan cert bus bytes s text) (sym (matches refl)) tells
-  whole_so (suc n) tells matches differs =
-      subst (λ (s : Status). AuditsCapture plan cert bus bytes s text) (sym (differs (suc-ne-zero n))) (suc n, suc-ne-zero n, tells)
+  whole_so : (is : Bool) → TellsCapture plan cert bus bytes end.Whole is text → (is ≡ true → ended ≡ status.Yes) → (is ≡ false → ended ≡ status.Fault) → AuditsCapture plan cert bus bytes ended text
+  whole_so true tells matches fails = subst (λ (s : Status). AuditsCapture plan cert bus bytes s text) (sym (matches refl)) tells
+  whole_so false tells matches fails = subst (λ (s : Status). AuditsCapture plan cert bus bytes s text) (sym (fails refl)) tells
 
   -- of one that was not
-  broken_so : (how : End) (count : ℕ) → TellsCapture plan cert bus bytes how count text → how ≢ end.Whole → (how ≢ end.Whole → ended ≡ status.Unreadable) → AuditsCapture plan cert bus bytes ended text
-  broken_so how count tells other broken = subst (λ (s : Status). AuditsCapture plan cert bus bytes s text) (sym (broken other)) (how, count, other, tells)
+  broken_so : (how : End) (is : Bool) → TellsCapture plan cert bus bytes how is text → how ≢ end.Whole → (how ≢ end.Whole → ended ≡ status.Unreadable) → AuditsCapture plan cert bus bytes ended text
+  broken_so how is tells other broken = subst (λ (s : Status). AuditsCapture plan cert bus bytes s text) (sym (broken other)) (how, is, other, tells)
 
-  ended_so : (how : End) (count : ℕ) → TellsCapture plan cert bus bytes how count text → (how ≡ end.Whole → count ≡ 0 → ended ≡ status.Yes)
-      → (how ≡ end.Whole → count ≢ 0 → ended ≡ status.Fault) → (how ≢ end.Whole → ended ≡ status.Unreadable) → AuditsCapture plan cert bus bytes ended text
-  ended_so end.Whole count tells matches differs broken = whole_so count tells (matches refl) (differs refl)
-  ended_so end.Full count tells matches differs broken = broken_so end.Full count tells (λ e. cc) broken
-  ended_so (end.Broken place why) count tells matches differs broken = broken_so (end.Broken place why) count tells (λ e. cc) broken
+  ended_so : (how : End) (is : Bool) → TellsCapture plan cert bus bytes how is text → (how ≡ end.Whole → is ≡ true → ended ≡ status.Yes)
+      → (how ≡ end.Whole → is ≡ false → ended ≡ status.Fault) → (how ≢ end.Whole → ended ≡ status.Unreadable) → AuditsCapture plan cert bus bytes ended text
+  ended_so end.Whole is tells matches fails broken = whole_so is tells (matches refl) (fails refl)
+  ended_so end.Full is tells matches fails broken = broken_so end.Full is tells (λ e. cc) broken
+  ended_so (end.Broken place why) is tells matches fails broken = broken_so (end.Broken place why) is tells (λ e. cc) broken
 
   pub audited_so : (entries : List EntryValue) (lines : List LineValue) (how : End) → IsCapture bytes entries how → AreAudited plan cert bus entries lines → text ≡ audit_text lines how
-      → (how ≡ end.Whole → difference_count lines ≡ 0 → ended ≡ status.Yes) → (how ≡ end.Whole → difference_count lines ≢ 0 → ended ≡ status.Fault)
+      → (how ≡ end.Whole → is_match lines ≡ true → ended ≡ status.Yes) → (how ≡ end.Whole → is_match lines ≡ false → ended ≡ status.Fault)
       → (how ≢ end.Whole → ended ≡ status.Unreadable) → AuditsCapture plan cert bus bytes ended text
   audited_so entries lines how captured audited told =
-      ended_so how (difference_count lines) (record { entries = entries; lines = lines; captured = captured; audited = audited; counted = refl; told = told })
+      ended_so how (is_match lines) (record { entries = entries; lines = lines; captured = captured; audited = audited; judged = refl; told = told })
 
 module _ (plan : Plan) (cert : Certificate) where
   pub at_bus : (name : Option (List ℕ)) (bus : Option ℕ) (captures : Stream) (result : Result Answer Refused) → IsBusOf plan name bus

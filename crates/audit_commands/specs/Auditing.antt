@@ -1,6 +1,6 @@
 -- What the end of `audit` says of the plan, the certificate and the capture that it read, and of what it wrote.
-use Rattle.std.specs.Prelude.{◌≡◌, ◌≢◌, ◌⊎◌, ℕ, List, Option, Some, None, codes}
-use Rattle.audited_captures.specs.Audits.{AreAudited, difference_count, audit_text}
+use Rattle.std.specs.Prelude.{◌≡◌, ◌≢◌, ◌⊎◌, ℕ, Bool, true, false, List, Option, Some, None, codes}
+use Rattle.audited_captures.specs.Audits.{AreAudited, is_match, audit_text}
 use Rattle.audited_captures.specs.Lines.{LineValue}
 use Rattle.bus_captures.specs.Captures.{IsCapture}
 use Rattle.bus_captures.specs.Values.{EntryValue}
@@ -17,24 +17,24 @@ use Rattle.plan_values.specs.declared.plan.Plan.{Plan}
 use Rattle.net_rules.specs.Rules.{Accepts}
 use Rattle.audit_commands.specs.Buses.{IsBusOf, NamesNoBus}
 
--- the text tells what was captured on the bus beside the plan, where reading the bytes ends so, and so many differences
-pub record TellsCapture (plan : Plan) (cert : Certificate) (bus : Option ℕ) (bytes : List ℕ) (how : End) (count : ℕ)
-    (text : List ℕ) : Type 0 where
+-- the text tells what was captured on the bus beside the plan, where reading the bytes ends so, and whether that is a
+-- match
+pub record TellsCapture (plan : Plan) (cert : Certificate) (bus : Option ℕ) (bytes : List ℕ) (how : End)
+    (matches : Bool) (text : List ℕ) : Type 0 where
   pub entries : List EntryValue
   pub lines : List LineValue
   pub captured : IsCapture bytes entries how
   pub audited : AreAudited plan cert bus entries lines
-  pub counted : count ≡ difference_count lines
+  pub judged : matches ≡ is_match lines
   pub told : text ≡ audit_text lines how
 
--- It does in a run that ends so: yes where all was read and nothing differs, a fault where all was read and something
--- does, and unreadable where not all was read.
+-- It does in a run that ends so: yes where all was read and it is a match, a fault where all was read and something
+-- differs or nothing was compared, and unreadable where not all was read.
 abbrev pub AuditsCapture : Plan → Certificate → Option ℕ → List ℕ → Status → List ℕ → Type 0
-AuditsCapture plan cert bus bytes status.Yes text = TellsCapture plan cert bus bytes end.Whole 0 text
-AuditsCapture plan cert bus bytes status.Fault text =
-    (count : ℕ) × (count ≢ 0) × TellsCapture plan cert bus bytes end.Whole count text
+AuditsCapture plan cert bus bytes status.Yes text = TellsCapture plan cert bus bytes end.Whole true text
+AuditsCapture plan cert bus bytes status.Fault text = TellsCapture plan cert bus bytes end.Whole false text
 AuditsCapture plan cert bus bytes status.Unreadable text =
-    (how : End) × (count : ℕ) × (how ≢ end.Whole) × TellsCapture plan cert bus bytes how count text
+    (how : End) × (matches : Bool) × (how ≢ end.Whole) × TellsCapture plan cert bus bytes how matches text
 AuditsCapture plan cert bus bytes status.NoMemory text = ⊥
 
 -- the same of a plan and a certificate, whose first fault is told where they are not accepted

@@ -1,18 +1,18 @@
 //! The command `audit`: what captured devices said, laid beside a checked plan.
-ghost use Rattle.std.specs.Prelude.{◌≡◌, ◌≢◌, Option, IfOk, IfErr, map, option_map, string_bytes, codes};
+ghost use Rattle.std.specs.Prelude.{◌≡◌, ◌≢◌, Option, IfOk, IfErr, map, option_map, string_bytes, codes, true, false};
 ghost use Rattle.std.specs.Cow.{cow_str_bytes};
 ghost use Rattle.net_plan.specs.Stream.{HasRoom};
 ghost use Rattle.command_answers.specs.declared.status.Status.TheVariants.{Yes, Fault, Unreadable};
 ghost use Rattle.command_answers.specs.declared.refused.Refused.TheVariants as refused;
 ghost use Rattle.command_answers.specs.Answers.{stream, AreUnread, IsWithoutPlan, AreWithoutCertificate};
 ghost use Rattle.command_answers.specs.Told.{ConcludesOnBoth};
-ghost use Rattle.audited_captures.specs.Audits.{difference_count};
+ghost use Rattle.audited_captures.specs.Audits.{is_match};
 ghost use Rattle.audited_captures.specs.Lines.{line_value};
 ghost use Rattle.audit_commands.specs.Auditing.{AuditsCapture, AuditsOn, AuditsOf, AuditsAt, AuditsSo};
 
 use crate::buses::bus_of;
 use crate::repositories::repositories_of;
-use audited_captures::{Line, audit_text, audited_lines, difference_count};
+use audited_captures::{Line, audit_text, audited_lines, is_match};
 use bus_captures::{End, read_capture};
 use byte_commands::not_given;
 use command_answers::{Answer, Refused, Status, fault_answer, read_inputs, refuse, tell};
@@ -146,8 +146,8 @@ fn audited(
 
 /// The answer where reading a capture ended so, and these lines were told of it. Only a whole one was read as asked.
 fn answer_at(end: End, lines: &[Line], text: String) -> Answer
-    ensures matches { end ≡ End.Whole → difference_count (map line_value lines.now) ≡ 0 → result.status ≡ Yes }
-    ensures differs { end ≡ End.Whole → difference_count (map line_value lines.now) ≢ 0 → result.status ≡ Fault }
+    ensures matches { end ≡ End.Whole → is_match (map line_value lines.now) ≡ true → result.status ≡ Yes }
+    ensures fails { end ≡ End.Whole → is_match (map line_value lines.now) ≡ false → result.status ≡ Fault }
     ensures broken { end ≢ End.Whole → result.status ≡ Unreadable }
     ensures text { cow_str_bytes result.text ≡ string_bytes text }
 {
@@ -158,11 +158,11 @@ fn answer_at(end: End, lines: &[Line], text: String) -> Answer
 }
 
 fn answer_of(lines: &[Line], text: String) -> Answer
-    ensures matches { difference_count (map line_value lines.now) ≡ 0 → result.status ≡ Yes }
-    ensures differs { difference_count (map line_value lines.now) ≢ 0 → result.status ≡ Fault }
+    ensures matches { is_match (map line_value lines.now) ≡ true → result.status ≡ Yes }
+    ensures fails { is_match (map line_value lines.now) ≡ false → result.status ≡ Fault }
     ensures text { cow_str_bytes result.text ≡ string_bytes text }
 {
-    if difference_count(lines) == 0 {
+    if is_match(lines) {
         Answer::found(text)
     } else {
         Answer::fault(text)

@@ -25,7 +25,7 @@ use Rattle.audited_captures.specs.Matching.{IsReadAsPlanned}
 use Rattle.audited_captures.proofs.Booleans.{both_left, both_right}
 use Rattle.audited_captures.proofs.PacketLaws.{among_left, among_right, among_split}
 use Rattle.audited_captures.proofs.PlannedReadings.{matches}
-use Rattle.audited_captures.proofs.WholeAudits.{audit_matches}
+use Rattle.audited_captures.proofs.WholeAudits.{as_planned_where_none_differs}
 use Rattle.mctp_routing.proofs.Apart.{routes_moved}
 
 -- ---- the entries of one row
@@ -192,5 +192,5 @@ read_so plan n planned (Some found) apart are is = (found, refl, forwards plan n
 
 pub audits_forward : AuditsForward
 audits_forward plan cert bus entries lines accepted are none n node at r among =
-    let said = (audit_matches plan cert bus entries lines are none).0 n node at in
+    let said = (as_planned_where_none_differs plan cert bus entries lines are none).0 n node at in
     read_so plan n said.0.planned r (accepted_apart plan cert accepted) said.1.plans (said.2.tables r among)

@@ -10,6 +10,7 @@ pub mod AuditLaws
 pub mod CheckedPlans
 pub mod PlannedReadings
 pub mod MatchLaws
+pub mod ComparedLaws
 pub mod PacketLaws
 pub mod TrafficLaws
 pub mod StrangerLaws

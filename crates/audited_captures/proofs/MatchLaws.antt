@@ -17,7 +17,7 @@ use Rattle.pdr_repository.specs.Records.{Entry, handle_in}
 use Rattle.audited_captures.specs.Audits.{NodeFacts, difference_count, lines_of_node}
 use Rattle.audited_captures.specs.Exchanges.{ExchangeValue}
 use Rattle.audited_captures.specs.Identities.{answered_by, kind_word, eid_line, kind_line, identity_lines, tells_eid, span_words, same_span, pool_lines_of, tells_pool, told_lines, eid_lines, pool_lines, answers_of, answer_if, first_of, size_of, kind_number}
-use Rattle.audited_captures.specs.Lines.{LineValue, difference, note, differences_or}
+use Rattle.audited_captures.specs.Lines.{LineValue, difference, note, silence, differences_or, differs}
 use Rattle.audited_captures.specs.RecordLines.{unlike_from, line_if_unlike_at, line_of_found, found_lines, is_found, missing_lines, unlike_records, are_planned, records_match, order_line, open_line, stopped_line, walk_lines, walks_lines}
 use Rattle.audited_captures.specs.Walking.{Walked, Whole, Open, Stopped}
 use Rattle.audited_captures.specs.Matching.{IsReadAsPlanned, IsWalkedAsPlanned, HasPlannedEid, HasPlannedPool, SaysAsPlanned, NodesMatchWhereAsPlanned}
@@ -30,7 +30,7 @@ use Rattle.audited_captures.proofs.PlannedReadings.{nil_left, nil_right, no_line
 -- ---- counts of differences
 
 count_append : (a b : List LineValue) → difference_count (a ++ b) ≡ difference_count a + difference_count b
-count_append a b = ap length (filter-append (λ (l : LineValue). l.differs) a b) ∙ length-append (filter (λ (l : LineValue). l.differs) a) (filter (λ (l : LineValue). l.differs) b)
+count_append a b = ap length (filter-append differs a b) ∙ length-append (filter differs a) (filter differs b)
 
 pub zero_left : (a b : List LineValue) → difference_count (a ++ b) ≡ 0 → difference_count a ≡ 0
 zero_left a b is = omega (arith, count_append a b, is)
@@ -42,13 +42,13 @@ pub zero_both : (a b : List LineValue) → difference_count a ≡ 0 → differen
 zero_both a b is_a is_b = omega (arith, count_append a b, is_a, is_b)
 
 -- each of the lines tells a difference
-abbrev AllDiffer : List LineValue → Type 0
+abbrev pub AllDiffer : List LineValue → Type 0
 AllDiffer ls = difference_count ls ≡ length ls
 
-all_both : (a b : List LineValue) → AllDiffer a → AllDiffer b → AllDiffer (a ++ b)
+pub all_both : (a b : List LineValue) → AllDiffer a → AllDiffer b → AllDiffer (a ++ b)
 all_both a b all_a all_b = omega (arith, count_append a b, length-append a b, all_a, all_b)
 
-none_of : (ls : List LineValue) → AllDiffer ls → difference_count ls ≡ 0 → ls ≡ []
+pub none_of : (ls : List LineValue) → AllDiffer ls → difference_count ls ≡ 0 → ls ≡ []
 none_of ls all zero = nil_from_length ls (sym all ∙ zero)
 
 one_if : (b : Bool) (text : List ℕ) → AllDiffer (if b then [] else difference text ∷ [])
@@ -65,7 +65,7 @@ module _ {A : Type 0} (f : A → List LineValue) where
   zero_all [] each = refl
   zero_all (y ∷ ys) each = zero_both (f y) (flat_map f ys) (each y (inl refl)) (zero_all ys (λ x among. each x (inr among)))
 
-  all_flat : ((x : A) → AllDiffer (f x)) → (xs : List A) → AllDiffer (flat_map f xs)
+  pub all_flat : ((x : A) → AllDiffer (f x)) → (xs : List A) → AllDiffer (flat_map f xs)
   all_flat each [] = refl
   all_flat each (y ∷ ys) = all_both (f y) (flat_map f ys) (each y) (all_flat each ys)
 
@@ -90,7 +90,7 @@ module _ (name : List ℕ) where
       all_both (lines_if_extra name planned f fs) (extra_lines name planned fs)
       (one_if (has_range planned f && not (has_range fs f)) (extra_line name f).text) (extra_all planned fs)
 
-  unlike_all : (planned found : List EntryValue) → AllDiffer (unlike_lines name planned found)
+  pub unlike_all : (planned found : List EntryValue) → AllDiffer (unlike_lines name planned found)
   unlike_all planned found =
       all_both (flat_map (planned_lines name found) planned) (extra_lines name planned found)
       (all_flat (planned_lines name found) (λ e. beside_all e (find (same_range e) found)) planned) (extra_all planned found)
@@ -132,7 +132,7 @@ module _ (name : List ℕ) where
   kind_none planned found is = ap (λ (b : Bool). if b then [] else difference (kind_text planned found) ∷ []) (eq-eqb planned found is)
 
   module _ (eid type : ℕ) where
-    identity_all : (a : AnswerValue) → AllDiffer (identity_lines name eid type a)
+    pub identity_all : (a : AnswerValue) → AllDiffer (identity_lines name eid type a)
     identity_all (EidSet status found size) = one_if (eid == found) (eid_text eid found)
     identity_all (EidTold found status medium) =
         all_both (eid_line name eid found) (kind_line name type status.second) (one_if (eid == found) (eid_text eid found)) (one_if (type == status.second) (kind_text type status.second))
@@ -182,7 +182,7 @@ module _ (name : List ℕ) where
     abbrev pool_text : (found_first found_size : ℕ) → List ℕ
     pool_text found_first found_size = name ++ (codes " pool " ++ (span_words found_first found_size ++ (codes " planned " ++ span_words first size)))
 
-    pool_all : (a : AnswerValue) → AllDiffer (pool_lines_of name first size a)
+    pub pool_all : (a : AnswerValue) → AllDiffer (pool_lines_of name first size a)
     pool_all (PoolTold status found_size found_first) = one_if (same_span first size found_first found_size) (pool_text found_first found_size)
     pool_all (EidSet status found wanted) = refl
     pool_all (EidTold found status medium) = refl
@@ -242,7 +242,7 @@ module _ (name : List ℕ) where
   or_order_some text (l ∷ ls) all zero = omega (arith, all, zero)
 
   module _ (records : List Entry) where
-    unlike_at_all : (handle : ℕ) (at : Option ℕ) → AllDiffer (line_if_unlike_at name handle at)
+    pub unlike_at_all : (handle : ℕ) (at : Option ℕ) → AllDiffer (line_if_unlike_at name handle at)
     unlike_at_all handle None = refl
     unlike_at_all handle (Some k) = refl
 
@@ -250,7 +250,7 @@ module _ (name : List ℕ) where
     of_found_all found None = refl
     of_found_all found (Some e) = unlike_at_all (handle_in found) (unlike_from 0 e.bytes found)
 
-    records_all : (found : List (List ℕ)) → AllDiffer (unlike_records name records found ++ flat_map (missing_lines name found) records)
+    pub records_all : (found : List (List ℕ)) → AllDiffer (unlike_records name records found ++ flat_map (missing_lines name found) records)
     records_all found =
         all_both (unlike_records name records found) (flat_map (missing_lines name found) records)
         (all_flat (found_lines name records) (λ f. of_found_all f (find (λ (e : Entry). e.handle == handle_in f) records)) found)
@@ -293,7 +293,7 @@ module _ (eid : ℕ) (x : ExchangeValue) where
   by_command (AllocatesEids operation reserved size first) is = if_same (x.responder == eid) []
   by_command (GetsEntries handle) is = some_or (x.responder == eid) x.answer (record { requester = x.requester; handle = handle; answer = x.answer }) is
 
-no_parts : (eid : ℕ) (xs : List ExchangeValue) → answers_of eid xs ≡ [] → parts_of eid xs ≡ []
+pub no_parts : (eid : ℕ) (xs : List ExchangeValue) → answers_of eid xs ≡ [] → parts_of eid xs ≡ []
 no_parts eid xs none = flat_none (part_of eid) xs (λ x among. by_command eid x x.command (flat_nil (answer_if eid) xs none x among))
 
 -- ---- a node
@@ -318,7 +318,7 @@ module _ (node : Node) (xs : List ExchangeValue) (f : NodeFacts) where
   pools = pool_lines name (first_of node.pool) (size_of node.pool) answers
 
   abbrev chosen : Bool → List LineValue
-  chosen quiet = if quiet then note (name ++ codes " not captured") ∷ [] else (routes ++ (eids ++ pools)) ++ told
+  chosen quiet = if quiet then silence (name ++ codes " not captured") ∷ [] else (routes ++ (eids ++ pools)) ++ told
 
   records_are : difference_count told ≡ 0 → (w : Walked) → IsAmong w f.walks → IsWalkedAsPlanned f.records w
   records_are zero w among = walk_is name f.records w (zero_each (walk_lines name f.records) f.walks zero w among)

@@ -7,11 +7,10 @@ use Rattle.std.specs.Fmt.{decimal}
 use Rattle.std.specs.Cmp.Lexicographic.{pointwise, bytes_decides}
 use Rattle.std.proofs.lemmas.Bool.{cases_Bool, eqb-true, eq-eqb}
 use Rattle.std.proofs.lemmas.Option.{same_Some}
-use Rattle.hex.specs.Hex.{encode_lower}
 use Rattle.mctp_control.specs.RouteEntries.{EntryValue}
 use Rattle.audited_captures.specs.AsPlanned.{IsAmong, IsLike, AreOnce, AreAsPlanned, MatchesWhereAsPlanned}
 use Rattle.audited_captures.proofs.Booleans.{both, both_left, both_right, not_true, either, or_right, not_both}
-use Rattle.audited_captures.specs.Routes.{same_range, has_range, two_words, unlike_number, unlike_address, unlike, line_if_unlike, line_beside, planned_lines, lines_if_extra, extra_line, extra_lines, unlike_lines}
+use Rattle.audited_captures.specs.Routes.{same_range, has_range, two_words, unlike_number, address_words, unlike_address, unlike, line_if_unlike, line_beside, planned_lines, lines_if_extra, extra_line, extra_lines, unlike_lines}
 
 -- ---- lists
 
@@ -143,7 +142,7 @@ like_of e f range is =
       port = number_is (codes "port") e.port f.port (none_left port from_binding is_port);
       binding = number_is (codes "binding") e.binding f.binding (none_left binding from_media is_binding);
       media = number_is (codes "media") e.media f.media (none_left media address is_media);
-      address = (bytes_decides e.address f.address).0 (no_words (pointwise nat_eq e.address f.address) (two_words (codes "address") (encode_lower e.address) (encode_lower f.address)) is_address);
+      address = (bytes_decides e.address f.address).0 (no_words (pointwise nat_eq e.address f.address) (two_words (codes "address") (address_words e.address) (address_words f.address)) is_address);
     }
 
 unlike_of : (e f : EntryValue) → IsLike e f → unlike e f ≡ None
@@ -157,7 +156,7 @@ unlike_of e f like =
     let from_binding = option_or binding from_media in
     let from_port = option_or port from_binding in
     let is_address : address ≡ None =
-    words_none (pointwise nat_eq e.address f.address) (two_words (codes "address") (encode_lower e.address) (encode_lower f.address)) ((bytes_decides e.address f.address).1 like.address) in
+    words_none (pointwise nat_eq e.address f.address) (two_words (codes "address") (address_words e.address) (address_words f.address)) ((bytes_decides e.address f.address).1 like.address) in
     none_both kind from_port (number_of (codes "type") e.kind f.kind like.kind)
     (none_both port from_binding (number_of (codes "port") e.port f.port like.port)
     (none_both binding from_media (number_of (codes "binding") e.binding f.binding like.binding)

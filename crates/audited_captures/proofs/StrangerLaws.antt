@@ -7,7 +7,7 @@ use Rattle.audited_captures.specs.Exchanges.{ExchangeValue, exchange_value}
 use Rattle.audited_captures.specs.declared.exchanges.Exchange.{Exchange}
 use Rattle.audited_captures.specs.Lines.{LineValue}
 use Rattle.audited_captures.specs.Strangers.{IsStranger, IsOfNone, stranger_line, AreLinesOf, AreStrangerLines, Empty, More, HasNoStrangers}
-use Rattle.audited_captures.proofs.MatchLaws.{zero_left, zero_right, zero_both}
+use Rattle.audited_captures.proofs.MatchLaws.{AllDiffer, all_both, zero_left, zero_right, zero_both}
 use Rattle.audited_captures.proofs.PacketLaws.{among_left, among_right, among_split}
 use Rattle.audited_captures.proofs.WordLaws.{mapped_more}
 
@@ -50,3 +50,12 @@ module _ (plan : Plan) where
   no_stranger_told (More xs ls y more are of_one) none =
       zero_both ls more (no_stranger_told are (λ x among. none x (among_left x xs (y ∷ []) among)))
       (none_told y more of_one (none y (among_right y xs (y ∷ []) (inl refl))))
+
+  one_differs : (x : ExchangeValue) (ls : List LineValue) → AreLinesOf plan x ls → AllDiffer ls
+  one_differs x ls (inl (eid, is, told)) = subst AllDiffer (sym told) refl
+  one_differs x ls (inr (none, told)) = subst AllDiffer (sym told) refl
+
+  -- each line of a stranger tells a difference
+  pub strangers_differ : {xs : List ExchangeValue} {ls : List LineValue} → AreStrangerLines plan xs ls → AllDiffer ls
+  strangers_differ Empty = refl
+  strangers_differ (More xs ls x more are of_one) = all_both ls more (strangers_differ are) (one_differs x more of_one)

@@ -23,7 +23,7 @@ use Rattle.audited_captures.specs.declared.packets.CapturedPacket.{CapturedPacke
 use Rattle.audited_captures.specs.Traffic.{LacksSender, LacksReceiver, is_one_over, ArrivesBy, GoesOver, IsPlanned, Unplanned, IsJudged}
 use Rattle.audited_captures.specs.TrafficLines.{IsOneLine, AreLinesOf, AreTrafficLines, More, IsTraffic}
 use Rattle.audited_captures.specs.TrafficLines as lines
-use Rattle.audited_captures.proofs.MatchLaws.{zero_left, zero_right, zero_both}
+use Rattle.audited_captures.proofs.MatchLaws.{AllDiffer, all_both, zero_left, zero_right, zero_both}
 use Rattle.audited_captures.proofs.PacketLaws.{each_has_first, first_among, among_left, among_right, among_split}
 use Rattle.audited_captures.proofs.WordLaws.{mapped_more}
 
@@ -109,6 +109,15 @@ module _ (plan : Plan) (bus : Option ℕ) (packets : List NumberedPacket) where
   none_told (More firsts ls first more are of_one) planned =
       zero_both ls more (none_told are (λ f among. planned f (among_left f firsts (first ∷ []) among)))
       (zero_one first (count_like first packets) more of_one (planned first (among_right first firsts (first ∷ []) (inl refl))))
+
+  one_differs : (f : NumberedPacket) (count : ℕ) (ls : List LineValue) → AreLinesOf plan bus f count ls → AllDiffer ls
+  one_differs f count ls (inl (planned, none)) = subst AllDiffer (sym none) refl
+  one_differs f count ls (inr (why, judged, (line, is, told))) = subst AllDiffer (sym (told ∙ ap (λ l. l ∷ []) is.told)) refl
+
+  -- each line about packets tells a difference
+  pub traffic_differs : {firsts : List NumberedPacket} {ls : List LineValue} → AreTrafficLines plan bus packets firsts ls → AllDiffer ls
+  traffic_differs lines.Empty = refl
+  traffic_differs (More firsts ls first more are of_one) = all_both ls more (traffic_differs are) (one_differs first (count_like first packets) more of_one)
 
 pub traffic_if : {T E : Type 0} (lines_of : T → List LineValue) (plan : Plan) (bus : Option ℕ) (entries : List EntryValue) (packets firsts : List NumberedPacket) (result : Result T E)
     → ArePackets plan.unit entries packets → AreFirst packets firsts → IfOk result (λ t. AreTrafficLines plan bus packets firsts (lines_of t))

@@ -1,17 +1,22 @@
 -- An audit matches exactly where each node has said what is planned.
-use Rattle.std.proofs.Common.{◌≡◌, ℕ, ◌<◌, List, ◌++◌, refl, ap, sym, ◌∙◌, subst, inl, inr, arith, Some}
-use Rattle.std.specs.Prelude.{slice_get}
-use Rattle.std.proofs.lemmas.Bool.{cases_lt}
+use Rattle.std.proofs.Common.{◌≡◌, ◌==◌, ℕ, ◌<◌, true, List, ◌++◌, refl, ap, sym, ◌∙◌, subst, inl, inr, arith, Some}
+use Rattle.std.specs.Prelude.{Option, slice_get}
+use Rattle.std.proofs.lemmas.Bool.{cases_lt, eqb-true, eq-eqb}
 use Rattle.std.proofs.lemmas.Option.{same_Some, slice_get_within}
 use Rattle.pdr_repository.specs.Records.{Entry}
 use Rattle.plan_values.specs.declared.nodes.Node.{Node}
 use Rattle.plan_values.specs.declared.plan.Plan.{Plan}
-use Rattle.audited_captures.specs.Audits.{Heard, NodeFacts, AreFacts, AreLines, Empty, More, AreNodeLines, difference_count}
+use Rattle.audited_captures.specs.Audits.{AreAudited, Heard, NodeFacts, AreFacts, AreLines, Empty, More, AreNodeLines, difference_count, has_compared}
 use Rattle.audited_captures.specs.Lines.{LineValue}
-use Rattle.audited_captures.specs.Matching.{SaysAsPlanned, AuditMatches, MatchesAudit}
-use Rattle.audited_captures.proofs.MatchLaws.{zero_left, zero_right, zero_both, nodes_match}
-use Rattle.audited_captures.proofs.StrangerLaws.{no_strangers, no_stranger_told}
-use Rattle.audited_captures.proofs.TrafficLaws.{traffic_matches}
+use Rattle.audited_captures.specs.Matching.{SaysAsPlanned, IsCompared, ArePlanned, AuditMatches, MatchesAudit}
+use Rattle.audited_captures.specs.Strangers.{HasNoStrangers}
+use Rattle.bus_captures.specs.Values as captured
+use Rattle.plan_values.specs.declared.certificate.Certificate.{Certificate}
+use Rattle.audited_captures.proofs.Booleans.{both, both_left, both_right}
+use Rattle.audited_captures.proofs.ComparedLaws.{compares_left, compares_right, compares_either, none_compared, nodes_compare}
+use Rattle.audited_captures.proofs.MatchLaws.{AllDiffer, none_of, zero_left, zero_right, zero_both, nodes_match}
+use Rattle.audited_captures.proofs.StrangerLaws.{no_strangers, no_stranger_told, strangers_differ}
+use Rattle.audited_captures.proofs.TrafficLaws.{traffic_matches, traffic_differs}
 
 -- the node at a place has said what is planned
 abbrev IsSaidAt : Plan → List (List Entry) → Heard → ℕ → Node → Type 0
@@ -41,8 +46,48 @@ no_node plan rs h (More m lines more are one) says =
     zero_both lines more (no_node plan rs h are says)
     (ap difference_count one.tell ∙ (nodes_match one.node h.exchanges one.facts).1 (says m one.node one.facts one.at one.are))
 
-pub audit_matches : AuditMatches
-audit_matches plan cert bus entries lines are zero =
+-- the node at some place has said something that was laid beside the plan
+abbrev IsComparedAt : Plan → List (List Entry) → Heard → ℕ → Node → Type 0
+IsComparedAt plan rs h n node = (f : NodeFacts) × AreFacts plan rs h n node f × IsCompared node h.exchanges f
+
+some_node : (plan : Plan) (rs : List (List Entry)) (h : Heard) {count : ℕ} {lines : List LineValue} → AreLines plan rs h count lines → has_compared lines ≡ true
+    → (n : ℕ) × (node : Node) × (slice_get plan.nodes.items n ≡ Some node) × IsComparedAt plan rs h n node
+some_node plan rs h Empty is = absurd (none_compared is)
+some_node plan rs h (More m lines more are one) is = elim (compares_either lines more is) [
+  | inl before ↦ some_node plan rs h are before
+  | inr last ↦ (m, one.node, one.at, (one.facts, one.are, (nodes_compare one.node h.exchanges one.facts).0 (ap has_compared (sym one.tell) ∙ last)))
+]
+
+node_compared : (plan : Plan) (rs : List (List Entry)) (h : Heard) {count : ℕ} {lines : List LineValue} → AreLines plan rs h count lines → (n : ℕ) (node : Node) → n < count
+    → slice_get plan.nodes.items n ≡ Some node → ((f : NodeFacts) → AreFacts plan rs h n node f → IsCompared node h.exchanges f) → has_compared lines ≡ true
+node_compared plan rs h Empty n node lt at is = absurd (omega (arith, lt))
+node_compared plan rs h (More m lines more are one) n node lt at is = elim (cases_lt n m) [
+  | inl before ↦ compares_left lines more (node_compared plan rs h are n node before at is)
+  | inr last ↦ (
+      let same : n ≡ m = omega (arith, lt, last) in
+      let here : slice_get plan.nodes.items m ≡ Some node = subst (λ k. slice_get plan.nodes.items k ≡ Some node) same at in
+      let it : node ≡ one.node = same_Some node one.node (sym here ∙ one.at) in
+      let facts : AreFacts plan rs h n node one.facts = subst (λ (x : Node). AreFacts plan rs h n x one.facts) (sym it) (subst (λ k. AreFacts plan rs h k one.node one.facts) (sym same) one.are) in
+      let compared : IsCompared one.node h.exchanges one.facts = subst (λ (x : Node). IsCompared x h.exchanges one.facts) it (is one.facts facts) in
+      compares_right lines more (ap has_compared one.tell ∙ (nodes_compare one.node h.exchanges one.facts).1 compared))
+]
+
+-- lines that all differ and of which none does are none, so the comparisons are those of the nodes
+of_nodes_alone : (nodes strangers traffic : List LineValue) → AllDiffer strangers → AllDiffer traffic → difference_count strangers ≡ 0 → difference_count traffic ≡ 0
+    → has_compared ((nodes ++ strangers) ++ traffic) ≡ true → has_compared nodes ≡ true
+of_nodes_alone nodes strangers traffic strange passed no_stranger no_packet is = elim (compares_either (nodes ++ strangers) traffic is) [
+  | inl before ↦ elim (compares_either nodes strangers before) [
+    | inl here ↦ here
+    | inr other ↦ absurd (none_compared (sym (ap has_compared (none_of strangers strange no_stranger)) ∙ other))
+  ]
+  | inr other ↦ absurd (none_compared (sym (ap has_compared (none_of traffic passed no_packet)) ∙ other))
+]
+
+-- where nothing differs
+pub as_planned_where_none_differs : (plan : Plan) (cert : Certificate) (bus : Option ℕ) (entries : List captured.EntryValue) (lines : List LineValue) → (are : AreAudited plan cert bus entries lines) → difference_count lines ≡ 0
+    → ((n : ℕ) (node : Node) → slice_get plan.nodes.items n ≡ Some node → IsSaidAt plan are.repositories are.beside.heard n node)
+    × HasNoStrangers plan are.beside.heard.exchanges × ArePlanned plan bus are.passed.packets
+as_planned_where_none_differs plan cert bus entries lines are zero =
     let told : difference_count (are.answers ++ are.traffic) ≡ 0 = ap difference_count (sym are.joined) ∙ zero in
     let answered = zero_left are.answers are.traffic told in
     let beside = are.beside in
@@ -52,10 +97,30 @@ audit_matches plan cert bus entries lines are zero =
       (traffic_matches plan bus entries are.traffic are.passed).0 (zero_right are.answers are.traffic told),
     )
 
+pub audit_matches : AuditMatches
+audit_matches plan cert bus entries lines are matched =
+    let zero = eqb-true (difference_count lines) 0 (both_left (difference_count lines == 0) (has_compared lines) matched) in
+    let compared = both_right (difference_count lines == 0) (has_compared lines) matched in
+    let beside = are.beside in
+    let whole : lines ≡ (beside.of_nodes ++ beside.of_strangers) ++ are.traffic = are.joined ∙ ap (λ ls. ls ++ are.traffic) beside.joined in
+    let none : difference_count ((beside.of_nodes ++ beside.of_strangers) ++ are.traffic) ≡ 0 = ap difference_count (sym whole) ∙ zero in
+    let nodes = of_nodes_alone beside.of_nodes beside.of_strangers are.traffic (strangers_differ plan beside.strange) (traffic_differs plan bus are.passed.packets are.passed.told)
+    (zero_right beside.of_nodes beside.of_strangers (zero_left (beside.of_nodes ++ beside.of_strangers) are.traffic none))
+    (zero_right (beside.of_nodes ++ beside.of_strangers) are.traffic none)
+    (ap has_compared (sym whole) ∙ compared) in
+    let planned = as_planned_where_none_differs plan cert bus entries lines are zero in
+    let some = some_node plan are.repositories beside.heard beside.told nodes in
+    (planned.0, planned.1, planned.2, (some.0, some.1, some.2, some.3.0, some.3.1, some.3.2))
+
 pub matches_audit : MatchesAudit
-matches_audit plan cert bus entries lines are says strangers planned =
+matches_audit plan cert bus entries lines are says strangers planned n node at compared =
     let beside = are.beside in
     let answered : difference_count are.answers ≡ 0 =
     ap difference_count beside.joined
     ∙ zero_both beside.of_nodes beside.of_strangers (no_node plan are.repositories beside.heard beside.told says) (no_stranger_told plan beside.strange strangers) in
-    ap difference_count are.joined ∙ zero_both are.answers are.traffic answered ((traffic_matches plan bus entries are.traffic are.passed).1 planned)
+    let zero : difference_count lines ≡ 0 =
+    ap difference_count are.joined ∙ zero_both are.answers are.traffic answered ((traffic_matches plan bus entries are.traffic are.passed).1 planned) in
+    let whole : lines ≡ (beside.of_nodes ++ beside.of_strangers) ++ are.traffic = are.joined ∙ ap (λ ls. ls ++ are.traffic) beside.joined in
+    let here : has_compared beside.of_nodes ≡ true = node_compared plan are.repositories beside.heard beside.told n node (slice_get_within plan.nodes.items n node at) at compared in
+    both (difference_count lines == 0) (has_compared lines) (eq-eqb (difference_count lines) 0 zero)
+    (ap has_compared whole ∙ compares_left (beside.of_nodes ++ beside.of_strangers) are.traffic (compares_left beside.of_nodes beside.of_strangers here))

@@ -1,8 +1,8 @@
 -- What captured devices said, laid beside a plan.
-use Rattle.std.specs.Prelude.{◌≡◌, ℕ, ◌+◌, ◌<◌, ◌==◌, ◌&&◌, List, [], ◌∷◌, ◌++◌, length, codes, slice_get, Option, Some}
-use Rattle.std.specs.Prelude.{if◌then◌else◌}
+use Rattle.std.specs.Prelude.{◌≡◌, ℕ, ◌+◌, ◌<◌, ◌==◌, ◌&&◌, Bool, List, [], ◌∷◌, ◌++◌, length, codes}
+use Rattle.std.specs.Prelude.{slice_get, Option, Some, if◌then◌else◌}
 use Rattle.std.specs.Fmt.{decimal}
-use Rattle.std.specs.List.{flat_map, filter}
+use Rattle.std.specs.List.{flat_map, filter, list_any}
 use Rattle.bus_captures.specs.Values.{EntryValue}
 use Rattle.bus_captures.specs.declared.capture.End.{End}
 use Rattle.bus_captures.specs.declared.capture.End.TheVariants as end
@@ -19,7 +19,7 @@ use Rattle.pdr_repository.specs.Records.{Entry}
 use Rattle.plan_exports.specs.PlannedTables.{HasLawfulRows}
 use Rattle.plan_exports.specs.TableAnswers.{AreEntriesOf}
 use Rattle.audited_captures.specs.Readings.{parts_of, readings}
-use Rattle.audited_captures.specs.Lines.{LineValue, note}
+use Rattle.audited_captures.specs.Lines.{LineValue, silence, differs, compares}
 use Rattle.audited_captures.specs.RecordLines.{walks_lines}
 use Rattle.audited_captures.specs.RecordParts.{RecordPartValue, AreRecordParts}
 use Rattle.audited_captures.specs.Strangers.{AreStrangerLines}
@@ -44,7 +44,7 @@ abbrev pub lines_of_node :
     Node → (planned : List routes.EntryValue) → List ExchangeValue → (told : List LineValue) → List LineValue
 lines_of_node node planned xs told =
     if length (answers_of node.eid.value xs) == 0 && length told == 0
-    then note (name_bytes node.name ++ codes " not captured") ∷ []
+    then silence (name_bytes node.name ++ codes " not captured") ∷ []
     else answered_lines node planned xs ++ told
 
 -- what was captured: the messages that ask and answer, and among them the control messages that were answered
@@ -94,21 +94,31 @@ pub record AreRepositories (plan : Plan) (cert : Certificate) (count : ℕ)
       → records ≡ records_by_place plan cert n
 
 abbrev pub difference_count : List LineValue → ℕ
-difference_count lines = length (filter (λ l. l.differs) lines)
+difference_count lines = length (filter differs lines)
+
+-- something was laid beside the plan
+abbrev pub has_compared : List LineValue → Bool
+has_compared lines = list_any compares lines
+
+-- something was laid beside the plan, and nothing differs
+abbrev pub is_match : List LineValue → Bool
+is_match lines = difference_count lines == 0 && has_compared lines
 
 -- the last line of what was captured whole
-abbrev pub whole_line : ℕ → List ℕ
-whole_line count =
-    if count == 0 then codes "audit match\n" else codes "audit differs " ++ (decimal count ++ codes "\n")
+abbrev pub whole_line : List LineValue → List ℕ
+whole_line lines =
+    if is_match lines then codes "audit match\n"
+    else (if difference_count lines == 0 then codes "audit saw nothing of the plan\n"
+    else codes "audit differs " ++ (decimal (difference_count lines) ++ codes "\n"))
 
 -- and of what was read in part only: what wasn't read may differ too
 abbrev pub part_line : ℕ → List ℕ
 part_line count = codes "audit incomplete " ++ (decimal count ++ codes "\n")
 
-abbrev pub last_line : End → ℕ → List ℕ
-last_line end.Whole count = whole_line count
-last_line end.Full count = part_line count
-last_line (end.Broken place why) count = part_line count
+abbrev pub last_line : End → List LineValue → List ℕ
+last_line end.Whole lines = whole_line lines
+last_line end.Full lines = part_line (difference_count lines)
+last_line (end.Broken place why) lines = part_line (difference_count lines)
 
 abbrev pub text_line : LineValue → List ℕ
 text_line l = l.text ++ codes "\n"
@@ -120,7 +130,7 @@ rest_line end.Full = codes "capture not read behind 100000 entries\n"
 rest_line (end.Broken place why) = codes "capture not read from " ++ (decimal place ++ codes "\n")
 
 abbrev pub audit_text : List LineValue → End → List ℕ
-audit_text lines how = flat_map text_line lines ++ (rest_line how ++ last_line how (difference_count lines))
+audit_text lines how = flat_map text_line lines ++ (rest_line how ++ last_line how lines)
 
 -- These are the lines of what was captured beside the plan and these records: the messages that came whole in packets
 -- of the plan's transmission unit, those among them that ask and answer, the control messages that were answered, what

@@ -1,5 +1,5 @@
 -- What it means that devices said what is planned.
-use Rattle.std.specs.Prelude.{◌≡◌, ◌⊎◌, ◌↔◌, ℕ, ⊤, List, Option, Some, None, slice_get}
+use Rattle.std.specs.Prelude.{◌≡◌, ◌⊎◌, ◌↔◌, ◌||◌, ℕ, ⊤, IsTrue, true, List, Option, Some, None, slice_get}
 use Rattle.bus_captures.specs.Values as captured
 use Rattle.mctp_control.specs.RouteEntries.{EntryValue}
 use Rattle.mctp_control.specs.Responses.{AnswerValue, EidSet, EidTold, PoolTold, EntriesTold, Failed}
@@ -8,9 +8,10 @@ use Rattle.plan_values.specs.declared.certificate.Certificate.{Certificate}
 use Rattle.plan_values.specs.declared.nodes.Node.{Node}
 use Rattle.plan_values.specs.declared.plan.Plan.{Plan}
 use Rattle.audited_captures.specs.AsPlanned.{IsAmong, AreAsPlanned}
-use Rattle.audited_captures.specs.Audits.{AreAudited, NodeFacts, AreFacts, difference_count, lines_of_node}
+use Rattle.audited_captures.specs.Audits.{AreAudited, NodeFacts, AreFacts, difference_count, has_compared, is_match}
+use Rattle.audited_captures.specs.Audits.{lines_of_node}
 use Rattle.audited_captures.specs.Exchanges.{ExchangeValue}
-use Rattle.audited_captures.specs.Identities.{answers_of, first_of, size_of, kind_number}
+use Rattle.audited_captures.specs.Identities.{answers_of, tells_eid, tells_pool, first_of, size_of, kind_number}
 use Rattle.audited_captures.specs.Lines.{LineValue}
 use Rattle.audited_captures.specs.Packets.{NumberedPacket}
 use Rattle.audited_captures.specs.Strangers.{HasNoStrangers}
@@ -60,6 +61,23 @@ pub record SaysAsPlanned (node : Node) (xs : List ExchangeValue) (f : NodeFacts)
       → HasPlannedPool (first_of node.pool) (size_of node.pool) a
   pub records : (w : Walked) → IsAmong w f.walks → IsWalkedAsPlanned f.records w
 
+-- the answer tells what is laid beside the plan: an endpoint ID, a type or a pool
+abbrev pub TellsOfPlan : AnswerValue → Type 0
+TellsOfPlan a = IsTrue (tells_eid a || tells_pool a)
+
+-- Something that a node said was laid beside the plan: a reading of its routing table, an answer that tells its
+-- endpoint ID, its type or its pool, or a walk through its records.
+pub data IsCompared (node : Node) (xs : List ExchangeValue) (f : NodeFacts) : Type 0 where
+  ByTable : (r : Option (List EntryValue)) → IsAmong r (readings (parts_of node.eid.value xs)) → IsCompared node xs f
+  ByAnswer : (a : AnswerValue) → IsAmong a (answers_of node.eid.value xs) → TellsOfPlan a → IsCompared node xs f
+  ByWalk : (w : Walked) → IsAmong w f.walks → IsCompared node xs f
+
+-- a line of a node tells of a comparison exactly where one was made
+abbrev pub NodesCompareWhereHeard : Type 0
+NodesCompareWhereHeard = (node : Node) (xs : List ExchangeValue) (f : NodeFacts)
+    → (has_compared (lines_of_node node f.planned xs (walks_lines (name_bytes node.name) f.records f.walks)) ≡ true)
+    ↔ IsCompared node xs f
+
 -- no line of a node tells a difference exactly where all that it said is planned
 abbrev pub NodesMatchWhereAsPlanned : Type 0
 NodesMatchWhereAsPlanned = (node : Node) (xs : List ExchangeValue) (f : NodeFacts)
@@ -77,22 +95,28 @@ TrafficMatchesWhereAsPlanned = (plan : Plan) (bus : Option ℕ) (entries : List 
     (lines : List LineValue) → (passed : IsTraffic plan bus entries lines)
     → (difference_count lines ≡ 0) ↔ ArePlanned plan bus passed.packets
 
--- where an audit matches, each node has said what is planned, no device took an endpoint ID that no node holds, and
--- each packet is planned on the bus
+-- where an audit matches, each node has said what is planned, no device took an endpoint ID that no node holds, each
+-- packet is planned on the bus, and something that some node said was laid beside the plan
 abbrev pub AuditMatches : Type 0
 AuditMatches = (plan : Plan) (cert : Certificate) (bus : Option ℕ) (entries : List captured.EntryValue)
-    (lines : List LineValue) → (are : AreAudited plan cert bus entries lines) → difference_count lines ≡ 0
+    (lines : List LineValue) → (are : AreAudited plan cert bus entries lines) → is_match lines ≡ true
     → ((n : ℕ) (node : Node) → slice_get plan.nodes.items n ≡ Some node
     → (f : NodeFacts) × AreFacts plan are.repositories are.beside.heard n node f
     × SaysAsPlanned node are.beside.heard.exchanges f)
     × HasNoStrangers plan are.beside.heard.exchanges × ArePlanned plan bus are.passed.packets
+    × ((n : ℕ) × (node : Node) × (slice_get plan.nodes.items n ≡ Some node)
+    × (f : NodeFacts) × AreFacts plan are.repositories are.beside.heard n node f
+    × IsCompared node are.beside.heard.exchanges f)
 
--- where each node has said what is planned, no device took an endpoint ID that no node holds, and each packet is
--- planned on the bus, the audit matches
+-- where each node has said what is planned, no device took an endpoint ID that no node holds, each packet is planned on
+-- the bus, and something that some node said was laid beside the plan, the audit matches
 abbrev pub MatchesAudit : Type 0
 MatchesAudit = (plan : Plan) (cert : Certificate) (bus : Option ℕ) (entries : List captured.EntryValue)
     (lines : List LineValue) → (are : AreAudited plan cert bus entries lines)
     → ((n : ℕ) (node : Node) (f : NodeFacts) → slice_get plan.nodes.items n ≡ Some node
     → AreFacts plan are.repositories are.beside.heard n node f → SaysAsPlanned node are.beside.heard.exchanges f)
     → HasNoStrangers plan are.beside.heard.exchanges → ArePlanned plan bus are.passed.packets
-    → difference_count lines ≡ 0
+    → (n : ℕ) (node : Node) → slice_get plan.nodes.items n ≡ Some node
+    → ((f : NodeFacts) → AreFacts plan are.repositories are.beside.heard n node f
+    → IsCompared node are.beside.heard.exchanges f)
+    → is_match lines ≡ true

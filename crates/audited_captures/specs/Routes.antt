@@ -28,10 +28,14 @@ abbrev pub unlike_number : List ℕ → (planned found : ℕ) → Option (List �
 unlike_number name planned found =
     if planned == found then None else Some (two_words name (decimal planned) (decimal found))
 
+-- an address in hex, or a dash where it is empty
+abbrev pub address_words : List ℕ → List ℕ
+address_words address = if length address == 0 then codes "-" else encode_lower address
+
 abbrev pub unlike_address : (planned found : List ℕ) → Option (List ℕ)
 unlike_address planned found =
     if pointwise nat_eq planned found then None
-    else Some (two_words (codes "address") (encode_lower planned) (encode_lower found))
+    else Some (two_words (codes "address") (address_words planned) (address_words found))
 
 -- The first thing in which an entry that was found is another than the planned one. Whether it is static isn't planned.
 abbrev pub unlike : (planned found : EntryValue) → Option (List ℕ)

@@ -39,11 +39,16 @@ over_words plan [] = codes " over no bus"
 over_words plan (step ∷ steps) =
     codes " over " ++ (step_bus plan step ++ flat_map (λ (later : WayStep). codes ", " ++ step_bus plan later) steps)
 
+-- no node holds either endpoint ID
+abbrev pub nobody_words : (source destination : ℕ) → List ℕ
+nobody_words source destination =
+    if source == destination then codes "no node holds " ++ decimal source
+    else codes "no node holds " ++ (decimal source ++ (codes " or " ++ decimal destination))
+
 abbrev pub why_words : Plan → (source destination : ℕ) → Unplanned → List ℕ
 why_words plan source destination NoSender = codes "no node holds " ++ decimal source
 why_words plan source destination NoReceiver = codes "no node holds " ++ decimal destination
-why_words plan source destination Nobody =
-    codes "no node holds " ++ (decimal source ++ (codes " or " ++ decimal destination))
+why_words plan source destination Nobody = nobody_words source destination
 why_words plan source destination NoWay = codes "no way planned"
 why_words plan source destination (Elsewhere steps) =
     codes "planned" ++ (by_words plan steps ++ over_words plan steps)

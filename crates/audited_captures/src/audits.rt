@@ -6,17 +6,17 @@ ghost use Rattle.plan_values.specs.NodeValues.{name_bytes};
 ghost use Rattle.mctp_control.specs.RouteEntries.{entry_value};
 ghost use Rattle.audited_captures.specs.Exchanges.{exchange_value};
 ghost use Rattle.plan_exports.specs.PlannedTables.{HasLawfulRows};
-ghost use Rattle.audited_captures.specs.Lines.{line_value, note};
+ghost use Rattle.audited_captures.specs.Lines.{line_value, silence};
 ghost use Rattle.audited_captures.specs.Answers.{answer_values};
 ghost use Rattle.audited_captures.specs.Identities.{answers_of};
-ghost use Rattle.audited_captures.specs.Audits.{HasTables, answered_lines, lines_of_node, AreNodeLines, AreLines, difference_count, last_line, whole_line, text_line, rest_line, audit_text, AreBeside, AreAudited, AreRepositories, heard_of};
+ghost use Rattle.audited_captures.specs.Audits.{HasTables, answered_lines, lines_of_node, AreNodeLines, AreLines, difference_count, has_compared, is_match, last_line, whole_line, part_line, text_line, rest_line, audit_text, AreBeside, AreAudited, AreRepositories, heard_of};
 ghost use Rattle.audited_captures.specs.Repositories.{repository_values, TellsRecords};
 ghost use Rattle.audited_captures.specs.Words.{word_value};
 ghost use Rattle.pdr_repository.specs.Records.{entries};
 
 use crate::exchanges::{Exchange, exchanges_of};
 use crate::identities::{answers_of, eid_lines, pool_lines};
-use crate::lines::{Line, differences_or};
+use crate::lines::{Line, silence};
 use crate::readings::parts_of;
 use crate::record_parts::record_parts_of;
 use crate::routes::routes_lines;
@@ -144,10 +144,10 @@ fn lines_beside(
 }
 
 fn not_captured(alloc: Global, name: &str) -> Result<Vec<Line>, AllocError>
-    ensures { IfOk result (λ lines. map line_value lines.items ≡ note (name.now ++ codes " not captured") ∷ []) }
+    ensures { IfOk result (λ lines. map line_value lines.items ≡ silence (name.now ++ codes " not captured") ∷ []) }
 {
     let text = not_captured_text(alloc, name)?;
-    differences_or(text, Vec::new(alloc))
+    silence(alloc, text)
 }
 
 fn not_captured_text(alloc: Global, name: &str) -> Result<String, AllocError>
@@ -182,21 +182,41 @@ pub fn difference_count(lines: &[Line]) -> usize
 {
     let mut count = 0;
     for line in lines {
-        if line.differs {
+        if line.differs() {
             count += 1;
         }
     }
     count
 }
 
+/// Whether one of the lines tells of something that was laid beside the plan.
+fn has_compared(lines: &[Line]) -> bool
+    ensures { result ≡ has_compared (map line_value lines.now) }
+{
+    for line in lines {
+        if line.compares() {
+            return true;
+        }
+    }
+    false
+}
+
+/// Whether something was laid beside the plan, and none of the lines tells a difference.
+pub fn is_match(lines: &[Line]) -> bool
+    ensures { result ≡ is_match (map line_value lines.now) }
+{
+    difference_count(lines) == 0 && has_compared(lines)
+}
+
 /// The text of an audit: its lines, where the capture was not read to its end, and last whether all that was captured
-/// is planned, or how many lines tell a difference. What was read in part is never told as a match.
+/// is planned, or how many lines tell a difference. What was read in part is never told as a match, nor is a capture of
+/// which nothing could be laid beside the plan.
 pub fn audit_text(alloc: Global, lines: &[Line], end: End) -> Result<String, AllocError>
     ensures { IfOk result (λ text. string_bytes text ≡ audit_text (map line_value lines.now) end) }
 {
     let told = text_of_lines(alloc, lines)?;
     let rest = rest_line(alloc, end)?;
-    let last = last_line(alloc, end, difference_count(lines))?;
+    let last = last_line(alloc, end, lines)?;
     format!(in alloc; "{told}{rest}{last}")
 }
 
@@ -221,20 +241,30 @@ fn rest_line(alloc: Global, end: End) -> Result<String, AllocError>
     }
 }
 
-fn last_line(alloc: Global, end: End, count: usize) -> Result<String, AllocError>
-    ensures { IfOk result (λ line. string_bytes line ≡ last_line end count) }
+fn last_line(alloc: Global, end: End, lines: &[Line]) -> Result<String, AllocError>
+    ensures { IfOk result (λ line. string_bytes line ≡ last_line end (map line_value lines.now)) }
 {
     match end {
-        End::Whole => whole_line(alloc, count),
-        End::Full | End::Broken { .. } => format!(in alloc; "audit incomplete {count}\n"),
+        End::Whole => whole_line(alloc, lines),
+        End::Full | End::Broken { .. } => part_line(alloc, difference_count(lines)),
     }
 }
 
-fn whole_line(alloc: Global, count: usize) -> Result<String, AllocError>
-    ensures { IfOk result (λ line. string_bytes line ≡ whole_line count) }
+fn part_line(alloc: Global, count: usize) -> Result<String, AllocError>
+    ensures { IfOk result (λ line. string_bytes line ≡ part_line count) }
 {
-    if count == 0 {
+    format!(in alloc; "audit incomplete {count}\n")
+}
+
+fn whole_line(alloc: Global, lines: &[Line]) -> Result<String, AllocError>
+    ensures { IfOk result (λ line. string_bytes line ≡ whole_line (map line_value lines.now)) }
+{
+    if is_match(lines) {
         return String::from_str(alloc, "audit match\n");
+    }
+    let count = difference_count(lines);
+    if count == 0 {
+        return String::from_str(alloc, "audit saw nothing of the plan\n");
     }
     format!(in alloc; "audit differs {count}\n")
 }

@@ -1,7 +1,7 @@
 //! Laws of audits. The functions do nothing: their contracts are the laws.
 ghost use Rattle.audited_captures.specs.AsPlanned.{MatchesWhereAsPlanned};
 ghost use Rattle.audited_captures.specs.Forwarding.{TablesForward, AuditsForward};
-ghost use Rattle.audited_captures.specs.Matching.{NodesMatchWhereAsPlanned, TrafficMatchesWhereAsPlanned, AuditMatches, MatchesAudit};
+ghost use Rattle.audited_captures.specs.Matching.{NodesMatchWhereAsPlanned, NodesCompareWhereHeard, TrafficMatchesWhereAsPlanned, AuditMatches, MatchesAudit};
 
 /// What was read of a routing table tells no difference exactly where it is what is planned: each planned entry was
 /// read, each that was read is planned, and none was read twice.
@@ -15,14 +15,20 @@ pub fn nodes_match_where_as_planned()
     ensures { NodesMatchWhereAsPlanned }
 {}
 
+/// A line of a node tells of a comparison exactly where one was made: a reading of its routing table, an answer that
+/// tells its endpoint ID, its type or its pool, or a walk through its records.
+pub fn nodes_compare_where_heard()
+    ensures { NodesCompareWhereHeard }
+{}
+
 /// No line about packets tells a difference exactly where each packet of the capture is planned on the bus: some node
 /// holds its source, some node its destination, and the way between them goes over the bus.
 pub fn traffic_matches_where_as_planned()
     ensures { TrafficMatchesWhereAsPlanned }
 {}
 
-/// No line of an audit tells a difference exactly where all nodes have said what is planned, and each packet is planned
-/// on the bus.
+/// An audit matches exactly where all nodes have said what is planned, each packet is planned on the bus, and something
+/// that a node said was laid beside the plan.
 pub fn audits_match_where_as_planned()
     ensures matches { AuditMatches }
     ensures matched { MatchesAudit }

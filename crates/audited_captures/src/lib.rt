@@ -20,9 +20,9 @@ mod walking;
 mod walks;
 mod words;
 
-pub use audits::{audit_text, audited_lines, difference_count};
+pub use audits::{audit_text, audited_lines, is_match};
 pub use laws::{
-    audits_match_where_as_planned, matches_where_as_planned, nodes_match_where_as_planned,
-    told_tables_forward_as_planned, traffic_matches_where_as_planned,
+    audits_match_where_as_planned, matches_where_as_planned, nodes_compare_where_heard,
+    nodes_match_where_as_planned, told_tables_forward_as_planned, traffic_matches_where_as_planned,
 };
-pub use lines::Line;
+pub use lines::{Finding, Line};

@@ -1,15 +1,47 @@
 //! The lines of an audit.
-ghost use Rattle.std.specs.Prelude.{◌≡◌, ◌∷◌, ◌++◌, [], IfOk, OnOk, map, string_bytes, true, false};
-ghost use Rattle.audited_captures.specs.Lines.{line_value, difference, note, differences_or};
+ghost use Rattle.std.specs.Prelude.{◌≡◌, ◌∷◌, ◌++◌, [], IfOk, OnOk, map, string_bytes};
+ghost use Rattle.audited_captures.specs.Lines.{line_value, difference, note, silence, differences_or, differs, compares};
 
-use std::alloc::AllocError;
+use std::alloc::{AllocError, Global};
+
+/// What a line says of what was captured beside what is planned.
+#[derive(Clone, Copy, Debug)]
+pub enum Finding {
+    /// Nothing was captured that could be laid beside the plan.
+    Silent,
+    /// It is as planned.
+    AsPlanned,
+    /// It differs from the plan.
+    Differs,
+}
 
 /// A line of an audit, without its end.
 #[derive(Debug, Drop)]
 pub struct Line {
     pub text: String,
+    pub finding: Finding,
+}
+
+impl Line {
     /// Whether it tells a difference between what was said and the plan.
-    pub differs: bool,
+    pub fn differs(&self) -> bool
+        ensures { result ≡ differs (line_value self.now) }
+    {
+        match self.finding {
+            Finding::Differs => true,
+            Finding::AsPlanned | Finding::Silent => false,
+        }
+    }
+
+    /// Whether something that was captured was laid beside the plan.
+    pub fn compares(&self) -> bool
+        ensures { result ≡ compares (line_value self.now) }
+    {
+        match self.finding {
+            Finding::Differs | Finding::AsPlanned => true,
+            Finding::Silent => false,
+        }
+    }
 }
 
 /// Adds a line that tells a difference.
@@ -18,20 +50,32 @@ pub fn add_difference(lines: &mut Vec<Line>, text: String) -> Result<(), AllocEr
 {
     lines.push(Line {
         text,
-        differs: true,
+        finding: Finding::Differs,
     })?;
     Ok(())
 }
 
-/// The lines, or where there are none a line that tells no difference.
+/// The lines, or where there are none a line that says that all is as planned.
 pub fn differences_or(text: String, mut lines: Vec<Line>) -> Result<Vec<Line>, AllocError>
     ensures { IfOk result (λ all. map line_value all.items ≡ differences_or (note (string_bytes text)) (map line_value lines.items)) }
 {
     if lines.is_empty() {
         lines.push(Line {
             text,
-            differs: false,
+            finding: Finding::AsPlanned,
         })?;
     }
+    Ok(lines)
+}
+
+/// The one line that says that nothing was captured.
+pub fn silence(alloc: Global, text: String) -> Result<Vec<Line>, AllocError>
+    ensures { IfOk result (λ all. map line_value all.items ≡ silence (string_bytes text) ∷ []) }
+{
+    let mut lines = Vec::new(alloc);
+    lines.push(Line {
+        text,
+        finding: Finding::Silent,
+    })?;
     Ok(lines)
 }

@@ -5,7 +5,7 @@ ghost use Rattle.mctp_control.specs.RouteEntries.{entry_value};
 ghost use Rattle.audited_captures.specs.Lines.{line_value};
 ghost use Rattle.audited_captures.specs.Readings.{part_value, readings};
 ghost use Rattle.audited_captures.specs.Turns.{entry_values};
-ghost use Rattle.audited_captures.specs.Routes.{same_range, has_range, range_words, unlike_number, unlike_address, unlike, line_if_unlike, line_beside, planned_lines, lines_if_extra, extra_lines, unlike_lines, reading_lines, begun_lines, routes_lines, incomplete_line, unlike_line};
+ghost use Rattle.audited_captures.specs.Routes.{same_range, has_range, range_words, unlike_number, address_words, unlike_address, unlike, line_if_unlike, line_beside, planned_lines, lines_if_extra, extra_lines, unlike_lines, reading_lines, begun_lines, routes_lines, incomplete_line, unlike_line};
 
 use crate::lines::{Line, add_difference, differences_or};
 use crate::places::from_place;
@@ -268,10 +268,20 @@ fn unlike_address(alloc: Global, planned: &[u8], found: &[u8]) -> Result<Option<
     if same_bytes(planned, found) {
         return Ok(None);
     }
-    let planned = hex::encode(alloc, planned)?;
-    let found = hex::encode(alloc, found)?;
+    let planned = address_words(alloc, planned)?;
+    let found = address_words(alloc, found)?;
     let words = format!(in alloc; "address {planned} found address {found}")?;
     Ok(Some(words))
+}
+
+/// An address in hex, or a dash where it is empty.
+fn address_words(alloc: Global, address: &[u8]) -> Result<String, AllocError>
+    ensures { IfOk result (λ words. string_bytes words ≡ address_words address.now) }
+{
+    if address.is_empty() {
+        return String::from_str(alloc, "-");
+    }
+    hex::encode(alloc, address)
 }
 
 fn same_bytes(bytes: &[u8], others: &[u8]) -> bool

@@ -10,7 +10,7 @@ ghost use Rattle.audited_captures.specs.Counts.{AreCounts};
 ghost use Rattle.audited_captures.specs.Judging.{unplanned_value};
 ghost use Rattle.audited_captures.specs.Lines.{line_value, difference};
 ghost use Rattle.audited_captures.specs.Packets.{NumberedPacket, numbered_packet};
-ghost use Rattle.audited_captures.specs.TrafficLines.{IsNameOf, bus_text, step_bus, by_words, over_words, why_words, more_words, IsLineOf, IsOneLine, AreLinesOf, AreTrafficLines, IsTraffic};
+ghost use Rattle.audited_captures.specs.TrafficLines.{IsNameOf, bus_text, step_bus, by_words, over_words, nobody_words, why_words, more_words, IsLineOf, IsOneLine, AreLinesOf, AreTrafficLines, IsTraffic};
 
 use crate::counts::{FirstPackets, first_packets};
 use crate::lines::{Line, add_difference};
@@ -159,10 +159,20 @@ fn why_words(
     match why {
         Unplanned::NoSender => format!(in alloc; "no node holds {source}"),
         Unplanned::NoReceiver => format!(in alloc; "no node holds {destination}"),
-        Unplanned::Nobody => format!(in alloc; "no node holds {source} or {destination}"),
+        Unplanned::Nobody => nobody_words(alloc, source, destination),
         Unplanned::NoWay => String::from_str(alloc, "no way planned"),
         Unplanned::Elsewhere(steps) => way_words(alloc, plan, steps),
     }
+}
+
+/// That no node holds either endpoint ID.
+fn nobody_words(alloc: Global, source: u8, destination: u8) -> Result<String, AllocError>
+    ensures { IfOk result (λ text. string_bytes text ≡ nobody_words source destination) }
+{
+    if source == destination {
+        return format!(in alloc; "no node holds {source}");
+    }
+    format!(in alloc; "no node holds {source} or {destination}")
 }
 
 fn way_words(alloc: Global, plan: &Plan, steps: &[WayStep]) -> Result<String, AllocError>

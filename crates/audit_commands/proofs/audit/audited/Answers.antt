@@ -20,4 +20,4 @@ returns-clause-answers c =
     let told = c.in_ok-text.ensures ∙ ap (λ (lines : List Line). audit_text (map line_value lines) capture.end) (c.deref-2.ensures.value ∙ sym c.deref-3.ensures.value) in
     subst (λ (text : List ℕ). AuditsCapture plan cert bus bytes answer.status text) (sym c.answer_at.ensures.text)
     (audited_so plan cert bus bytes (string_bytes c.in_ok-text.text) answer.status entries (map line_value c.deref-3.result.now) capture.end
-    c.in_ok-capture.ensures audited told c.answer_at.ensures.matches c.answer_at.ensures.differs c.answer_at.ensures.broken)
+    c.in_ok-capture.ensures audited told c.answer_at.ensures.matches c.answer_at.ensures.fails c.answer_at.ensures.broken)

@@ -1,12 +1,7 @@
-use Rattle.std.proofs.Common.{◌≡◌, ◌++◌, ◌∷◌, [], ℕ, List, subst, map, string_bytes}
-use Rattle.std.specs.Prelude.{IfOk, codes}
-use Rattle.audited_captures.specs.Lines.{line_value, note, differences_or}
-use Rattle.audited_captures.specs.declared.lines.Line.{Line}
+use Rattle.std.proofs.Common.{◌≡◌, ◌∷◌, [], ℕ, List, subst, map}
+use Rattle.std.specs.Prelude.{IfOk}
+use Rattle.audited_captures.specs.Lines.{line_value, silence}
 use Rattle.audited_captures.proofs.audits.not_captured.Goals as goal
 
 pub returns : goal.returns
-returns c =
-    let text = string_bytes c.in_ok-text.text in
-    let is : text ≡ c.args.name.now ++ codes " not captured" = c.in_ok-text.ensures in
-    let told = subst (λ (items : List Line). IfOk c.differences_or.result (λ all. map line_value all.items ≡ differences_or (note text) (map line_value items))) c.new.ensures.items c.differences_or.ensures in
-    subst (λ (bytes : List ℕ). IfOk c.differences_or.result (λ all. map line_value all.items ≡ note bytes ∷ [])) is told
+returns c = subst (λ (bytes : List ℕ). IfOk c.silence.result (λ all. map line_value all.items ≡ silence bytes ∷ [])) c.in_ok-text.ensures c.silence.ensures
