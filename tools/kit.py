@@ -172,6 +172,15 @@ class Crate:
         # (that it is linked with nothing of its own, so that C functions of its own are refused)
         return [*words, "--links", f"{self.name}="] if tells_of("check", "--links") else words
 
+    def source_words(self):
+        """The same over the sources of the crates below, of which nothing has to be proved: enough to see whether it compiles."""
+        words = ["--crate-name", self.name, f"src/{'main' if self.is_program else 'lib'}.rt", "-L", f"dependency={home()}/rlibs"]
+        for it in sorted({it for crate in [self, *self.below()] for it in crate.of_kit}):
+            words += ["--extern", f"{it}={home()}/rlibs/{it}.rlib"]
+        for it in self.below():
+            words += ["--lib", f"{it.name}:{','.join([*it.of_kit, *(dep.name for dep in it.deps)])}={it.folder}/src/lib.rt"]
+        return [*words, "--antt-project", f"{home()}/rattle/logic/antt-project.json", "--logic-built", f"{home()}/logic_built"]
+
     def key(self):
         """A sum of all that its proof rests on: the kit, and the files of the crate and of those below, as they were at the first call."""
         if not self.kept_key:

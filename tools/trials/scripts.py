@@ -1,8 +1,10 @@
 """Scripts of walks over the examples, lines of bridges and random trees, with packets that are lost or come twice.
 
 For each plan with a certificate, each node and each other node with a terminus, `script` must end with status 0 exactly
-where `reach` tells a way there and one back. What it prints is played by `sim`: the last line must tell that the walk is
-done, with all records of the terminus. Trees, and the flights that are lost and repeated, are drawn from fixed seeds. A word
+where `reach` tells a way there and one back. What it prints begins with the walk that was asked for, and has nothing else
+than its requests, moves, losses, answers and messages that are given up, until it is asked what was collected. It is played
+by `sim`: the last line must tell that the walk is done, with all records of the terminus. Trees, and the flights that are
+lost and repeated, are drawn from fixed seeds. A walk of more than 100,000 events ends with the line of the last one. A word
 is a part of a plan's path.
 """
 import itertools
@@ -115,11 +117,33 @@ def fault_of(trial, name, plan, certificate, node, holder, is_reached, seed):
         return f"{' '.join(map(str, words))}: status {status} {error}"
     if status:
         return ""
+    if not is_of_walk(made, node, holder["eid"], count):
+        return f"{' '.join(map(str, words))}: other events"
     events = trial.file(f"events-{name}-{node}-{holder['name']}-{seed}", made)
     played = trial.run(["sim", plan, certificate, events])
     last = played[1].decode().splitlines()[-1].split(" ", 1)[1]
     wanted = f"collected 1 records {len(holder['terminus']['records'])} done"
     return "" if (played[0], last) == (0, wanted) else f"{' '.join(map(str, words))}: {last}"
+
+
+def is_of_walk(made, node, eid, count):
+    """Whether the events are those of this walk."""
+    first, *rest, last = json.loads(made)["events"]
+    kinds = {it["do"] for it in rest if it.get("walker", 1) == 1}
+    return (
+        first == {"do": "walk", "node": node, "eid": eid, "tag": 0, "count": count}
+        and len(kinds) == len({it["do"] for it in rest})
+        and kinds <= {"ask", "move", "lose", "answer", "expire"}
+        and last == {"do": "collected", "walker": 1}
+    )
+
+
+def try_long(trial):
+    """A walk over a line of one bridge in parts of 8 bytes: six events for each part, of which there are too many."""
+    plan = trial.file("long.json", json.dumps(network([None, 0, 1], rows_to([None, 0, 1], [(0, 2)]), [[], [], [9, *[60_000] * 3]])))
+    certificate = trial.file("long-certificate.json", trial.run(["certify", plan])[1])
+    status, told, error = trial.run(["script", plan, certificate, "walk", "n0", 10, 8])
+    trial.note((status, told.split()[:1], error) == (1, [b"100000"], b""), f"a long walk: status {status} {(told + error)[:100]}")
 
 
 def try_plan(trial, path):
@@ -139,3 +163,5 @@ def try_plan(trial, path):
 
 def try_all(trial):
     each(lambda path: trial.has(str(path)) and try_plan(trial, path), plans(trial))
+    if trial.has("long"):
+        try_long(trial)

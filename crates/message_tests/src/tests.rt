@@ -13,5 +13,6 @@ mod pldm;
 mod readers;
 mod refused_walks;
 mod repositories;
+mod surface;
 mod tables;
 mod walks;

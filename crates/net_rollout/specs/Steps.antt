@@ -11,9 +11,6 @@ use Rattle.plan_values.specs.ShortText.{HasFewPlaces}
 use Rattle.plan_values.specs.WellFormed.{IsWellFormed}
 use Rattle.plan_values.specs.declared.nodes.Node.{Node}
 use Rattle.net_tables.specs.Routing.{Covers, NamesFor, rows_of, node_at}
-use Rattle.net_rules.specs.declared.move_error.MoveError.TheVariants as error
-use Rattle.net_rules.specs.declared.move_obstacle.MoveObstacle.{MoveObstacle}
-use Rattle.net_rules.specs.declared.move_obstacle.MoveObstacle.TheVariants as obstacle
 use Rattle.net_rules.specs.MoveObstacles.{DifferInRowsAlone, HasNoMoveCertificate, IsExactForMove, NamesMoveObstacle}
 use Rattle.plan_values.specs.NodeValues.{but_rows}
 use Rattle.net_rules.specs.MoveRules.{AcceptsMove}
@@ -104,10 +101,11 @@ last_plan before (step ∷ steps) = last_plan step.after steps
 abbrev pub HasCertificate : Plan → Type 0
 HasCertificate plan = (cert : Certificate) × Accepts plan cert
 
--- the obstacle is that the plans differ in more than rows
-abbrev pub IsDifference : MoveObstacle → Type 0
-IsDifference (obstacle.Fault (error.Differ n)) = ⊤
-IsDifference _ = ⊥
+-- the plans differ in rows alone, and each has a certificate by itself
+pub record AreFit (before after : Plan) : Type 0 where
+  pub rows_alone : DifferInRowsAlone before after
+  pub certified_before : HasCertificate before
+  pub certified_after : HasCertificate after
 
 -- one of the plans has no certificate, or they differ in more than rows
 abbrev pub IsUnfit : Plan → Plan → Type 0
@@ -120,7 +118,7 @@ IsRollout before after (way.Steps steps last) = HasNoMoveCertificate before afte
     × IsLastStep (last_plan before steps.items) after last
 IsRollout before after (way.Stuck steps o) = HasNoMoveCertificate before after × AreSteps before after steps.items
     × NamesMoveObstacle (last_plan before steps.items) after o
-    × HasNoMoveCertificate (last_plan before steps.items) after
+    × HasNoMoveCertificate (last_plan before steps.items) after × AreFit before after
 IsRollout before after (way.Unfit o) =
     HasNoMoveCertificate before after × NamesMoveObstacle before after o × IsUnfit before after
 

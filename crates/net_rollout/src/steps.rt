@@ -2,13 +2,15 @@
 ghost use Rattle.std.specs.Prelude.{◌≡◌, ◌≢◌, ◌↔◌, ◌⊎◌, IfOk, IfSome, IsTrue};
 ghost use Rattle.net_rules.specs.declared.move_obstacle.MoveObstacle.TheVariants.{OutOfMemory};
 ghost use Rattle.net_rules.specs.MoveObstacles.{DifferInRowsAlone, HasNoMoveCertificate, NamesMoveObstacle, RulesOutMoveCertificates};
-ghost use Rattle.net_rollout.specs.Steps.{HasCertificate, AreSteps, IsDifference, IsStep, IsRollout, last_plan};
+ghost use Rattle.net_rollout.specs.Steps.{HasCertificate, AreFit, IsUnfit, AreSteps, IsStep, IsRollout, last_plan};
 
 use crate::change::{Change, LastStep, Rollout, Step};
 use crate::changed_plan::{as_made, changed_nodes, plan_after};
 use crate::eid_ways::{EidWays, all_ways, settle};
 use crate::proposals::proposed;
-use net_rules::{CertifyError, MoveError, MoveObstacle, certify, certify_move};
+use net_rules::{
+    CertifyError, MoveObstacle, certify, certify_move, first_unlike_node, have_same_frame,
+};
 use plan_values::Plan;
 use std::alloc::{AllocError, Global};
 
@@ -41,10 +43,7 @@ fn by_steps(
     requires none { HasNoMoveCertificate before.now after.now }
     ensures { IfOk result (IsRollout before.now after.now) }
 {
-    if is_difference(&obstacle)
-        || !has_certificate(alloc, before)?
-        || !has_certificate(alloc, after)?
-    {
+    if !are_fit(alloc, before, after)? {
         return Ok(Rollout::Unfit(obstacle));
     }
     let mut ways = all_ways(alloc, before, after)?;
@@ -58,11 +57,26 @@ fn by_steps(
     to_the_end(alloc, before, after, steps)
 }
 
-/// Whether an obstacle is that the plans differ in more than rows.
-fn is_difference(obstacle: &MoveObstacle) -> bool
-    ensures { IsTrue result → IsDifference obstacle.now }
+/// Whether the plans differ in rows alone, and each has a certificate by itself.
+fn are_fit(alloc: Global, before: &Plan, after: &Plan) -> Result<bool, AllocError>
+    ensures fit { IfOk result (λ fit. IsTrue fit → AreFit before.now after.now) }
+    ensures unfit { IfOk result (λ fit. ¬ IsTrue fit → IsUnfit before.now after.now) }
 {
-    matches!(obstacle, MoveObstacle::Fault(MoveError::Differ(_)))
+    if !differ_in_rows_alone(before, after) {
+        return Ok(false);
+    }
+    if !has_certificate(alloc, before)? {
+        return Ok(false);
+    }
+    Ok(has_certificate(alloc, after)?)
+}
+
+/// Whether the plans differ in rows alone.
+#[tactic(auto, unfolding(net_rules::specs::MoveRules::HaveSameFrame))]
+fn differ_in_rows_alone(before: &Plan, after: &Plan) -> bool
+    ensures { IsTrue result ↔ DifferInRowsAlone before.now after.now }
+{
+    have_same_frame(before, after) && first_unlike_node(before, after).is_none()
 }
 
 /// Whether a plan has a certificate by itself.
@@ -135,6 +149,7 @@ fn to_the_end(
     steps: Vec<Step>,
 ) -> Result<Rollout, AllocError>
     requires none { HasNoMoveCertificate before.now after.now }
+    requires fit { AreFit before.now after.now }
     requires steps { AreSteps before.now after.now steps.items }
     ensures { IfOk result (IsRollout before.now after.now) }
 {

@@ -1,5 +1,5 @@
 //! A Linux network device, and the bus that it is on.
-ghost use Rattle.std.specs.Prelude.{◌≡◌, IsTrue};
+ghost use Rattle.std.specs.Prelude.{◌≡◌, ◌++◌, codes, IfSome, IsTrue};
 ghost use Rattle.plan_exports.specs.DeviceNames.{is_device};
 
 use plan_values::is_name;
@@ -17,7 +17,9 @@ pub struct Link<'a> {
 impl<'a> Link<'a> {
     /// The link that a word BUS=DEV is. `None` where it has no such form, where BUS is no name that a bus can have, or
     /// DEV none of a device.
-    pub fn of(word: &'a str) -> Option<Link<'a>> {
+    pub fn of(word: &'a str) -> Option<Link<'a>>
+        ensures { IfSome result (λ link. word.now ≡ link.bus.now ++ (codes "=" ++ link.device.now)) }
+    {
         let (bus, device) = word.split_once('=')?;
         if !is_name(bus) || !is_device(device) {
             return None;

@@ -32,7 +32,7 @@ explain PLAN [CERT [EVENTS]] [--json]
                              what certify says of the plan, or check of both, and why
 explain OLD --move NEW       what certifymove says of the move, and why
 faults PLAN [CERT] [--json|--sarif]
-                             every fault of the plan, or of both, and how many they are
+                             each place where a rule is broken, and how many they are
 fix PLAN                     the plan with edits made, until it has a certificate
 lint PLAN [--json]           what is lawful in the plan and still looks wrong, or clean
 show packet HEX              what the bytes of a packet are
@@ -54,7 +54,7 @@ version                      which version this is, and which formats it reads
 "#;
 
 /// The version, and the formats that are read.
-pub const VERSION: &str = r#"mctpplan 0.9.0
+pub const VERSION: &str = r#"mctpplan 0.9.0 and later changes
 reads plans of formats 1 and 2, certificates of format 1, events of formats 1 to 3
 "#;
 
@@ -552,11 +552,12 @@ Status 2: here also why a text can't be read.
 
 const OF_FAULTS: &str = r#"mctpplan faults PLAN [CERT] [--json|--sarif]
 
-Prints every fault of the plan, with CERT of the plan and the certificate, a line each, and how many
-lines there are, or yes. Each line ends with the file, the line and the column of the value at fault
-in the plan's text. Faults at neighboring endpoint IDs of a row, a record or a node are one line.
-Where a plan has no fault itself and still no certificate, the line that certify prints of it is the
-only one.
+Prints each place where the plan breaks a rule, with CERT where the plan or the certificate does, a
+line each, and how many lines there are, or yes. Each line ends with the file, the line and the
+column of the value at fault in the plan's text. Faults at neighboring endpoint IDs of a row, a
+record or a node are one line. A loop of owners or of packets, and a broken chain of records, are no
+such place of a plan. Where a plan has no fault itself and still no certificate, the line that
+certify prints of it is the only one.
 
 With --json the faults are one JSON value, and with --sarif a log of SARIF 2.1.0, by which a code
 review shows each fault at its line.
@@ -657,11 +658,13 @@ of its records. Of a node without an answer it says not captured, which is no di
 tells devices that took an endpoint ID which no node holds, and which packets the plan doesn't have:
 from or to such an endpoint ID, and between two nodes without a way. With --bus the capture was
 taken on that bus, and a packet whose planned way doesn't go over it is told too. The last line says
-whether all is as planned, or how many lines tell a difference.
+whether all is as planned, or how many lines tell a difference, or that nothing was compared: no
+device said anything of its routing table, its endpoint ID, its pool or its records, as in an empty
+capture.
 
 Status 0: audit match.
-Status 1: audit differs and how many lines tell a difference; or the first fault of the plan and its
-certificate.
+Status 1: audit differs and how many lines tell a difference; audit saw nothing of the plan; or the
+first fault of the plan and its certificate.
 Status 2: also where the plan has no bus of the name, or where the capture can't be read to its end.
 Where a part of it could be read, that is told, and last audit incomplete and how many lines of it
 tell a difference.
