@@ -15,8 +15,10 @@ from runner import TOP, each
 
 sys.path.insert(0, str(TOP / "bench"))
 import adversarial
+import plans
 
 MOST = 1.5  # times the growth of the text
+AT_ONCE = 0.9  # times the work by a tree
 FLOOR = 0.02  # seconds: below, the clock says little
 COUNTING = ["valgrind", "--tool=cachegrind", "--cache-sim=no", "--cachegrind-out-file=/dev/null"]
 
@@ -46,7 +48,29 @@ def work_of(trial, made, size):
         return length, max(FLOOR, seconds_of([*trial.program, *placed], folder)[0])
 
 
+def escaped(text):
+    """The same text in other letters: one string has an escape."""
+    return text.replace('"n1"', '"\\u006e1"', 1)
+
+
+def try_at_once(trial):
+    """Compares what check takes for a plan and its certificate with what it takes where one of them has an escape."""
+    plan = plans.text_of("bus", 64)
+    certificate = trial.run(["certify", trial.file("plan", plan)])[1].decode()
+
+    def work(plan, certificate):
+        return work_of(trial, lambda _: ({"plan": plan, "certificate": certificate}, ["check", "plan", "certificate"]), 64)[1]
+
+    least = work(plan, certificate)
+    for name, most in ("plan", work(escaped(plan), certificate)), ("certificate", work(plan, escaped(certificate))):
+        is_told = None not in (least, most)
+        trial.note(is_told and least <= AT_ONCE * most, f"a {name} with an escape: {most / least if is_told else 'nothing'} times the work of check without one")
+
+
 def try_all(trial):
+    if trial.has("at once"):
+        try_at_once(trial)
+
     def row(it):
         name, made, size = it
         if not trial.has(name):

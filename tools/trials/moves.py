@@ -22,7 +22,8 @@ from runner import each
 
 BRIDGES = "abcde"
 NAMES = [*BRIDGES, "x"]
-EIDS = [8, 9, 10, 11, 12, 13]
+EIDS = [8, 9, 10, 11, 12, 254]
+ASKED = {10: 2, 254: 5}  # the endpoint IDs that rows are for, with their holders: the last one is the greatest that there is
 PAIRS, FEW = 5_000, 400
 PART = re.compile(r"step (\d+) rows of (\S+): (\d+)(?:-(\d+))? by (\S+)")
 
@@ -39,7 +40,7 @@ def plan(tables):
 
 def tables_by(chance):
     """Rows for two endpoint IDs, those of the bridge c and of the endpoint; half of them lead straight to the holder."""
-    return [{e: to for e, holder in ((10, 2), (13, 5)) if at not in (holder, 5) and chance.random() < 0.95
+    return [{e: to for e, holder in ASKED.items() if at not in (holder, 5) and chance.random() < 0.95
              for to in [holder if chance.random() < 0.55 else chance.choice([it for it in range(5) if it != at])]}
             for at in range(6)]
 
@@ -101,20 +102,20 @@ def stuck(whose, old, new, both):
 
 def wanted(old, new):
     """The line that certifymove is to print, or the ranks of the certificate."""
-    for e in (10, 13):
+    for e in ASKED:
         if can_circle(old, old, e):
             return first_loop(old, [{}] * 6, e)
     fault = stuck(old, old, new, False)
     if fault:
         return f"fault old C11 {fault}"
-    for e in (10, 13):
+    for e in ASKED:
         if can_circle(old, new, e):
             return first_loop(old, new, e)
     for side, code, whose, both in (("new", "C11", new, False), ("old", "M02", old, True), ("new", "M02", new, True)):
         fault = stuck(whose, old, new, both)
         if fault:
             return f"fault {side} {code} {fault}"
-    return {(NAMES[at], e): longest(old, new, e, at) for at in range(6) for e in (10, 13) if longest(old, new, e, at)}
+    return {(NAMES[at], e): longest(old, new, e, at) for at in range(6) for e in ASKED if longest(old, new, e, at)}
 
 
 def ranks_of(line):
@@ -178,7 +179,7 @@ def why_not_steps(trial, old, new, lines):
         after = switched(tables, new, step) if isinstance(step[0], str) else with_parts(tables, new, step)
         if after is None:
             return f"step {number} tells what is not so"
-        if any(can_circle(tables, after, e) for e in (10, 13)) or not is_accepted(trial, tables, after):
+        if any(can_circle(tables, after, e) for e in ASKED) or not is_accepted(trial, tables, after):
             return f"step {number} is no lawful move"
         tables = after
     return None if tables == new else "the last step doesn't end in the new plan"

@@ -5,7 +5,7 @@ use std::alloc::{AllocError, Global};
 use std::test::Fail;
 
 /// Lists of words with bars between, the program's name first.
-const USAGE: [&str; 108] = [
+const USAGE: [&str; 113] = [
     "mctpplan",
     "mctpplan|",
     "mctpplan||a|b",
@@ -77,6 +77,11 @@ const USAGE: [&str; 108] = [
     "mctpplan|emulate|a|b",
     "mctpplan|emulate|-|b|nic",
     "mctpplan|emulate|a|b|nic|--configured|c",
+    "mctpplan|export",
+    "mctpplan|export|linux|a|b",
+    "mctpplan|export|linux|a|b|c|--link|b0",
+    "mctpplan|export|linux|a|b|c|--link|=mctpi2c0",
+    "mctpplan|export|linux|a|b|c|--link|b0=",
     "mctpplan|report",
     "mctpplan|report|a|b|c",
     "mctpplan|assign|a",
