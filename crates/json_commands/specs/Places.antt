@@ -57,10 +57,9 @@ place_data name position pointer =
 
 -- ---- the location in SARIF
 
--- All characters but letters, digits, '-', '.', '_', '~' and '/', as a number: its bit b tells whether the character b is
--- one. So each of its digits tells of four: the first of DEL and of '~' to '|', the last of the characters 3 to 0.
+-- all characters but letters, digits, '-', '.', '_', '~' and '/', as the bits of a number
 abbrev pub escaped : AsciiSet
-escaped = record { mask = 0xb800000178000001fc001fffffffffff }
+escaped = record { mask = 244577951340790884343731537887740559359 }
 
 -- the name of a file as a reference (RFC 3986)
 abbrev pub uri_bytes : List ℕ → List ℕ
