@@ -5,4 +5,5 @@ mod failing;
 mod many_lines;
 mod narrow_outputs;
 mod refusals;
+mod surface;
 mod words;

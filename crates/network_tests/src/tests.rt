@@ -19,5 +19,6 @@ mod refused_runs;
 mod refused_texts;
 mod refused_walks;
 mod streams;
+mod surface;
 mod termini;
 mod two_kinds;
