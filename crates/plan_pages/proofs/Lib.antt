@@ -1,3 +1,1 @@
-pub mod Listing
-mod Plain
-mod Shown
+mod Telling

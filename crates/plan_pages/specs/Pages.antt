@@ -1,20 +1,22 @@
--- The page, by its parts.
-use Rattle.std.specs.Prelude.{ℕ, List, ◌++◌, codes}
-use Rattle.plan_pages.specs.Escaping.{escaped}
+-- How a text stands in HTML, and which verdict a page tells.
+use Rattle.std.specs.Prelude.{◌≡◌, ℕ, List, [], ◌∷◌, ◌++◌, ◌==◌, chars, codes, encode_utf8_all, if◌then◌else◌}
+use Rattle.std.specs.List.{flat_map}
 
--- what stands before a title, as HTML, in a page of this style, and between it and the body
-abbrev pub front_text : (style title : List ℕ) → List ℕ
-front_text style title = codes "<!DOCTYPE html>\n<html lang=\"en\">\n<head>\n<meta charset=\"utf-8\">\n"
-    ++ (codes "<meta name=\"viewport\" content=\"width=device-width\">\n<title>" ++ (title
-    ++ (codes "</title>\n<style>" ++ (style ++ codes "</style>\n</head>\n"))))
+-- a character, or its reference: `&`, `<`, `>` and `"` have one
+abbrev pub escaped_char : ℕ → List ℕ
+escaped_char c = if c == 38 then codes "&amp;" else if c == 60 then codes "&lt;" else if c == 62 then codes "&gt;"
+    else if c == 34 then codes "&quot;" else c ∷ []
 
--- the page with this front, and with a title, a verdict of a class and a body, all as HTML
-abbrev pub whole_text : (front title class verdict body : List ℕ) → List ℕ
-whole_text front title class verdict body = front ++ (codes "<body>\n<h1>" ++ (title
-    ++ (codes "</h1>\n<p class=\"verdict " ++ (class ++ (codes "\">" ++ (verdict
-    ++ (codes "</p>\n" ++ (body ++ codes "</body>\n</html>\n"))))))))
+-- a text as it stands in HTML
+abbrev pub escaped : List ℕ → List ℕ
+escaped text = encode_utf8_all (flat_map escaped_char (chars text))
 
--- the page of this style with a title and a verdict as texts
-abbrev pub page_text : (style title class verdict body : List ℕ) → List ℕ
-page_text style title class verdict body =
-    whole_text (front_text style (escaped title)) (escaped title) class (escaped verdict) body
+-- the paragraph of a verdict, which is of the class `yes` or `no`
+abbrev pub verdict_text : (class verdict : List ℕ) → List ℕ
+verdict_text class verdict =
+    codes "<p class=\"verdict " ++ (class ++ (codes "\">" ++ (escaped verdict ++ codes "</p>\n")))
+
+-- the page has this paragraph, whatever else stands on it
+abbrev pub TellsVerdict : (class verdict page : List ℕ) → Type 0
+TellsVerdict class verdict page =
+    (before after : List ℕ) × (page ≡ before ++ (verdict_text class verdict ++ after))

@@ -1,15 +1,12 @@
 //! Texts as they stand in HTML.
-ghost use Rattle.std.specs.List.{All};
 ghost use Rattle.std.specs.Prelude.{◌≡◌, ◌++◌, IfOk, OnOk, encode_utf8_all, string_bytes};
-ghost use Rattle.plan_pages.specs.Escaping.{IsPlain, escaped, escaped_char, escaped_chars};
+ghost use Rattle.plan_pages.specs.Pages.{escaped, escaped_char};
 
 use std::alloc::{AllocError, Global};
 
 /// A text as it stands in HTML, also between quotes: `&`, `<`, `>` and `"` are written as references.
-#[tactic(auto, using(crate::proofs::Plain::plain_chars))]
 pub fn escaped(alloc: Global, text: &str) -> Result<String, AllocError>
-    ensures exact { IfOk result (λ written. string_bytes written ≡ escaped text.now) }
-    ensures plain { All IsPlain (escaped_chars text.now) }
+    ensures { IfOk result (λ written. string_bytes written ≡ escaped text.now) }
 {
     let mut written = String::new(alloc);
     for character in text.chars() {

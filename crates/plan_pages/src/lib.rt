@@ -3,7 +3,6 @@
 
 mod escaping;
 mod markup;
-mod names;
 mod page;
 mod picture;
 mod style;
@@ -11,11 +10,9 @@ mod tables;
 mod termini;
 
 pub use escaping::escaped;
-pub use markup::{block, row, section, table};
-pub use names::push_listed;
+pub use markup::{block, push_listed, push_section};
 pub use net_tables::lookup::node_name;
 pub use page::page_of;
 pub use picture::picture_of;
-pub use style::STYLE;
 pub use tables::{bus_table, node_table, pool_table, row_table};
 pub use termini::terminus_list;

@@ -1,3 +1,1 @@
-pub mod Matrices
-pub mod Pages
 pub mod Reporting

@@ -2,11 +2,8 @@
 #![tactic(auto)]
 
 mod bodies;
-mod findings;
 mod matrix;
 mod promises;
-mod reached;
 mod reports;
-mod sections;
 
 pub use reports::{run_report, run_report_certified};

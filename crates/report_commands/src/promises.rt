@@ -29,7 +29,8 @@ pub const PROMISES: &str = "<section id=\"promises\">
 <li>that real devices forward by these rows, or hold what the plan gives them;</li>
 <li>that every node has a way to every other: the table above says who reaches whom;</li>
 <li>that physical addresses, terminus IDs or sensor IDs differ: what looks wrong of these stands above;</li>
-<li>how this page looks. What its tables, its numbers and its names say is proved of the plan; the picture is not.</li>
+<li>how this page looks, and what its tables show of the plan: code that is tested, not proved, lays them out. The
+verdict is that of check or certify, and the hops are those of reach, which are proved.</li>
 </ul>
 </section>
 ";
@@ -39,7 +40,7 @@ pub const NOT_ACCEPTED: &str = "<section id=\"promises\">
 <h2>What is promised, and what isn't</h2>
 <p>Nothing is promised of the packets of this plan: it is not accepted, for the reason at the top. Packets may go round,
 stop on their way, or enter a node that they are not for, and a walk over records may never end.</p>
-<p>What the tables, the numbers and the names on this page say is proved of the plan; the picture is not, and how the
-page looks is not.</p>
+<p>The verdict is that of check or certify, which are proved. All else on this page is laid out by code that is tested,
+not proved.</p>
 </section>
 ";

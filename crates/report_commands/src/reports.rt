@@ -6,7 +6,7 @@ ghost use Rattle.command_answers.specs.Told.{Concludes};
 ghost use Rattle.command_answers.specs.declared.refused.Refused.TheVariants as refused;
 ghost use Rattle.net_check.specs.Errors.{NamesFirstFault};
 ghost use Rattle.net_plan.specs.Stream.{HasRoom};
-ghost use Rattle.net_rules.specs.Certificates.{IsExact, NamesObstacle, RulesOutCertificates};
+ghost use Rattle.net_rules.specs.Certificates.{NamesObstacle, RulesOutCertificates};
 ghost use Rattle.net_rules.specs.Rules.{Accepts};
 ghost use Rattle.report_commands.specs.Reporting.{Reports, ReportsSo, ReportsWith, ReportsWithSo};
 
@@ -34,7 +34,7 @@ pub fn run_report<P: Source, O: Sink, E: Sink>(
     requires output { HasRoom (O.account output.old) }
     requires errors { HasRoom (E.account errors.old) }
     ensures concludes { let plans = stream P.account plan.old plan.new in
-        Concludes (ReportsSo name.now plans) (λ why. IsPlanUnread why plans) result
+        Concludes (ReportsSo plans) (λ why. IsPlanUnread why plans) result
         (stream O.account output.old output.new) (stream E.account errors.old errors.new)
         (output.new ≡ output.old) (errors.new ≡ errors.old) }
 {
@@ -49,37 +49,26 @@ pub fn run_report<P: Source, O: Sink, E: Sink>(
 
 /// The page of a plan alone.
 fn report_of(alloc: Global, name: &str, plan: &Plan) -> Result<Answer, AllocError>
-    ensures { IfOk result (λ answer. Reports name.now plan.now answer.status (cow_str_bytes answer.text)) }
+    ensures { IfOk result (λ answer. Reports plan.now answer.status (cow_str_bytes answer.text)) }
 {
     match certify(alloc, plan) {
-        Ok(certificate) => report_of_fit(alloc, name, plan, &certificate),
+        Ok(certificate) => report_of_made(alloc, name, plan, &certificate),
         Err(obstacle) => report_of_obstacle(alloc, name, plan, &obstacle),
     }
 }
 
 /// The page of a plan with the certificate that was made of it.
-fn report_of_fit(
+fn report_of_made(
     alloc: Global,
     name: &str,
     plan: &Plan,
     certificate: &Certificate,
 ) -> Result<Answer, AllocError>
-    requires accepted { Accepts plan.now certificate.now }
-    requires exact { IsExact plan.now certificate.now }
-    ensures { IfOk result (λ answer. Reports name.now plan.now answer.status (cow_str_bytes answer.text)) }
+    requires { Accepts plan.now certificate.now }
+    ensures { IfOk result (λ answer. Reports plan.now answer.status (cow_str_bytes answer.text)) }
 {
     let checked = accepted(alloc, plan, certificate)?;
-    report_of_exact(alloc, name, &checked)
-}
-
-/// The page of a checked plan whose certificate was made of it.
-fn report_of_exact(alloc: Global, name: &str, checked: &Checked) -> Result<Answer, AllocError>
-    requires { IsExact checked.now.0 checked.now.1 }
-    ensures { IfOk result (λ answer. Reports name.now checked.now.0 answer.status (cow_str_bytes answer.text)) }
-{
-    // (that the plan is accepted is known of it once it is taken out)
-    let _known = checked.plan();
-    let page = accepted_page(alloc, name, "yes: a certificate fits the plan", checked)?;
+    let page = accepted_page(alloc, name, "yes: a certificate fits the plan", &checked)?;
     Ok(Answer::found(page))
 }
 
@@ -92,7 +81,7 @@ fn report_of_obstacle(
 ) -> Result<Answer, AllocError>
     requires named { NamesObstacle plan.now obstacle.now }
     requires none { RulesOutCertificates plan.now obstacle.now }
-    ensures { IfOk result (λ answer. Reports name.now plan.now answer.status (cow_str_bytes answer.text)) }
+    ensures { IfOk result (λ answer. Reports plan.now answer.status (cow_str_bytes answer.text)) }
 {
     let line = obstacle_line(alloc, plan, obstacle)?;
     let marked = nodes_of(alloc, obstacle)?;
@@ -127,7 +116,7 @@ pub fn run_report_certified<P: Source, C: Source, O: Sink, E: Sink>(
     requires errors { HasRoom (E.account errors.old) }
     ensures concludes { let plans = stream P.account plan.old plan.new in
         let certificates = stream C.account certificate.old certificate.new in
-        Concludes (ReportsWithSo name.now plans certificates) (λ why. AreUnread why plans certificates) result
+        Concludes (ReportsWithSo plans certificates) (λ why. AreUnread why plans certificates) result
         (stream O.account output.old output.new) (stream E.account errors.old errors.new)
         (output.new ≡ output.old) (errors.new ≡ errors.old) }
     ensures in_order { IsWithoutPlan (stream P.account plan.old plan.new) → certificate.new ≡ certificate.old }
@@ -148,7 +137,7 @@ fn report_with(
     plan: &Plan,
     certificate: &Certificate,
 ) -> Result<Answer, Refused>
-    ensures answers { IfOk result (λ answer. ReportsWith name.now plan.now certificate.now answer.status (cow_str_bytes answer.text)) }
+    ensures answers { IfOk result (λ answer. ReportsWith plan.now certificate.now answer.status (cow_str_bytes answer.text)) }
     ensures refused { IfErr result (λ why. why ≡ refused.NoMemory) }
 {
     match check(alloc, plan, certificate) {
@@ -159,7 +148,7 @@ fn report_with(
 
 /// The page of a checked plan whose certificate was given.
 fn report_of_given(alloc: Global, name: &str, checked: &Checked) -> Result<Answer, Refused>
-    ensures answers { IfOk result (λ answer. ReportsWith name.now checked.now.0 checked.now.1 answer.status (cow_str_bytes answer.text)) }
+    ensures answers { IfOk result (λ answer. ReportsWith checked.now.0 checked.now.1 answer.status (cow_str_bytes answer.text)) }
     ensures refused { IfErr result (λ why. why ≡ refused.NoMemory) }
 {
     let _known = checked.plan();
@@ -176,7 +165,7 @@ fn report_of_fault(
     error: &CheckError,
 ) -> Result<Answer, Refused>
     requires { NamesFirstFault plan.now certificate.now error.now }
-    ensures answers { IfOk result (λ answer. ReportsWith name.now plan.now certificate.now answer.status (cow_str_bytes answer.text)) }
+    ensures answers { IfOk result (λ answer. ReportsWith plan.now certificate.now answer.status (cow_str_bytes answer.text)) }
     ensures refused { IfErr result (λ why. why ≡ refused.NoMemory) }
 {
     let line = fault_text(alloc, plan, error)?;

@@ -5,5 +5,5 @@ use Rattle.report_commands.proofs.reports.report_of_given.Goals as goal
 pub returns-clause-answers : goal.returns-clause-answers
 returns-clause-answers c =
     let both = c.args.checked.now in
-    given_fits c.args.name.now both.0 (string_bytes c.in_ok-page.page) c.found.result both.1 c.plan-known.ensures.accepted c.in_ok-page.ensures
-    c.found.ensures.status c.found.ensures.text
+    given_fits both.0 (string_bytes c.in_ok-page.page) c.found.result both.1 c.plan-known.ensures.accepted c.in_ok-page.ensures c.found.ensures.status
+    c.found.ensures.text

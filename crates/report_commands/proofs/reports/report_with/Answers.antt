@@ -9,5 +9,5 @@ use Rattle.report_commands.proofs.reports.report_with.Goals as goal
 
 pub returns-in-Ok-clause-answers : goal.returns-in-Ok-clause-answers
 returns-in-Ok-clause-answers c =
-    subst (λ (p : Plan × Certificate). IfOk c.report_of_given.result (λ (a : Answer). ReportsWith c.args.name.now p.0 p.1 a.status (cow_str_bytes a.text)))
+    subst (λ (p : Plan × Certificate). IfOk c.report_of_given.result (λ (a : Answer). ReportsWith p.0 p.1 a.status (cow_str_bytes a.text)))
     c.in-Ok.ensures.checked c.report_of_given.ensures.answers

@@ -1,7 +1,0 @@
-use Rattle.std.proofs.Common.{option_map, string_bytes}
-use Rattle.plan_pages.specs.Lists.{AreJoined}
-use Rattle.plan_pages.specs.Termini.{IsTerminusShown}
-use Rattle.plan_pages.proofs.termini.termini_shown.Given as goal
-
-abbrev pub invariant-loop-node : goal.invariant-loop-node
-invariant-loop-node l = AreJoined (IsTerminusShown l.plan (option_map (λ cert. cert.now) l.certificate)) l.node (string_bytes l.shown)
