@@ -168,7 +168,8 @@ def wrong_in_picture(page, plan, reason):
 
 
 def section_of(text, section):
-    return re.search(rf'<section id="{section}">(.*?)</section>', text, re.S)[1]
+    found = re.search(rf'<section id="{section}">(.*?)</section>', text, re.S)
+    return found[1] if found else ""
 
 
 def plain(text):
@@ -253,7 +254,7 @@ def wrong_in_tables(trial, text, plan, certificate):
         got = rows_in(text, section)
         if got != (wanted if len(wanted) > 1 else []):
             yield f"{section}: {[it for it in got if it not in wanted]} for {[it for it in wanted if it not in got]}, {len(got)} rows for {len(wanted)}"
-        if len(wanted) == 1 and plain(section_of(text, section)).split()[-1] != "None.":
+        if len(wanted) == 1 and not plain(section_of(text, section)).endswith("None.\n"):
             yield f"{section}: nothing says that there are none"
     got = [plain(it) for it in re.findall(r"<(?:h3|dt|pre|p class=\"note\")>(.*?)</(?:h3|dt|pre|p)>", section_of(text, "termini"), re.S)]
     wanted = [*termini(trial, plan, certificate)] or ["None."]

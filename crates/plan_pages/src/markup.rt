@@ -37,16 +37,24 @@ pub fn none(alloc: Global) -> Result<String, AllocError> {
     "<p class=\"note\">None.</p>\n".to_string(alloc)
 }
 
-/// A row of a table: a heading, and a cell for each text.
-pub fn row(alloc: Global, heading: &str, texts: &[&str]) -> Result<String, AllocError> {
+/// Begins a row of a table with its heading.
+pub fn begin_row(alloc: Global, heading: &str, rows: &mut String) -> Result<(), AllocError> {
     let heading = escaped(alloc, heading)?;
-    let mut row = format!(in alloc; "<tr><th scope=\"row\">{heading}</th>")?;
-    for text in texts {
-        let text = escaped(alloc, text)?;
-        write!(row, "<td>{text}</td>")?;
+    write!(rows, "<tr><th scope=\"row\">{heading}</th>")
+}
+
+/// Adds a cell; a dash where the text is empty.
+pub fn push_cell(alloc: Global, text: &str, rows: &mut String) -> Result<(), AllocError> {
+    if text.is_empty() {
+        return rows.push_str("<td>-</td>");
     }
-    row.push_str("</tr>\n")?;
-    Ok(row)
+    let text = escaped(alloc, text)?;
+    write!(rows, "<td>{text}</td>")
+}
+
+/// Ends a row of a table.
+pub fn end_row(rows: &mut String) -> Result<(), AllocError> {
+    rows.push_str("</tr>\n")
 }
 
 /// Lines as they stand, in a block of their own.
@@ -59,11 +67,6 @@ pub fn block(alloc: Global, lines: &str) -> Result<String, AllocError> {
 pub fn label(alloc: Global, attributes: &str, text: &str) -> Result<String, AllocError> {
     let text = escaped(alloc, text)?;
     format!(in alloc; "<text {attributes}>{text}</text>\n")
-}
-
-/// A text, or a dash where it is empty.
-pub fn or_dash(text: &str) -> &str {
-    if text.is_empty() { "-" } else { text }
 }
 
 /// Adds a text to a list of texts, behind a comma where there are some.

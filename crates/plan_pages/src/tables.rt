@@ -1,8 +1,8 @@
 //! Tables of the buses, nodes, pools and rows of a plan.
 
-use crate::markup::{or_dash, push_listed, row, table};
+use crate::markup::{begin_row, end_row, push_cell, push_listed, table};
 use net_tables::lookup::{
-    address_on, bus_at, bus_name, is_in_pool, is_on_bus, kind_word, level_of, node_name, rows_at,
+    address_on, bus_at, bus_name, is_in_pool, is_on_bus, kind_word, level_of, node_name,
 };
 use plan_texts::{address_text, bus_text, name_or_none, number_text, span_text};
 use plan_values::{Bus, Certificate, Node, Plan, Pool, Port, Row};
@@ -12,17 +12,24 @@ use std::alloc::{AllocError, Global};
 pub fn bus_table(alloc: Global, plan: &Plan) -> Result<String, AllocError> {
     let mut rows = String::new(alloc);
     for (index, bus) in plan.buses.iter().enumerate() {
-        rows.push_str(&bus_row(alloc, plan, index, bus)?)?;
+        push_bus(alloc, plan, index, bus, &mut rows)?;
     }
     table(alloc, &["Bus", "Binding", "Media", "Nodes"], &rows)
 }
 
-fn bus_row(alloc: Global, plan: &Plan, index: usize, bus: &Bus) -> Result<String, AllocError> {
-    let binding = format!(in alloc; "{}", bus.binding)?;
-    let media = format!(in alloc; "{}", bus.media)?;
-    let nodes = nodes_on(alloc, plan, index)?;
-    let cells: [&str; 3] = [&binding, &media, or_dash(&nodes)];
-    row(alloc, bus.name.text.as_str(), &cells)
+fn push_bus(
+    alloc: Global,
+    plan: &Plan,
+    index: usize,
+    bus: &Bus,
+    rows: &mut String,
+) -> Result<(), AllocError> {
+    let binding = bus.binding;
+    let media = bus.media;
+    begin_row(alloc, bus.name.text.as_str(), rows)?;
+    write!(rows, "<td>{binding}</td><td>{media}</td>")?;
+    push_cell(alloc, &nodes_on(alloc, plan, index)?, rows)?;
+    end_row(rows)
 }
 
 /// The names of the nodes that are on a bus.
@@ -44,8 +51,8 @@ pub fn node_table(
 ) -> Result<String, AllocError> {
     let mut rows = String::new(alloc);
     for (index, node) in plan.nodes.iter().enumerate() {
-        let level = certificate.map(|certificate| level_of(plan, certificate, index));
-        rows.push_str(&node_row(alloc, plan, index, node, level)?)?;
+        let level = certificate.map(|it| usize::from(level_of(plan, it, index)));
+        push_node(alloc, plan, index, node, level, &mut rows)?;
     }
     let headings = [
         "Node",
@@ -61,37 +68,30 @@ pub fn node_table(
     table(alloc, &headings, &rows)
 }
 
-fn node_row(
+fn push_node(
     alloc: Global,
     plan: &Plan,
     index: usize,
     node: &Node,
-    level: Option<u8>,
-) -> Result<String, AllocError> {
-    let number = format!(in alloc; "{}", index.saturating_add(1))?;
-    let eid = format!(in alloc; "{}", node.eid.value)?;
-    let level = number_text(alloc, level.map(usize::from))?;
-    let ports = ports_text(alloc, plan, &node.ports)?;
-    let rows = format!(in alloc; "{}", node.rows.len())?;
-    let tid = tid_text(alloc, node)?;
-    let cells: [&str; 8] = [
-        &number,
-        kind_word(node.kind),
-        &eid,
-        &level,
-        name_or_none(plan, node.owner),
-        or_dash(&ports),
-        &rows,
-        &tid,
-    ];
-    row(alloc, node.name.text.as_str(), &cells)
-}
-
-fn tid_text(alloc: Global, node: &Node) -> Result<String, AllocError> {
-    match &node.terminus {
-        Some(terminus) => format!(in alloc; "{}", terminus.tid),
-        None => "-".to_string(alloc),
-    }
+    level: Option<usize>,
+    rows: &mut String,
+) -> Result<(), AllocError> {
+    let number = index.saturating_add(1);
+    let kind = kind_word(node.kind);
+    let eid = node.eid.value;
+    let level = number_text(alloc, level)?;
+    begin_row(alloc, node.name.text.as_str(), rows)?;
+    write!(
+        rows,
+        "<td>{number}</td><td>{kind}</td><td>{eid}</td><td>{level}</td>"
+    )?;
+    push_cell(alloc, name_or_none(plan, node.owner), rows)?;
+    push_cell(alloc, &ports_text(alloc, plan, &node.ports)?, rows)?;
+    let count = node.rows.len();
+    let tid = node.terminus.as_ref().map(|it| usize::from(it.tid));
+    let tid = number_text(alloc, tid)?;
+    write!(rows, "<td>{count}</td><td>{tid}</td>")?;
+    end_row(rows)
 }
 
 /// The ports of a node: each number, the bus, and the physical address there.
@@ -110,18 +110,19 @@ pub fn pool_table(alloc: Global, plan: &Plan) -> Result<String, AllocError> {
     let mut rows = String::new(alloc);
     for node in &plan.nodes {
         if let Some(pool) = node.pool {
-            rows.push_str(&pool_row(alloc, plan, node.name.text.as_str(), pool)?)?;
+            begin_row(alloc, node.name.text.as_str(), &mut rows)?;
+            push_pool(alloc, plan, pool, &mut rows)?;
         }
     }
     table(alloc, &["Bridge", "Endpoint IDs", "Size", "Held by"], &rows)
 }
 
-fn pool_row(alloc: Global, plan: &Plan, name: &str, pool: Pool) -> Result<String, AllocError> {
+fn push_pool(alloc: Global, plan: &Plan, pool: Pool, rows: &mut String) -> Result<(), AllocError> {
     let span = span_text(alloc, pool.first.value, pool.size)?;
-    let size = format!(in alloc; "{}", pool.size)?;
-    let holders = holders_of(alloc, plan, pool)?;
-    let cells: [&str; 3] = [&span, &size, or_dash(&holders)];
-    row(alloc, name, &cells)
+    let size = pool.size;
+    write!(rows, "<td>{span}</td><td>{size}</td>")?;
+    push_cell(alloc, &holders_of(alloc, plan, pool)?, rows)?;
+    end_row(rows)
 }
 
 /// The names of the nodes that hold one of a pool's endpoint IDs.
@@ -138,8 +139,11 @@ fn holders_of(alloc: Global, plan: &Plan, pool: Pool) -> Result<String, AllocErr
 /// The rows of the routing tables.
 pub fn row_table(alloc: Global, plan: &Plan) -> Result<String, AllocError> {
     let mut rows = String::new(alloc);
-    for node in 0..plan.nodes.len() {
-        push_entries(alloc, plan, node, &mut rows)?;
+    for (index, node) in plan.nodes.iter().enumerate() {
+        for (number, row) in node.rows.iter().enumerate() {
+            begin_row(alloc, node.name.text.as_str(), &mut rows)?;
+            push_row(alloc, plan, index, number, row, &mut rows)?;
+        }
     }
     let headings = [
         "Node",
@@ -153,38 +157,21 @@ pub fn row_table(alloc: Global, plan: &Plan) -> Result<String, AllocError> {
     table(alloc, &headings, &rows)
 }
 
-/// Adds the rows of a node.
-fn push_entries(
+fn push_row(
     alloc: Global,
     plan: &Plan,
     node: usize,
+    number: usize,
+    row: &Row,
     rows: &mut String,
 ) -> Result<(), AllocError> {
-    for (index, entry) in rows_at(plan, node).iter().enumerate() {
-        rows.push_str(&entry_row(alloc, plan, node, index, entry)?)?;
-    }
-    Ok(())
-}
-
-fn entry_row(
-    alloc: Global,
-    plan: &Plan,
-    node: usize,
-    index: usize,
-    entry: &Row,
-) -> Result<String, AllocError> {
-    let bus = bus_at(plan, node, entry.port);
-    let place = format!(in alloc; "{index}")?;
-    let span = span_text(alloc, entry.first.value, entry.size)?;
-    let port = format!(in alloc; "{}", entry.port)?;
-    let address = address_text(alloc, address_on(plan, entry.next, bus))?;
-    let cells: [&str; 6] = [
-        &place,
-        &span,
-        &port,
-        bus_text(plan, bus),
-        node_name(plan, entry.next),
-        &address,
-    ];
-    row(alloc, node_name(plan, node), &cells)
+    let port = row.port;
+    let bus = bus_at(plan, node, port);
+    let span = span_text(alloc, row.first.value, row.size)?;
+    write!(rows, "<td>{number}</td><td>{span}</td><td>{port}</td>")?;
+    push_cell(alloc, bus_text(plan, bus), rows)?;
+    push_cell(alloc, node_name(plan, row.next), rows)?;
+    let address = address_text(alloc, address_on(plan, row.next, bus))?;
+    write!(rows, "<td>{address}</td>")?;
+    end_row(rows)
 }

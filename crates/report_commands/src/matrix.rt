@@ -15,7 +15,7 @@ pub fn reached_text(alloc: Global, checked: &Checked) -> Result<String, AllocErr
     let mut rows = String::new(alloc);
     for node in 0..plan.nodes.len() {
         let hops = hops_from(alloc, checked, node)?;
-        if hops.contains(&None) {
+        if hops.iter().any(|found| found.is_none()) {
             push_listed(&mut short, node_name(plan, node))?;
         }
         push_row(alloc, plan, node, &hops, &mut rows)?;
@@ -75,14 +75,14 @@ fn push_row(
     let number = node.saturating_add(1);
     write!(rows, "<tr><th scope=\"row\">{number} {name}</th>")?;
     let mut count: usize = 0;
-    for (to, hops) in hops.iter().enumerate() {
-        match hops {
-            _ if to == node => rows.push_str("<td class=\"same\">.</td>")?,
-            Some(hops) => {
-                count = count.saturating_add(1);
-                write!(rows, "<td>{hops}</td>")?;
-            }
-            None => rows.push_str("<td class=\"none\">-</td>")?,
+    for (to, found) in hops.iter().enumerate() {
+        if to == node {
+            rows.push_str("<td class=\"same\">.</td>")?;
+        } else if let Some(hops) = found {
+            count = count.saturating_add(1);
+            write!(rows, "<td>{hops}</td>")?;
+        } else {
+            rows.push_str("<td class=\"none\">-</td>")?;
         }
     }
     write!(rows, "<td class=\"sum\">{count}</td></tr>\n")

@@ -11,7 +11,7 @@ pub loop-character-preserved : goal.loop-character-preserved
 loop-character-preserved c =
     rw (flat_map-append, append-nil, encodes-append, ← c.loop-character.invariant) c.in_ok-push_escaped.ensures
 
-pub returns : goal.returns-clause-exact
+pub returns : goal.returns
 returns c =
     let done = YieldsList-end (YieldsList-from_chars c.args.text.now c.utf8.text cc) c.loop-character.yielded _ c.loop-character.yielded_by _ _ c.in-None.is c.next.ensures.steps in
     let bytes : string_bytes c.loop-character.written ≡ encode_utf8_all (flat_map escaped_char (chars c.args.text.now)) =
