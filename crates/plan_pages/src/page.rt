@@ -7,7 +7,6 @@ use crate::style::STYLE;
 use std::alloc::{AllocError, Global};
 
 /// The page with a title, a verdict of a class, and what stands below it.
-#[tactic(auto, using(crate::proofs::Telling::tells))]
 pub fn page_of(
     alloc: Global,
     title: &str,
