@@ -1,1 +1,2 @@
+mod Hops
 mod Reported

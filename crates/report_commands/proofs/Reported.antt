@@ -16,6 +16,7 @@ use Rattle.command_answers.specs.declared.answer.Answer.{Answer}
 use Rattle.command_answers.specs.declared.status.Status.{Status}
 use Rattle.command_answers.specs.declared.status.Status.TheVariants as status
 use Rattle.command_answers.specs.Answers.{IsErrorText}
+use Rattle.command_answers.specs.Certifying.{IsRuledOutBy}
 use Rattle.report_commands.specs.Reporting.{Reports, ReportsWith}
 
 module _ (plan : Plan) (page : List ℕ) (a : Answer) where
@@ -33,7 +34,7 @@ module _ (plan : Plan) (page : List ℕ) (a : Answer) where
       → obstacle_text plan obstacle ≡ Some line → TellsVerdict (codes "no") line page
       → a.status ≡ status.Fault → cow_str_bytes a.text ≡ page → Reports plan a.status (cow_str_bytes a.text)
   ruled_out obstacle line names none written told =
-      let out = record { first = names; none = none (not_memory plan obstacle line written); written = written } in
+      let out : IsRuledOutBy plan obstacle line = record { first = names; none = none (not_memory plan obstacle line written); written = written } in
       answers_so (Reports plan) status.Fault (obstacle, line, out, told)
 
   -- of a plan with the certificate that was given
@@ -44,5 +45,5 @@ module _ (plan : Plan) (page : List ℕ) (a : Answer) where
   -- of a plan and a certificate with a fault
   pub faulty : (cert : Certificate) (error : CheckError) (line : List ℕ) → NamesFirstFault plan cert error → IsErrorText plan error line
       → TellsVerdict (codes "no") line page → a.status ≡ status.Fault → cow_str_bytes a.text ≡ page → ReportsWith plan cert a.status (cow_str_bytes a.text)
-  faulty cert (check_error.Fault fault) line first is told = answers_so (ReportsWith plan cert) status.Fault (line, (fault, first, is), told)
+  faulty cert (check_error.Fault fault) line first is told ended text = answers_so (ReportsWith plan cert) status.Fault (line, (fault, first, is), told) ended text
   faulty cert check_error.OutOfMemory line first is told ended text = absurd is
