@@ -15,6 +15,7 @@ one_more (y ∷ ys) x P is earlier (suc b) = one_more ys x (λ k. P (suc k)) is 
 pub hops_more : (plan : Plan) (a n : ℕ) (before after : List (Option ℕ)) (found : Option ℕ) → length before ≡ n → ((b : ℕ) → OfItem before b (AreHopsTo plan a b))
     → AreHopsTo plan a n found → after ≡ before ++ found ∷ [] → (length after ≡ n + 1) × ((b : ℕ) → OfItem after b (AreHopsTo plan a b))
 hops_more plan a n before after found count earlier is more =
-    let last = subst (λ k. AreHopsTo plan a k found) (sym count) is in
-    (ap length more ∙ (length-append before (found ∷ []) ∙ ap (λ k. k + 1) count),
-    subst (λ items. (b : ℕ) → OfItem items b (AreHopsTo plan a b)) (sym more) (one_more before found (AreHopsTo plan a) last earlier))
+    let last = subst (λ k. AreHopsTo plan a k found) (sym count) is in (
+      ap length more ∙ (length-append before (found ∷ []) ∙ ap (λ k. k + 1) count),
+      subst (λ items. (b : ℕ) → OfItem items b (AreHopsTo plan a b)) (sym more) (one_more before found (AreHopsTo plan a) last earlier),
+    )

@@ -1,6 +1,6 @@
-//! Each public name of the message crates, used by its path, with all fields and variants, the arguments of each call
-//! and the type of what it answers. Where one of them goes or changes, this file doesn't compile. What the calls answer
-//! the other files test.
+//! Each public name of the message crates, used by its path, with the arguments of each call, the type of what it
+//! answers, and the fields and variants that are written here. Where one of them goes or changes, this file doesn't
+//! compile. What the calls answer, and the variants of refusals, the other files test.
 ghost use Rattle.std.specs.Prelude.{◌≡◌, ◌+◌, ◌^◌, ◌<◌, ◌≤◌, All, length};
 ghost use Rattle.arrayvec.specs.ArrayVec.{array_vec_len};
 ghost use Rattle.mctp_transport.specs.PacketValues.{IsAssignable, IsUnit, packet_value_bytes};

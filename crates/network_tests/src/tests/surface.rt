@@ -1,4 +1,4 @@
-//! Each public name of `net_plan`, `net_check` and `net_sim` that other programs stand on, used by its path, with all
+//! Each public name of `net_plan`, `net_check` and `net_sim` that other programs stand on, used by its path, with its
 //! fields and variants, the arguments of each call and the type of what it answers. Where one of them goes or changes,
 //! this file doesn't compile. What the calls answer the other files test.
 ghost use Rattle.std.specs.Prelude.{◌≡◌, ◌+◌, ◌-◌, ◌^◌, ◌<◌, ◌≤◌, length, vec_len};
