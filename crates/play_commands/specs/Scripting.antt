@@ -1,11 +1,11 @@
 -- What `script` answers on a plan and its certificate.
-use Rattle.std.specs.Prelude.{◌≡◌, ◌≢◌, ◌⊎◌, ℕ, ◌-◌, ◌≤◌, List, ◌∷◌, length, map, slice_get, Option, Some, None}
-use Rattle.std.specs.Prelude.{All, Err, ⊤}
+use Rattle.std.specs.Prelude.{◌≡◌, ◌≢◌, ◌⊎◌, ℕ, ◌-◌, ◌≤◌, List, ◌∷◌, length, map, slice_get, Option, Some, None, codes, string_bytes}
+use Rattle.std.specs.Prelude.{All, Err, ⊤, MatchOption}
 use Rattle.pdr_repository.specs.declared.walk_fault.WalkFault.{WalkFault}
 use Rattle.pdr_repository.specs.declared.walk_fault.WalkFault.TheVariants.{NotAsked}
 use Rattle.net_plan.specs.declared.error.PlanError.{PlanError}
 use Rattle.net_plan.specs.declared.error.PlanError.TheVariants as error
-use Rattle.net_plan.specs.EventReading.{events}
+use Rattle.net_plan.specs.EventReading.{events as read_events}
 use Rattle.net_plan.specs.EventText.{AreEventsOf}
 use Rattle.net_plan.specs.Refusals.{IsRefused}
 use Rattle.net_plan.specs.Texts.{IsJsonTextOf}
@@ -21,23 +21,31 @@ use Rattle.net_runs.specs.Events as flight
 use Rattle.net_runs.specs.WalkedRuns.{WalkedTurn, WalkedRunFrom}
 use Rattle.net_runs.specs.Walkers.{WalkedEvent, Happening, BeginWalk, Ask, TellWalk, WalkedOutcome, Happened}
 use Rattle.net_runs.specs.Walkers.{ToldWalk, WalkRefused, Handed, Finished, EndedBy, walked_at_start}
-use Rattle.net_sim.specs.Outcomes.{event_value, outcome_value}
+use Rattle.net_sim.specs.Outcomes.{event_value}
 use Rattle.net_sim.specs.Walks.{HaveWalked}
 use Rattle.net_tables.specs.Repositories.{records_of}
 use Rattle.net_tables.specs.Routing.{Holds}
 use Rattle.net_tables.specs.TwoPlans.{one_plan}
 use Rattle.command_questions.specs.declared.walk_script.WalkScript.{WalkScript}
-use Rattle.play_commands.specs.declared.script.making.Made.{Made}
+use Rattle.play_commands.specs.declared.script.judging.Judged.{Judged}
+use Rattle.play_commands.specs.declared.script.judging.Judged.TheVariants as judged
 use Rattle.command_answers.specs.declared.refused.Refused.{Refused}
 use Rattle.command_answers.specs.declared.status.Status.{Status}
 use Rattle.command_answers.specs.declared.status.Status.TheVariants as status
 use Rattle.command_answers.specs.Answers.{Stream, AreGiven, AreUnread, IsFaultText}
-use Rattle.play_commands.specs.ScriptTexts.{script_text}
 use Rattle.command_answers.specs.Statuses.{HasCause}
 use Rattle.command_answers.specs.Naming.{IsFirstNamed}
 use Rattle.run_texts.specs.OutcomeLines.{outcome_line}
 
 -- ---- the events of a walk
+
+-- the text stands for these events
+abbrev pub StandsFor : Plan → List ℕ → List Event → Type 0
+StandsFor plan text events = IsJsonTextOf (AreEventsOf (plan_value plan)) text (map event_entry events)
+
+-- what is told where no text that was made is one of a walk
+abbrev pub no_script : List ℕ
+no_script = codes "no script: no text that was made reads back as a walk\n"
 
 -- what may happen once a walk has begun: its first walker asks or is told of, and flights move, are lost, are answered,
 -- or an open message is given up
@@ -49,10 +57,10 @@ IsOfWalk (Happening (flight.Put node bytes)) = ⊥
 IsOfWalk (Happening (flight.Switch node)) = ⊥
 IsOfWalk (Happening event) = ⊤
 
--- the events begin with the walk that is asked for, and the others are of it
-abbrev pub AreOfScript : WalkScript → Plan → List WalkedEvent → Type 0
-AreOfScript script plan events = (n : ℕ) × IsFirstNamed plan script.node.now n × (rest : List WalkedEvent)
-    × (events ≡ BeginWalk n script.eid.value 0 script.part.bytes ∷ rest) × All IsOfWalk rest
+-- the first event is the walk that node n is to ask for, and the others are of it
+abbrev pub AreOfWalk : ℕ → WalkScript → List Event → Type 0
+AreOfWalk n script events = (first : Event) × (rest : List Event) × (events ≡ first ∷ rest)
+    × (event_value first ≡ BeginWalk n script.eid.value 0 script.part.bytes) × All (λ (e : Event). IsOfWalk (event_value e)) rest
 
 -- ---- runs
 
@@ -91,65 +99,62 @@ IsStuck (Happened outcome handed) = IsObstacle outcome ⊎ FailsBy handed
 IsStuck (ToldWalk k records (EndedBy fault)) = ⊤
 IsStuck _ = ⊥
 
--- it is told that a walk is done
-abbrev pub IsFinished : WalkedOutcome → Type 0
-IsFinished (ToldWalk k records Finished) = ⊤
-IsFinished _ = ⊥
-
 -- a node that holds e has so many records
 abbrev pub HasRecords : Plan → ℕ → ℕ → Type 0
 HasRecords plan e count = (n : ℕ) × Holds plan n e × (length (records_of plan n) ≡ count)
 
 -- the first walker is done, with as many records as a node has that holds e
-abbrev pub IsDone : Plan → ℕ → Option WalkedOutcome → Type 0
-IsDone plan e last = (count : ℕ) × HasRecords plan e count × (last ≡ Some (ToldWalk 1 count Finished))
+abbrev pub IsDone : Plan → ℕ → WalkedOutcome → Type 0
+IsDone plan e last = (count : ℕ) × HasRecords plan e count × (last ≡ ToldWalk 1 count Finished)
 
--- ---- texts
+-- ---- what events are for the walk of node n
 
--- the text stands for events by which the walk is done
-abbrev pub IsReadBack : ℕ → Plan → Certificate → List ℕ → Type 0
-IsReadBack e plan cert text = (read : List Event) × (last : Option WalkedOutcome)
-    × IsJsonTextOf (AreEventsOf (plan_value plan)) text (map event_entry read)
-    × EndsWith plan cert (map event_value read) last × IsDone plan e last
+-- they are of it, a run of the plan's network, and by them it is done
+abbrev pub IsDoneBy : ℕ → WalkScript → Plan → Certificate → List Event → Type 0
+IsDoneBy n script plan cert events = (last : WalkedOutcome) × AreOfWalk n script events
+    × EndsWith plan cert (map event_value events) (Some last) × IsDone plan script.eid.value last
 
--- the text is refused, or stands for events by which the walk isn't done
-abbrev pub IsNotReadBack : ℕ → Plan → Certificate → List ℕ → Type 0
-IsNotReadBack e plan cert text =
-    ((cause : PlanError) × (cause ≢ error.OutOfMemory)
-    × IsRefused (events (node_names (plan_value plan).nodes)) (AreEventsOf (plan_value plan)) text cause)
-    ⊎ ((read : List Event) × (last : Option WalkedOutcome)
-    × IsJsonTextOf (AreEventsOf (plan_value plan)) text (map event_entry read)
-    × EndsWith plan cert (map event_value read) last × ¬ IsDone plan e last)
+-- They are of it and a run, and it doesn't go on by the last of them, or a list has no more. The line tells what comes of
+-- the last one.
+abbrev pub IsStuckBy : ℕ → WalkScript → Plan → Certificate → List Event → List ℕ → Type 0
+IsStuckBy n script plan cert events line = (last : WalkedOutcome) × AreOfWalk n script events
+    × EndsWith plan cert (map event_value events) (Some last) × (IsStuck last ⊎ (100000 ≤ length events))
+    × (line ≡ outcome_line plan (length events) last)
+
+-- they aren't of it, or it isn't done at the end of their run
+abbrev pub IsNotDoneBy : ℕ → WalkScript → Plan → Certificate → List Event → Type 0
+IsNotDoneBy n script plan cert events = ¬ AreOfWalk n script events
+    ⊎ ((last : Option WalkedOutcome) × EndsWith plan cert (map event_value events) last
+    × MatchOption last ⊤ (λ outcome. ¬ IsDone plan script.eid.value outcome))
+
+-- so they are judged
+abbrev pub ArePlayed : ℕ → WalkScript → Plan → Certificate → List Event → Judged → Type 0
+ArePlayed n script plan cert events judged.Script = IsDoneBy n script plan cert events
+ArePlayed n script plan cert events (judged.Stuck line) = IsStuckBy n script plan cert events (string_bytes line)
+ArePlayed n script plan cert events judged.Other = IsNotDoneBy n script plan cert events
+
+-- the text stands for no events
+abbrev pub HasNoEvents : Plan → List ℕ → Type 0
+HasNoEvents plan text = (cause : PlanError) × (cause ≢ error.OutOfMemory)
+    × IsRefused (read_events (node_names (plan_value plan).nodes)) (AreEventsOf (plan_value plan)) text cause
+
+-- so a text is judged by the events for which it stands
+abbrev pub IsJudged : ℕ → WalkScript → Plan → Certificate → List ℕ → Judged → Type 0
+IsJudged n script plan cert text is = ((is ≡ judged.Other) × HasNoEvents plan text)
+    ⊎ ((read : List Event) × StandsFor plan text read × ArePlayed n script plan cert read is)
 
 -- ---- answers
 
--- Events that were made: they are of the script, this comes of the last one, and they end there, since the walk is done
--- or stuck, or a list has no more events.
-pub record IsMade (script : WalkScript) (plan : Plan) (cert : Certificate) (made : Made) : Type 0 where
-  pub of_script : AreOfScript script plan (map event_value made.events.items)
-  pub played : EndsWith plan cert (map event_value made.events.items) (Some (outcome_value made.last))
-  pub ends : IsStuck (outcome_value made.last) ⊎ IsFinished (outcome_value made.last)
-      ⊎ (100000 ≤ length made.events.items)
-
--- the line of what comes of the last event
-abbrev pub last_line : Plan → Made → List ℕ
-last_line plan made = outcome_line plan (length made.events.items) (outcome_value made.last)
-
--- why there is no script: the walk is stuck, a list has no more events, or the text doesn't read back
-abbrev pub IsWithoutScript : WalkScript → Plan → Certificate → Made → Type 0
-IsWithoutScript script plan cert made = IsStuck (outcome_value made.last) ⊎ (100000 ≤ length made.events.items)
-    ⊎ IsNotReadBack script.eid.value plan cert (script_text plan made.events.items)
-
--- The text answers on a plan and a certificate, in a run that ends so. It is the text of events that were made, and the
--- walk is done by them also once they are read from it; or, where there is no script, the line of what comes of the
--- last one. Or it is the line of the first fault.
+-- The text answers on a plan and a certificate, in a run that ends so. It stands for events of the walk, by which it is
+-- done. Or it tells by which event the walk doesn't go on, that there is no script, or the first fault.
 abbrev pub AnswersScriptOn : WalkScript → Plan → Certificate → Status → List ℕ → Type 0
-AnswersScriptOn script plan cert status.Yes text = Accepts plan cert × (made : Made) × IsMade script plan cert made
-    × IsFinished (outcome_value made.last)
-    × (text ≡ script_text plan made.events.items) × IsReadBack script.eid.value plan cert text
+AnswersScriptOn script plan cert status.Yes text = Accepts plan cert × (n : ℕ) × IsFirstNamed plan script.node.now n
+    × (events : List Event) × StandsFor plan text events × IsDoneBy n script plan cert events
 AnswersScriptOn script plan cert status.Fault text =
-    (Accepts plan cert × (made : Made) × IsMade script plan cert made × IsWithoutScript script plan cert made
-    × (text ≡ last_line plan made))
+    (Accepts plan cert × (n : ℕ) × IsFirstNamed plan script.node.now n
+    × (events : List Event) × IsStuckBy n script plan cert events text)
+    ⊎ (Accepts plan cert × (n : ℕ) × IsFirstNamed plan script.node.now n
+    × (made : List ℕ) × IsJudged n script plan cert made judged.Other × (text ≡ no_script))
     ⊎ IsFaultText plan cert text
 AnswersScriptOn script plan cert status.Unreadable text = ⊥
 AnswersScriptOn script plan cert status.NoMemory text = ⊥

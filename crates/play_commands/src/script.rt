@@ -1,37 +1,32 @@
 //! The command `script`: the events of a walk over a network, made as it runs.
-ghost use Rattle.std.specs.Prelude.{◌≡◌, ◌≢◌, ◌↔◌, IfOk, IfErr, IsTrue, MatchBool, length, map, option_map};
+ghost use Rattle.std.specs.Prelude.{◌≡◌, IfOk, IfErr};
 ghost use Rattle.std.specs.Cow.{cow_str_bytes};
 ghost use Rattle.net_plan.specs.Stream.{HasRoom};
-ghost use Rattle.net_sim.specs.Outcomes.{event_value, outcome_value};
-ghost use Rattle.net_tables.specs.Repositories.{records_of};
-ghost use Rattle.net_tables.specs.Routing.{Holds};
-ghost use Rattle.net_plan.specs.declared.error.PlanError.TheVariants as error_of;
 ghost use Rattle.command_answers.specs.declared.refused.Refused.TheVariants as refused;
-ghost use Rattle.command_answers.specs.declared.status.Status.TheVariants.{Fault};
 ghost use Rattle.command_answers.specs.Answers.{stream, IsWithoutPlan};
-ghost use Rattle.net_rules.specs.Rules.{Accepts};
-ghost use Rattle.play_commands.specs.Scripting.{EndsWith, IsFinished, IsDone, HasRecords, IsMade, last_line, IsReadBack, IsNotReadBack, AnswersScriptOn, AnswersScriptSo, IsUnscriptedOn, IsUnscriptedFor};
+ghost use Rattle.play_commands.specs.Scripting.{AnswersScriptOn, AnswersScriptSo, IsUnscriptedOn, IsUnscriptedFor};
 ghost use Rattle.command_answers.specs.Told.{Concludes};
 ghost use Rattle.command_answers.specs.Naming.{IsFirstNamed};
 
 mod course;
+mod judging;
 mod making;
 mod text;
 
 use command_answers::{
-    Answer, Refused, Status, fault_answer, first_named, planned_network, read_inputs, refuse, tell,
+    Answer, Refused, Status, fault_answer, first_named, read_inputs, refuse, tell,
 };
 use command_questions::WalkScript;
-use making::{Made, made_events};
-use mctp_transport::Eid;
-use net_check::{AcceptedNetwork, Checked, check};
-use net_plan::{PlanError, Sink, Source, events_of_text};
-use net_sim::{Outcome, Standing};
-use net_tables::lookup::{holds, records_at};
-use plan_values::{Certificate, Event, Plan};
-use run_texts::outcome_line;
-use std::alloc::Global;
+use judging::{Judged, judge};
+use making::made_events;
+use net_check::{Checked, check};
+use net_plan::{Sink, Source};
+use plan_values::{Certificate, Plan};
+use std::alloc::{AllocError, Global};
 use text::script_text;
+
+/// What is told where no text that was made is a script. No walk is known of which this is told.
+const NO_SCRIPT: &str = "no script: no text that was made reads back as a walk\n";
 
 /// Gives on `output` the events of a walk over the network of a plan, or what comes of the event with which it doesn't
 /// go on; or the fault for which the plan and its certificate are not accepted. Where a file can't be read, or no node
@@ -94,160 +89,44 @@ fn answer_at(
 {
     match check(alloc, plan, certificate) {
         Ok(checked) => {
-            let made = made_events(alloc, script, checked, node)?;
-            answer_on_made(alloc, script, plan, certificate, &made)
+            let text = made_text(alloc, script, checked, node)?;
+            answer_by_text(alloc, script, plan, certificate, node, text)
         }
         Err(error) => fault_answer(alloc, plan, &error),
     }
 }
 
-/// The answer on events that were made.
-fn answer_on_made(
+/// The text of the events that are made for the walk.
+fn made_text(
     alloc: Global,
     script: &WalkScript,
-    plan: &Plan,
-    certificate: &Certificate,
-    made: &Made,
-) -> Result<Answer, Refused>
-    requires accepted { Accepts plan.now certificate.now }
-    requires made { IsMade script.now plan.now certificate.now made.now }
-    ensures answers { IfOk result (λ answer. AnswersScriptOn script.now plan.now certificate.now answer.status (cow_str_bytes answer.text)) }
-    ensures lacks { IfErr result (λ why. why ≡ refused.NoMemory) }
-{
-    if is_finished(&made.last) {
-        return answer_by_text(alloc, script, plan, certificate, made);
-    }
-    stuck_answer(alloc, plan, made)
+    checked: Checked,
+    node: usize,
+) -> Result<String, AllocError> {
+    let plan = checked.plan();
+    let events = made_events(alloc, script, checked, node)?;
+    script_text(alloc, plan, &events)
 }
 
-/// The answer where the walk is done by the events: their text, if it is also done by those that are read from it.
+/// The answer by a text of events, whoever made it: the text itself, if by these the walk is done.
 fn answer_by_text(
     alloc: Global,
     script: &WalkScript,
     plan: &Plan,
     certificate: &Certificate,
-    made: &Made,
+    node: usize,
+    text: String,
 ) -> Result<Answer, Refused>
-    requires accepted { Accepts plan.now certificate.now }
-    requires made { IsMade script.now plan.now certificate.now made.now }
-    requires finished { IsFinished (outcome_value made.now.last) }
+    requires { IsFirstNamed plan.now script.now.node.now node }
     ensures answers { IfOk result (λ answer. AnswersScriptOn script.now plan.now certificate.now answer.status (cow_str_bytes answer.text)) }
     ensures lacks { IfErr result (λ why. why ≡ refused.NoMemory) }
 {
-    let text = script_text(alloc, plan, &made.events)?;
     match check(alloc, plan, certificate) {
-        Ok(checked) => {
-            if reads_back(alloc, script.eid, checked, &text)? {
-                Ok(Answer::found(text))
-            } else {
-                stuck_answer(alloc, plan, made)
-            }
-        }
+        Ok(checked) => match judge(alloc, script, checked, node, &text)? {
+            Judged::Script => Ok(Answer::found(text)),
+            Judged::Stuck(line) => Ok(Answer::fault(line)),
+            Judged::Other => Ok(Answer::fault(NO_SCRIPT.to_string(alloc)?)),
+        },
         Err(error) => fault_answer(alloc, plan, &error),
     }
-}
-
-/// The line of what comes of the last event.
-fn stuck_answer(alloc: Global, plan: &Plan, made: &Made) -> Result<Answer, Refused>
-    ensures answers { IfOk result (λ answer. (answer.status ≡ Fault) × (cow_str_bytes answer.text ≡ last_line plan.now made.now)) }
-    ensures lacks { IfErr result (λ why. why ≡ refused.NoMemory) }
-{
-    let line = outcome_line(alloc, plan, made.events.len(), &made.last)?;
-    Ok(Answer::fault(line))
-}
-
-/// Whether the walk is done by the events that a text stands for.
-fn reads_back(alloc: Global, eid: Eid, checked: Checked, text: &str) -> Result<bool, Refused>
-    ensures back { IfOk result (λ back. MatchBool back (IsReadBack eid.value checked.entry.0 checked.entry.1 text.now) (IsNotReadBack eid.value checked.entry.0 checked.entry.1 text.now)) }
-    ensures lacks { IfErr result (λ why. why ≡ refused.NoMemory) }
-{
-    let plan = checked.plan();
-    match events_of_text(alloc, plan, text.as_bytes()) {
-        Ok(events) => {
-            let last = last_outcome(alloc, checked, &events)?;
-            Ok(is_done(plan, eid, &last))
-        }
-        Err(error) => {
-            if is_refusal(error) {
-                Ok(false)
-            } else {
-                // no memory: all other errors are refusals.
-                Err(Refused::NoMemory)
-            }
-        }
-    }
-}
-
-/// Whether an error is one of a text.
-fn is_refusal(error: PlanError) -> bool
-    ensures { IsTrue result ↔ (error ≢ error_of.OutOfMemory) }
-{
-    !matches!(error, PlanError::OutOfMemory)
-}
-
-/// What comes of the last event in the network of a checked plan.
-fn last_outcome(
-    alloc: Global,
-    checked: Checked,
-    events: &[Event],
-) -> Result<Option<Outcome>, Refused>
-    ensures ends { IfOk result (λ last. EndsWith checked.entry.0 checked.entry.1 (map event_value events.now) (option_map outcome_value last)) }
-    ensures lacks { IfErr result (λ why. why ≡ refused.NoMemory) }
-{
-    let mut network = planned_network(alloc, AcceptedNetwork::of_plan(checked))?;
-    let mut played = network.run(events)?;
-    if played.stopped {
-        // no memory: the run stopped at a growth that was refused.
-        return Err(Refused::NoMemory);
-    }
-    Ok(played.outcomes.pop())
-}
-
-/// Whether what comes of an event is that a walk is done.
-fn is_finished(outcome: &Outcome) -> bool
-    ensures { IsTrue result ↔ IsFinished (outcome_value outcome.now) }
-{
-    matches!(
-        outcome,
-        Outcome::Collected {
-            standing: Standing::Done,
-            ..
-        }
-    )
-}
-
-/// Whether it comes of an event that the first walker is done, with as many records as a node has that holds the
-/// endpoint ID.
-fn is_done(plan: &Plan, eid: Eid, last: &Option<Outcome>) -> bool
-    ensures { MatchBool result (IsDone plan.now eid.value (option_map outcome_value last.now)) (¬ IsDone plan.now eid.value (option_map outcome_value last.now)) }
-{
-    match last {
-        Some(
-            Outcome::Collected {
-                walker: 1,
-                records,
-                standing: Standing::Done,
-            },
-        ) => has_records(plan, eid, *records),
-        _ => false,
-    }
-}
-
-/// Whether a node that holds the endpoint ID has so many records.
-fn has_records(plan: &Plan, eid: Eid, count: usize) -> bool
-    ensures { MatchBool result (HasRecords plan.now eid.value count) (¬ HasRecords plan.now eid.value count) }
-{
-    for node in 0..plan.nodes.len() {
-        if is_holder(plan, node, eid, count) {
-            return true;
-        }
-    }
-    false
-}
-
-/// Whether a node holds the endpoint ID, and has so many records.
-fn is_holder(plan: &Plan, node: usize, eid: Eid, count: usize) -> bool
-    ensures { IsTrue result ↔ Holds plan.now node eid.value × (length (records_of plan.now node) ≡ count) }
-{
-    holds(plan, node, eid) && records_at(plan, node).len() == count
 }

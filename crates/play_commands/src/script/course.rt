@@ -1,8 +1,4 @@
 //! What happens next in a walk over a network.
-ghost use Rattle.std.specs.Prelude.{IfOk};
-ghost use Rattle.net_sim.specs.Outcomes.{event_value};
-ghost use Rattle.play_commands.specs.Scripting.{IsOfWalk};
-
 use command_questions::Flights;
 use mctp_transport::Key;
 use net_sim::{Effect, Handed, Outcome};
@@ -15,7 +11,7 @@ use std::collections::VecDeque;
 pub const TAG: u8 = 0;
 
 /// The number of the walker.
-const WALKER: usize = 1;
+pub const WALKER: usize = 1;
 
 /// What is under way in a network with one walker.
 #[derive(Drop)]
@@ -51,9 +47,7 @@ impl<'a> Course<'a> {
     /// The next event, once this has come of the last one. A flight moves on, or is lost; or else a request is
     /// answered, an open message is given up, or the walker asks, the next request or the last one again. Once it has
     /// all records, it is asked what it has collected.
-    pub fn next(&mut self, last: &Outcome) -> Result<Event, AllocError>
-        ensures { IfOk result (λ event. IsOfWalk (event_value event)) }
-    {
+    pub fn next(&mut self, last: &Outcome) -> Result<Event, AllocError> {
         self.note(last)?;
         if self.done {
             return Ok(Event::Collected { walker: WALKER });
@@ -71,9 +65,7 @@ impl<'a> Course<'a> {
     }
 
     /// Moves a flight once, or loses it, or moves a copy of it, behind which it follows later.
-    fn send(&mut self, flight: u32) -> Result<Event, AllocError>
-        ensures { IfOk result (λ event. IsOfWalk (event_value event)) }
-    {
+    fn send(&mut self, flight: u32) -> Result<Event, AllocError> {
         if self.lost.has(flight) {
             return Ok(Event::Lose { flight });
         }

@@ -1,23 +1,16 @@
 //! The text of the events of a walk.
-ghost use Rattle.std.specs.Prelude.{◌≡◌, IfOk, string_bytes};
-ghost use Rattle.play_commands.specs.ScriptTexts.{script_text, event_lines, event_text, expire_text, truth_word, bit_word};
-
 use mctp_transport::Key;
 use net_tables::lookup::node_name;
 use plan_values::{Event, Plan};
 use std::alloc::{AllocError, Global};
 
 /// The text of a list of events (format 3), an event a line.
-pub fn script_text(alloc: Global, plan: &Plan, events: &[Event]) -> Result<String, AllocError>
-    ensures { IfOk result (λ text. string_bytes text ≡ script_text plan.now events.now) }
-{
+pub fn script_text(alloc: Global, plan: &Plan, events: &[Event]) -> Result<String, AllocError> {
     let lines = event_lines(alloc, plan, events)?;
     format!(in alloc; "{{ \"format\": 3, \"events\": [{lines}\n] }}\n")
 }
 
-fn event_lines(alloc: Global, plan: &Plan, events: &[Event]) -> Result<String, AllocError>
-    ensures { IfOk result (λ text. string_bytes text ≡ event_lines plan.now events.now) }
-{
+fn event_lines(alloc: Global, plan: &Plan, events: &[Event]) -> Result<String, AllocError> {
     let mut lines = String::new(alloc);
     let [first, rest @ ..] = events else {
         return Ok(lines);
@@ -32,9 +25,7 @@ fn event_lines(alloc: Global, plan: &Plan, events: &[Event]) -> Result<String, A
 }
 
 /// An event of a walk. A walk has neither packets that are put in from outside nor nodes that switch.
-fn event_text(alloc: Global, plan: &Plan, event: &Event) -> Result<String, AllocError>
-    ensures { IfOk result (λ text. string_bytes text ≡ event_text plan.now event.now) }
-{
+fn event_text(alloc: Global, plan: &Plan, event: &Event) -> Result<String, AllocError> {
     match event {
         Event::Walk {
             node,
@@ -65,23 +56,13 @@ fn event_text(alloc: Global, plan: &Plan, event: &Event) -> Result<String, Alloc
     }
 }
 
-fn expire_text(alloc: Global, node: &str, key: &Key) -> Result<String, AllocError>
-    ensures { IfOk result (λ text. string_bytes text ≡ expire_text node.now key.now) }
-{
-    let (source, tag, owner) = (key.source.value, key.tag.value, bit_word(key.owner));
+fn expire_text(alloc: Global, node: &str, key: &Key) -> Result<String, AllocError> {
+    let (source, tag, owner) = (key.source.value, key.tag.value, u8::from(key.owner));
     format!(in alloc;
         "{{ \"do\": \"expire\", \"node\": \"{node}\", \"source\": {source}, \"tag\": {tag}, \"owner\": {owner} }}"
     )
 }
 
-fn truth_word(truth: bool) -> &'static str
-    ensures { result.now ≡ truth_word truth }
-{
+fn truth_word(truth: bool) -> &'static str {
     if truth { "true" } else { "false" }
-}
-
-fn bit_word(bit: bool) -> &'static str
-    ensures { result.now ≡ bit_word bit }
-{
-    if bit { "1" } else { "0" }
 }

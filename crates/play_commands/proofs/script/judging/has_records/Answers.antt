@@ -1,6 +1,6 @@
 use Rattle.std.proofs.Common.{arith, below_more}
 use Rattle.play_commands.proofs.Scripted.{no_records}
-use Rattle.play_commands.proofs.script.has_records.Goals as goal
+use Rattle.play_commands.proofs.script.judging.has_records.Goals as goal
 
 pub returns-then-is_holder : goal.returns-then-is_holder
 returns-then-is_holder c =

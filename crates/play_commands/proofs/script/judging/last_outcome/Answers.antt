@@ -6,7 +6,7 @@ use Rattle.net_sim.specs.Outcomes.{event_value, outcome_value}
 use Rattle.command_answers.proofs.Places.{starts_in}
 use Rattle.play_commands.proofs.Scripted.{ends_with, last_taken, no_item}
 use Rattle.play_commands.proofs.Simulated.{walks_in}
-use Rattle.play_commands.proofs.script.last_outcome.Goals as goal
+use Rattle.play_commands.proofs.script.judging.last_outcome.Goals as goal
 
 pub returns-clause-ends : goal.returns-clause-ends
 returns-clause-ends c =
