@@ -150,6 +150,7 @@ fn play_accepted<T: Terminus, O: Sink>(
         (map event_value events.now) result outputs }
     ensures promises { IsPromised accepted.entry.0 accepted.entry.1 }
 {
+    // (that the plan is accepted is known of it once it is taken out)
     let _plan = accepted.plan();
     let network = Network::start(alloc, accepted, termini)?;
     play_in(alloc, network, events, output)

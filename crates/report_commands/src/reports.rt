@@ -151,7 +151,8 @@ fn report_of_given(alloc: Global, name: &str, checked: &Checked) -> Result<Answe
     ensures answers { IfOk result (λ answer. ReportsWith checked.now.0 checked.now.1 answer.status (cow_str_bytes answer.text)) }
     ensures refused { IfErr result (λ why. why ≡ refused.NoMemory) }
 {
-    let _known = checked.plan();
+    // (that the plan is accepted is known of it once it is taken out)
+    let _plan = checked.plan();
     let page = accepted_page(alloc, name, "yes: the certificate fits the plan", checked)?;
     Ok(Answer::found(page))
 }
