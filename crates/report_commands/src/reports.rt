@@ -152,7 +152,7 @@ fn report_of_given(alloc: Global, name: &str, checked: &Checked) -> Result<Answe
     ensures refused { IfErr result (λ why. why ≡ refused.NoMemory) }
 {
     // (that the plan is accepted is known of it once it is taken out)
-    let _plan = checked.plan();
+    let _known = checked.plan();
     let page = accepted_page(alloc, name, "yes: the certificate fits the plan", checked)?;
     Ok(Answer::found(page))
 }
