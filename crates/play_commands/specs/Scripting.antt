@@ -1,6 +1,6 @@
 -- What `script` answers on a plan and its certificate.
-use Rattle.std.specs.Prelude.{◌≡◌, ◌≢◌, ◌⊎◌, ℕ, ◌-◌, ◌≤◌, List, ◌∷◌, length, map, slice_get, Option, Some, None, codes, string_bytes}
-use Rattle.std.specs.Prelude.{All, Err, ⊤, MatchOption}
+use Rattle.std.specs.Prelude.{◌≡◌, ◌≢◌, ◌⊎◌, ℕ, ◌-◌, ◌≤◌, List, ◌∷◌, length, map, slice_get, Option, Some, None}
+use Rattle.std.specs.Prelude.{All, Err, ⊤, MatchOption, codes, string_bytes}
 use Rattle.pdr_repository.specs.declared.walk_fault.WalkFault.{WalkFault}
 use Rattle.pdr_repository.specs.declared.walk_fault.WalkFault.TheVariants.{NotAsked}
 use Rattle.net_plan.specs.declared.error.PlanError.{PlanError}
@@ -60,7 +60,8 @@ IsOfWalk (Happening event) = ⊤
 -- the first event is the walk that node n is to ask for, and the others are of it
 abbrev pub AreOfWalk : ℕ → WalkScript → List Event → Type 0
 AreOfWalk n script events = (first : Event) × (rest : List Event) × (events ≡ first ∷ rest)
-    × (event_value first ≡ BeginWalk n script.eid.value 0 script.part.bytes) × All (λ (e : Event). IsOfWalk (event_value e)) rest
+    × (event_value first ≡ BeginWalk n script.eid.value 0 script.part.bytes)
+    × All (λ (e : Event). IsOfWalk (event_value e)) rest
 
 -- ---- runs
 
@@ -114,8 +115,8 @@ abbrev pub IsDoneBy : ℕ → WalkScript → Plan → Certificate → List Event
 IsDoneBy n script plan cert events = (last : WalkedOutcome) × AreOfWalk n script events
     × EndsWith plan cert (map event_value events) (Some last) × IsDone plan script.eid.value last
 
--- They are of it and a run, and it doesn't go on by the last of them, or a list has no more. The line tells what comes of
--- the last one.
+-- They are of it and a run, and it doesn't go on by the last of them, or a list has no more. The line tells what comes
+-- of the last one.
 abbrev pub IsStuckBy : ℕ → WalkScript → Plan → Certificate → List Event → List ℕ → Type 0
 IsStuckBy n script plan cert events line = (last : WalkedOutcome) × AreOfWalk n script events
     × EndsWith plan cert (map event_value events) (Some last) × (IsStuck last ⊎ (100000 ≤ length events))
