@@ -2,7 +2,6 @@
 use Rattle.std.proofs.Common.{◌≡◌, ◌≤◌, ◌<◌, ◌++◌, ℕ, zero, suc, List, [], ◌∷◌, length, get_or, append-nil, Option, Some, None, Result, Ok, Err, Bor, refl, sym, ◌∙◌, ap, subst, arith}
 use Rattle.std.specs.Prelude.{IfOk}
 use Rattle.json.specs.Json.{Json}
-use Rattle.json.specs.Strict.{keys}
 use Rattle.json.specs.Value.{members_view}
 use Rattle.net_plan.specs.Trees.{Tree}
 use Rattle.net_pointers.specs.Doubles.{HasDoubledKey, part_at}
