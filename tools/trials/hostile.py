@@ -2,13 +2,15 @@
 
 What is wanted is told from the texts: that a text that is cut off is no JSON (J01), that one of more than 16,777,216 bytes
 is too long (J08), that a plan of format 2 with the unit 64 has the answers of the same plan of format 1, and so on. Each
-run has a limit of processor time and of memory. The words choose among outputs, folders, beginnings, bytes, escapes, limits, sizes,
-formats and captures.
+run has a limit of processor time and of memory. Where a changed text stops being JSON, and what may stand there, is what a reader
+of JSON says that stands here. The words choose among outputs, folders, beginnings, bytes, places, escapes, limits, sizes, formats
+and captures.
 """
 import itertools
 import json
 import os
 import pathlib
+import random
 import re
 import subprocess
 import sys
@@ -107,6 +109,99 @@ def try_bytes(trial):
         expect(trial, "no UTF-8", ["check", trial.file("plan", it), certificate], unreadable("plan", "J01"))
 
     each(row, changed)
+
+
+class Stop(Exception):
+    """Where a text stops being JSON, and what may stand there; nothing where a list or an object nests too deep."""
+
+
+def past_blanks(text, at):
+    while text[at : at + 1] in (b" ", b"\t", b"\n", b"\r"):
+        at += 1
+    return at
+
+
+def past_token(text, at, wanted):
+    """Past the number, the word or the text in quotes that begins there."""
+    token = re.compile(rb'"(?:[^"\\]|\\.)*(?:"|\\?\Z)|.[0-9A-Za-z+.-]*', re.DOTALL).match(text, at)[0]
+    try:
+        value = json.loads(token)
+        is_sound = value not in (float("inf"), float("-inf")) and value == value and str(value).encode() is not None
+    except ValueError:
+        is_sound = False
+    if not is_sound:
+        raise Stop(at, wanted)
+    return at + len(token)
+
+
+def past_value(text, at, wanted, depth=0):
+    """Past the value that begins there, and the white space behind it."""
+    begin = text[at : at + 1]
+    if begin in (b"", b"]", b"}", b",", b":"):
+        raise Stop(at, wanted)
+    if begin not in (b"[", b"{"):
+        return past_blanks(text, past_token(text, at, wanted))
+    if depth == 127:
+        raise Stop(at, None)
+    end, wanted = (b"]", "a value or ']'") if begin == b"[" else (b"}", "a key in quotes or '}'")
+    at = past_blanks(text, at + 1)
+    if text[at : at + 1] == end:
+        return past_blanks(text, at + 1)
+    while True:
+        if begin == b"{":
+            if text[at : at + 1] != b'"':
+                raise Stop(at, wanted)
+            at = past_blanks(text, past_token(text, at, wanted))
+            if text[at : at + 1] != b":":
+                raise Stop(at, "':'")
+            at = past_value(text, past_blanks(text, at + 1), "a value", depth + 1)
+        else:
+            at = past_value(text, at, wanted, depth + 1)
+        if text[at : at + 1] == end:
+            return past_blanks(text, at + 1)
+        if text[at : at + 1] != b",":
+            raise Stop(at, f"',' or '{end.decode()}'")
+        at, wanted = past_blanks(text, at + 1), "a value" if begin == b"[" else "a key in quotes"
+
+
+def told_of(text):
+    """The line of `explain` on a text that is no JSON; none where it is."""
+    try:
+        text.decode()
+        end = past_value(text, past_blanks(text, 0), "a value")
+        if end == len(text):
+            return None
+        stop, words = end, "expected the end of the text."
+    except UnicodeDecodeError as why:
+        stop, words = why.start, "invalid UTF-8."
+    except Stop as why:
+        stop, wanted = why.args
+        words = f"expected {wanted}." if wanted else "nested 128 deep; the limit is 127."
+    before = text[:stop].decode()
+    return f"line {before.count(chr(10)) + 1}, column {len(before.split(chr(10))[-1]) + 1}: {words}"
+
+
+def try_places(trial):
+    """A small plan and a text with each part of JSON, each with random changes: where `explain` says that they stop being JSON."""
+    plan, _ = small_plan()
+    each_part = '{"a": [1, -2.5e+3,\ttrue, null, "x\\"y", []],\r\n"é\\u00e9": {"b":{}, "":[[0]]}}\n'.encode()
+    parts = [*'"\\{}[],:0-.+eEx/\'# \n\t\r\f\0é', "true", "1e400", "\\u", '"a"', "[]", '{"b":', "[" * 126, "[" * 127, "﻿"]
+    parts = [*(it.encode() for it in parts), b"\xff", b"\xc3"]
+    chance = random.Random(1)
+
+    def changed(text):
+        for _ in range(chance.choice((1, 1, 2))):
+            at = chance.randrange(len(text) + 1)
+            text = text[:at] + chance.choice([b"", *parts]) + text[at + chance.choice((0, 0, 1, 2)) :]
+        return text[: chance.randrange(len(text) + 1)] if chance.random() < 0.2 else text
+
+    def row(text):
+        status, output, error = trial.run(["explain", trial.file("plan", text)])
+        wanted, lines = told_of(text), output.decode().splitlines()
+        is_told = lines[:2] == ["unreadable plan: J01", wanted] if wanted else lines[:1] != ["unreadable plan: J01"]
+        trial.note(is_told and not error, f"places of J01: {text}: wanted {wanted}, got {status} {lines[:2]} {error[:100]}")
+
+    each(row, [changed(it) for it in (plan, each_part) for _ in range(300)])
 
 
 def try_escapes(trial):
@@ -303,6 +398,6 @@ def try_all(trial):
     # (with checks of each access a program reserves all addresses, and is slow)
     limits = "ulimit -t 600" if trial.is_unproved else f"ulimit -t {SECONDS}; ulimit -v {MOST_MEMORY // 1000}"
     trial.program = ["sh", "-c", f'{limits}; exec "$@"', "sh", *trial.program]
-    for part in (try_outputs, try_folders, try_beginnings, try_bytes, try_escapes, try_limits, try_sizes, try_formats, try_captures):
+    for part in (try_outputs, try_folders, try_beginnings, try_bytes, try_places, try_escapes, try_limits, try_sizes, try_formats, try_captures):
         if trial.has(part.__name__):
             part(trial)

@@ -57,9 +57,12 @@ place_data name position pointer =
 
 -- ---- the location in SARIF
 
--- all characters but letters, digits, '-', '.', '_', '~' and '/', as the bits of a number
+-- All characters but letters, digits, '-', '.', '_', '~' and '/', as the bits of a number: bit n is set where character
+-- n is escaped. From the right, eight digits stand for 32 characters: ffffffff for control characters, fc001fff for
+-- those from ' ' on without '-', '.', '/' and the digits, 78000001 for those from '@' on without the capitals and '_',
+-- b8000001 for those from '`' on without the small letters and '~'.
 abbrev pub escaped : AsciiSet
-escaped = record { mask = 244577951340790884343731537887740559359 }
+escaped = record { mask = 0xb800000178000001fc001fffffffffff }
 
 -- the name of a file as a reference (RFC 3986)
 abbrev pub uri_bytes : List ℕ → List ℕ

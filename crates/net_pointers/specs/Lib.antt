@@ -9,6 +9,5 @@ pub mod PartTokens
 pub mod Paths
 pub mod Offsets
 pub mod Scans
-pub mod Syntax
 pub mod TextTroubles
 pub mod Nearest

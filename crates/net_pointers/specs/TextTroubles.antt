@@ -9,16 +9,16 @@ use Rattle.net_plan.specs.declared.error.PlanError.{PlanError}
 use Rattle.net_plan.specs.declared.error.PlanError.TheVariants as error
 use Rattle.net_pointers.specs.Asks.{Sort}
 use Rattle.net_pointers.specs.OrderOfTests.{IsTold, fault_in}
-use Rattle.net_pointers.specs.Syntax.{IsStop}
 use Rattle.net_pointers.specs.declared.syntax.JsonFault.{JsonFault}
 use Rattle.net_pointers.specs.declared.syntax.JsonFault.TheVariants.{NotUtf8, Unreadable}
 use Rattle.net_pointers.specs.declared.texts.TextTrouble.{TextTrouble}
 use Rattle.net_pointers.specs.declared.texts.TextTrouble.TheVariants.{TooLong, NotJson, Wrong}
 
--- Where a text stops being JSON: at the first byte that is no UTF-8, or where nothing that is wanted stands.
+-- Where a text stops being JSON: at the first byte that is no UTF-8, or at some place of a text that is UTF-8. That it
+-- stops being JSON there, and what may stand there, is only tested.
 abbrev pub IsFaultOfJson : List ℕ → JsonFault → Type 0
 IsFaultOfJson text (NotUtf8 offset) = (¬ IsUtf8 text) × IsValidUpTo text offset
-IsFaultOfJson text (Unreadable offset wanted) = IsUtf8 text × IsStop text offset wanted
+IsFaultOfJson text (Unreadable offset wanted) = IsUtf8 text × (offset ≤ length text)
 
 -- the text is JSON of a tree of which P holds
 abbrev pub IsJsonOf : List ℕ → (Json → Type 0) → Type 0

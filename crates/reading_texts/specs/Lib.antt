@@ -1,5 +1,3 @@
 pub mod ReadingLines
-pub mod Standing
-pub mod SyntaxCauses
 pub mod TroubleLines
 pub mod TextErrors

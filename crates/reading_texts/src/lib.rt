@@ -8,7 +8,6 @@ ghost use Rattle.net_plan.specs.CertificateReading.{certificate};
 ghost use Rattle.net_plan.specs.CertificateText.{IsCertificateOf};
 ghost use Rattle.net_plan.specs.EventReading.{events};
 ghost use Rattle.net_plan.specs.EventText.{AreEventsOf};
-ghost use Rattle.net_plan.specs.Finding.{step_value};
 ghost use Rattle.net_plan.specs.PlanReading.{plan};
 ghost use Rattle.net_plan.specs.PlanText.{IsPlanOf};
 ghost use Rattle.net_plan.specs.Refusals.{IsNoValue};
@@ -24,7 +23,7 @@ ghost use Rattle.net_pointers.specs.TextTroubles.{IsToldOfNoValue};
 ghost use Rattle.reading_texts.specs.ReadingLines.{unread_code, unread_line};
 ghost use Rattle.reading_texts.specs.TextErrors.{IsFaultOfValue, IsNoValueTold, IsToldAs, IsToldOf, IsToldTooLong};
 ghost use Rattle.reading_texts.specs.declared.text_error.TextError.TheVariants.{Faulty};
-ghost use Rattle.reading_texts.specs.TroubleLines.{AreLines, AreTroubleLines, also_in, long_line};
+ghost use Rattle.reading_texts.specs.TroubleLines.{AreLines, AreTroubleLines};
 
 mod joined;
 mod names;
@@ -48,7 +47,7 @@ use plan_values::{Certificate, Event, Plan};
 pub use positions::pointer_text;
 use shapes::also_words;
 use std::alloc::{AllocError, Global};
-use syntax::json_line;
+use syntax::json_lines;
 pub use text_error::{TextError, TextFault};
 use twice::{doubled_key_lines, doubled_name_lines, overlap_lines};
 use values::value_line;
@@ -201,8 +200,10 @@ fn no_value_lines(alloc: Global, text: &[u8], trouble: &TextTrouble) -> Result<S
     ensures { IfOk result (λ lines. AreTroubleLines plan_text text.now trouble.now (string_bytes lines)) }
 {
     match trouble {
-        TextTrouble::TooLong(count) => long_line(alloc, *count),
-        TextTrouble::NotJson(fault) => json_line(alloc, text, *fault),
+        TextTrouble::TooLong(count) => {
+            format!(in alloc; "The text has {count} bytes; it may have 16777216.\n")
+        }
+        TextTrouble::NotJson(fault) => json_lines(alloc, text, *fault),
         TextTrouble::Wrong(_) => unreachable!(),
     }
 }
@@ -264,18 +265,9 @@ fn trouble_lines(
 }
 
 /// What else may stand where a pointer leads: of a plan the other format, and the endpoint IDs that a node has.
-fn also_in(sort: TextSort<'_>, pointer: &[PointerStep]) -> &'static str
-    ensures { result.now ≡ also_in (sort_of sort.entry) (map step_value pointer.now) }
-{
+fn also_in(sort: TextSort<'_>, pointer: &[PointerStep]) -> &'static str {
     match sort {
         TextSort::Plan => also_words(pointer),
         TextSort::Certificate(_) | TextSort::Events(_) => "",
     }
-}
-
-/// The line of a text that is too long.
-fn long_line(alloc: Global, count: usize) -> Result<String, AllocError>
-    ensures { IfOk result (λ line. string_bytes line ≡ long_line count) }
-{
-    format!(in alloc; "The text has {count} bytes; it may have 16777216.\n")
 }

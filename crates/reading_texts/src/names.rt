@@ -1,19 +1,20 @@
 //! A name that is that of nothing: where it stands, and the nearest name that exists.
-ghost use Rattle.std.specs.Prelude.{◌≡◌, ◌≤◌, [], true, is_some, length, map, get_or, IfOk, string_bytes};
-ghost use Rattle.net_plan.specs.Finding.{located, names_of, step_value};
+ghost use Rattle.std.specs.Prelude.{◌≡◌, [], true, is_some, map, get_or, IfOk, string_bytes};
+ghost use Rattle.net_plan.specs.Finding.{located, names_of};
 ghost use Rattle.net_plan.specs.Grammar.{grammar, known_view};
 ghost use Rattle.net_plan.specs.Trees.{view};
 ghost use Rattle.json.specs.Value.{value_view};
 ghost use Rattle.net_pointers.specs.Offsets.{IsTextOf};
 ghost use Rattle.net_pointers.specs.Pointers.{value_at};
-ghost use Rattle.reading_texts.specs.TroubleLines.{IsUnknownNameTold, named_there, named_noun, nearest_line, missing_words, named_twice, twins_line, unknown_line};
+ghost use Rattle.reading_texts.specs.ReadingLines.{Begins};
+ghost use Rattle.reading_texts.specs.TroubleLines.{IsUnknownNameTold, named_there, nearest_line};
 
 use crate::joined::joined;
-use crate::positions::{pointer_text, position_text};
+use crate::positions::place_text;
 use crate::values::{offset_there, text_of, value_at};
 use json::Value;
-use net_plan::{Found, KnownNames, Named, PointerStep, Shape, Word, names_of};
-use net_pointers::{TwoIndices, first_doubled, nearest_name};
+use net_plan::{Found, KnownNames, Named, Shape, Word, names_of};
+use net_pointers::{first_doubled, nearest_name};
 use std::alloc::{AllocError, Global};
 
 /// The lines of a name that is none of those that are known.
@@ -33,35 +34,19 @@ pub fn unknown_name_lines(
     let named = named_there(found.shape);
     let names = names_of(known, named);
     let nearest = nearest_name(alloc, name, names)?;
-    let twins = first_doubled(alloc, names)?;
     let nearest = nearest_line(alloc, names, nearest)?;
-    let twins = twins_line(alloc, names, named, twins)?;
-    let line = unknown_line(alloc, text, offset, found.pointer.as_slice(), name, named)?;
+    let twins = twins_line(alloc, names, named)?;
+    let place = place_text(alloc, text, offset, found.pointer.as_slice())?;
+    let line = unknown_line(alloc, &place, name, named)?;
     format!(in alloc; "{line}{nearest}{twins}")
 }
 
 /// The line that tells that two nodes have one name, so that a name which one of them had is that of none.
-fn twins_line(
-    alloc: Global,
-    names: &[&str],
-    named: Named,
-    twins: Option<TwoIndices>,
-) -> Result<String, AllocError>
-    ensures { IfOk result (λ line. string_bytes line ≡ twins_line (map (λ name. name.now) names.now) named twins) }
-{
-    match named {
-        Named::Buses => Ok(String::new(alloc)),
-        Named::Nodes => named_twice(alloc, names, twins),
-    }
-}
-
-fn named_twice(
-    alloc: Global,
-    names: &[&str],
-    twins: Option<TwoIndices>,
-) -> Result<String, AllocError>
-    ensures { IfOk result (λ line. string_bytes line ≡ named_twice (map (λ name. name.now) names.now) twins) }
-{
+fn twins_line(alloc: Global, names: &[&str], named: Named) -> Result<String, AllocError> {
+    let twins = match named {
+        Named::Buses => None,
+        Named::Nodes => first_doubled(alloc, names)?,
+    };
     match twins {
         Some(twins) => {
             let (first, second) = (twins.first, twins.second);
@@ -74,28 +59,15 @@ fn named_twice(
     }
 }
 
-fn unknown_line(
-    alloc: Global,
-    text: &[u8],
-    offset: usize,
-    pointer: &[PointerStep],
-    name: &str,
-    named: Named,
-) -> Result<String, AllocError>
-    requires { offset ≤ length text.now }
-    ensures { IfOk result (λ line. string_bytes line ≡ unknown_line text.now offset (map step_value pointer.now) name.now (named_noun named)) }
+fn unknown_line(alloc: Global, place: &str, name: &str, named: Named) -> Result<String, AllocError>
+    ensures { IfOk result (λ line. Begins place.now (string_bytes line)) }
 {
-    let position = position_text(alloc, text, Some(offset))?;
-    let pointer = pointer_text(alloc, pointer)?;
-    let stands = format!(in alloc; "{position}{pointer} is {name}")?;
-    let missing = missing_words(alloc, named_noun(named))?;
-    joined(alloc, &stands, &missing)
-}
-
-fn missing_words(alloc: Global, noun: &str) -> Result<String, AllocError>
-    ensures { IfOk result (λ words. string_bytes words ≡ missing_words noun.now) }
-{
-    format!(in alloc; "no {noun} has that name")
+    let is = format!(in alloc; "is {name}")?;
+    let missing = match named {
+        Named::Buses => "no bus has that name",
+        Named::Nodes => "no node has that name",
+    };
+    joined(alloc, place, &is, missing)
 }
 
 /// The line of the nearest name.
@@ -128,15 +100,5 @@ fn named_there(shape: &Shape) -> Named
     match shape {
         Shape::Plain(Word::Named(names)) => *names,
         _ => Named::Nodes,
-    }
-}
-
-/// What would have the name.
-fn named_noun(named: Named) -> &'static str
-    ensures { result.now ≡ named_noun named }
-{
-    match named {
-        Named::Buses => "bus",
-        Named::Nodes => "node",
     }
 }

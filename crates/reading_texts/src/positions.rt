@@ -2,7 +2,7 @@
 ghost use Rattle.std.specs.Prelude.{◌≡◌, ◌≤◌, length, map, IfOk, IfSome, string_bytes};
 ghost use Rattle.std.specs.List.{flat_map};
 ghost use Rattle.net_plan.specs.Finding.{step_value};
-ghost use Rattle.reading_texts.specs.ReadingLines.{position_text, step_text, pointer_text};
+ghost use Rattle.reading_texts.specs.ReadingLines.{place_text, position_text, step_text, pointer_text};
 
 use net_plan::PointerStep;
 use net_pointers::position_of;
@@ -35,6 +35,21 @@ pub fn pointer_text(alloc: Global, pointer: &[PointerStep]) -> Result<String, Al
         return "the whole text".to_string(alloc);
     }
     steps_text(alloc, pointer)
+}
+
+/// The line and the column of the value to which a pointer leads, and the pointer.
+pub fn place_text(
+    alloc: Global,
+    text: &[u8],
+    offset: usize,
+    pointer: &[PointerStep],
+) -> Result<String, AllocError>
+    requires { offset ≤ length text.now }
+    ensures { IfOk result (λ words. string_bytes words ≡ place_text text.now offset (map step_value pointer.now)) }
+{
+    let position = position_text(alloc, text, Some(offset))?;
+    let pointer = pointer_text(alloc, pointer)?;
+    format!(in alloc; "{position}{pointer}")
 }
 
 fn steps_text(alloc: Global, pointer: &[PointerStep]) -> Result<String, AllocError>

@@ -1,7 +1,7 @@
 //! Where a text stops being JSON.
-ghost use Rattle.std.specs.Prelude.{◌≡◌, ◌≤◌, length, IfOk, option_map, string_bytes};
+ghost use Rattle.std.specs.Prelude.{IfOk, string_bytes};
 ghost use Rattle.net_pointers.specs.TextTroubles.{IsFaultOfJson};
-ghost use Rattle.reading_texts.specs.TroubleLines.{json_line, syntax_line, wanted_words};
+ghost use Rattle.reading_texts.specs.TroubleLines.{AreJsonLines};
 
 use crate::positions::position_text;
 use crate::syntax_causes::{cause_line, encoding_line};
@@ -10,9 +10,9 @@ use std::alloc::{AllocError, Global};
 
 /// The line that tells where a text stops being JSON, and what may stand there; and a line that tells why, where the
 /// bytes there do.
-pub fn json_line(alloc: Global, text: &[u8], fault: JsonFault) -> Result<String, AllocError>
+pub fn json_lines(alloc: Global, text: &[u8], fault: JsonFault) -> Result<String, AllocError>
     requires { IsFaultOfJson text.now fault }
-    ensures { IfOk result (λ line. string_bytes line ≡ json_line text.now fault) }
+    ensures { IfOk result (λ lines. AreJsonLines text.now fault (string_bytes lines)) }
 {
     match fault {
         JsonFault::NotUtf8(offset) => {
@@ -22,26 +22,15 @@ pub fn json_line(alloc: Global, text: &[u8], fault: JsonFault) -> Result<String,
         }
         JsonFault::Unreadable(offset, wanted) => {
             let position = position_text(alloc, text, Some(offset))?;
-            let expected = syntax_line(alloc, &position, wanted_words(wanted))?;
+            let expected = expected_line(alloc, wanted)?;
             let cause = cause_line(text, offset);
-            format!(in alloc; "{expected}{cause}")
+            format!(in alloc; "{position}{expected}{cause}")
         }
     }
 }
 
-fn syntax_line(alloc: Global, position: &str, words: Option<&str>) -> Result<String, AllocError>
-    ensures { IfOk result (λ line. string_bytes line ≡ syntax_line position.now (option_map (λ w. w.now) words.entry)) }
-{
-    match words {
-        Some(words) => format!(in alloc; "{position}expected {words}.\n"),
-        None => format!(in alloc; "{position}nested 128 deep; the limit is 127.\n"),
-    }
-}
-
-/// What may stand where a text stops being JSON; none where it nests too deep.
-fn wanted_words(wanted: Wanted) -> Option<&'static str>
-    ensures { option_map (λ w. w.now) result ≡ wanted_words wanted }
-{
+/// What may stand where a text stops being JSON, or that it nests too deep there.
+fn expected_line(alloc: Global, wanted: Wanted) -> Result<String, AllocError> {
     let words = match wanted {
         Wanted::Value => "a value",
         Wanted::ValueOrEnd => "a value or ']'",
@@ -51,7 +40,7 @@ fn wanted_words(wanted: Wanted) -> Option<&'static str>
         Wanted::CommaOrEndOfList => "',' or ']'",
         Wanted::CommaOrEndOfObject => "',' or '}'",
         Wanted::End => "the end of the text",
-        Wanted::LessDepth => return None,
+        Wanted::LessDepth => return "nested 128 deep; the limit is 127.\n".to_string(alloc),
     };
-    Some(words)
+    format!(in alloc; "expected {words}.\n")
 }

@@ -1,6 +1,5 @@
 //! What stands twice, and where both stand.
-ghost use Rattle.std.specs.Prelude.{◌≡◌, ◌≤◌, ◌<◌, length, map, get_or, [], IfOk, IfSome, Some, option_map, string_bytes};
-ghost use Rattle.json.specs.Strict.{keys};
+ghost use Rattle.std.specs.Prelude.{◌≡◌, ◌≤◌, ◌<◌, length, map, IfOk, IfSome, Some, option_map, string_bytes};
 ghost use Rattle.json.specs.Value.{value_view, members_view};
 ghost use Rattle.net_plan.specs.Finding.{step_value};
 ghost use Rattle.net_plan.specs.Trees.{view};
@@ -8,7 +7,8 @@ ghost use Rattle.net_pointers.specs.Ascending.{DoOverlap};
 ghost use Rattle.net_pointers.specs.Asks.{list_key, name_key};
 ghost use Rattle.net_pointers.specs.Doubles.{HasDoubledKey, part_at};
 ghost use Rattle.net_pointers.specs.Offsets.{IsTextOf, LeadsToKey};
-ghost use Rattle.reading_texts.specs.TroubleLines.{two_lines, entry_pointer, IsDoubledNameTold, name_line, again_line, IsDoubledKeyTold, key_at, part_step, path_text, object_text, keys_in, key_line, key_again_line, AreRangesTold, IsOverlapTold, ends_before, overlap_line, overlap_of, range_pointer, range_line, range_words, next_range_line, why_once};
+ghost use Rattle.reading_texts.specs.ReadingLines.{Begins, pointer_text};
+ghost use Rattle.reading_texts.specs.TroubleLines.{two_lines, entry_pointer, IsDoubledNameTold, IsDoubledKeyTold, key_at, part_step, path_text, object_text, keys_in, IsOverlapTold, range_pointer};
 
 use crate::positions::{pointer_text, position_text};
 use crate::values::{offset_there, text_of, value_at};
@@ -29,58 +29,39 @@ pub fn doubled_name_lines(
     indices: TwoIndices,
 ) -> Result<String, AllocError>
     requires { IsTextOf text.now (value_view value.now) }
-    ensures { IfOk result (λ lines. IsDoubledNameTold text.now (view value.now) (list_key list) (name_key list) (why_once list) indices (string_bytes lines)) }
+    ensures { IfOk result (λ lines. IsDoubledNameTold text.now (view value.now) (list_key list) (name_key list) indices (string_bytes lines)) }
 {
-    let (why, key) = (why_once(list), name_key(list));
-    name_lines(alloc, text, value, list_key(list), key, why, indices)
+    let one = entry_pointer(list, indices.first);
+    let other = entry_pointer(list, indices.second);
+    let first = offset_of_pointer(alloc, text, value, &one)?;
+    let second = offset_of_pointer(alloc, text, value, &other)?;
+    let name = text_of(value_at(value, &one));
+    let one = name_line(alloc, &one, name)?;
+    let other = again_line(alloc, &other, name, why_once(list))?;
+    two_lines(alloc, text, first, second, &one, &other)
 }
 
 /// Why a list has a name once.
-fn why_once(list: NameList) -> &'static str
-    ensures { result.now ≡ why_once list }
-{
+fn why_once(list: NameList) -> &'static str {
     match list {
         NameList::Buses => "No two buses have one name",
         NameList::Levels | NameList::Places | NameList::Ranks => "A list names a node once",
     }
 }
 
-/// The lines of a name at a key of two items of the list at another. `why` says why it may not stand twice.
-fn name_lines(
-    alloc: Global,
-    text: &[u8],
-    value: &Value<'_>,
-    list: &'static str,
-    key: &'static str,
-    why: &str,
-    indices: TwoIndices,
-) -> Result<String, AllocError>
-    requires { IsTextOf text.now (value_view value.now) }
-    ensures { IfOk result (λ lines. IsDoubledNameTold text.now (view value.now) list.now key.now why.now indices (string_bytes lines)) }
-{
-    let one = entry_pointer(list, indices.first, key);
-    let other = entry_pointer(list, indices.second, key);
-    let first = offset_of_pointer(alloc, text, value, &one)?;
-    let second = offset_of_pointer(alloc, text, value, &other)?;
-    let name = text_of(value_at(value, &one));
-    let one = name_line(alloc, &one, name)?;
-    let other = again_line(alloc, &other, name, why)?;
-    two_lines(alloc, text, first, second, &one, &other)
-}
-
-/// The pointer to a value at a key of an item of a list.
-fn entry_pointer(list: &'static str, index: usize, key: &'static str) -> [PointerStep; 3]
-    ensures { map step_value result ≡ entry_pointer list.now index key.now }
+/// The pointer to the name of an item of a list.
+fn entry_pointer(list: NameList, index: usize) -> [PointerStep; 3]
+    ensures { map step_value result ≡ entry_pointer (list_key list) index (name_key list) }
 {
     [
-        PointerStep::Key(list),
+        PointerStep::Key(list_key(list)),
         PointerStep::Index(index),
-        PointerStep::Key(key),
+        PointerStep::Key(name_key(list)),
     ]
 }
 
 fn name_line(alloc: Global, pointer: &[PointerStep], name: &str) -> Result<String, AllocError>
-    ensures { IfOk result (λ line. string_bytes line ≡ name_line (map step_value pointer.now) name.now) }
+    ensures { IfOk result (λ line. Begins (pointer_text (map step_value pointer.now)) (string_bytes line)) }
 {
     let pointer = pointer_text(alloc, pointer)?;
     format!(in alloc; "{pointer} is {name}.\n")
@@ -92,7 +73,7 @@ fn again_line(
     name: &str,
     why: &str,
 ) -> Result<String, AllocError>
-    ensures { IfOk result (λ line. string_bytes line ≡ again_line (map step_value pointer.now) name.now why.now) }
+    ensures { IfOk result (λ line. Begins (pointer_text (map step_value pointer.now)) (string_bytes line)) }
 {
     let pointer = pointer_text(alloc, pointer)?;
     format!(in alloc; "{pointer} is {name} too.\n{why}.\n")
@@ -138,13 +119,13 @@ pub fn doubled_key_lines(
 }
 
 fn key_line(alloc: Global, object: &str, key: &str) -> Result<String, AllocError>
-    ensures { IfOk result (λ line. string_bytes line ≡ key_line object.now key.now) }
+    ensures { IfOk result (λ line. Begins object.now (string_bytes line)) }
 {
     format!(in alloc; "{object} has the key {key}.\n")
 }
 
 fn key_again_line(alloc: Global, object: &str, key: &str) -> Result<String, AllocError>
-    ensures { IfOk result (λ line. string_bytes line ≡ key_again_line object.now key.now) }
+    ensures { IfOk result (λ line. Begins object.now (string_bytes line)) }
 {
     format!(in alloc; "{object} has the key {key} again.\nAn object has a key once.\n")
 }
@@ -168,33 +149,23 @@ fn key_offset(
 }
 
 /// The key of a member of the object to which a path leads.
-fn key_of<'t>(value: &Value<'t>, path: &[usize], member: usize) -> &'t str
-    ensures { result.now ≡ get_or (keys_in (part_at path.now (value_view value.now))) member [] }
-{
-    match part_at(value, path) {
+fn key_of<'t>(value: &Value<'t>, path: &[usize], member: usize) -> &'t str {
+    let mut part = Some(value);
+    for index in path {
+        let Some(whole) = part else {
+            return "";
+        };
+        part = part_after(whole, *index);
+    }
+    match part {
         Some(Value::Object(members)) => key_at(members.as_slice(), member),
         _ => "",
     }
 }
 
-/// The part of a value to which a path leads.
-fn part_at<'v, 't>(value: &'v Value<'t>, path: &[usize]) -> Option<&'v Value<'t>>
-    ensures { option_map (λ v. value_view v.now) result ≡ part_at path.now (value_view value.now) }
-{
-    let mut part = Some(value);
-    for index in path {
-        let Some(whole) = part else {
-            return None;
-        };
-        part = part_after(whole, *index);
-    }
-    part
-}
-
 /// The key of a member; an empty one past the end.
 fn key_at<'t>(members: &[(&'t str, Value<'t>)], index: usize) -> &'t str
-    ensures at { result.now ≡ key_at index (members_view members.now) }
-    ensures among { result.now ≡ get_or (keys (members_view members.now)) index [] }
+    ensures { result.now ≡ key_at index (members_view members.now) }
 {
     match members.get(index) {
         Some(member) => member.0,
@@ -249,23 +220,7 @@ pub fn overlap_lines(
 ) -> Result<String, AllocError>
     requires text { IsTextOf text.now (value_view value.now) }
     requires overlap { DoOverlap (view value.now) overlap }
-    ensures { IfOk result (λ lines. IsOverlapTold text.now (view value.now) overlap (string_bytes lines)) }
-{
-    let mut lines = both_ranges(alloc, text, value, overlap)?;
-    lines.push_str(&overlap_of(alloc, value, overlap)?)?;
-    Ok(lines)
-}
-
-/// Where two ranges of a node stand.
-fn both_ranges(
-    alloc: Global,
-    text: &[u8],
-    value: &Value<'_>,
-    overlap: Overlap,
-) -> Result<String, AllocError>
-    requires text { IsTextOf text.now (value_view value.now) }
-    requires overlap { DoOverlap (view value.now) overlap }
-    ensures { IfOk result (λ lines. AreRangesTold text.now overlap (string_bytes lines)) }
+    ensures { IfOk result (λ lines. IsOverlapTold text.now overlap (string_bytes lines)) }
 {
     let Some(next) = overlap.range.checked_add(1) else {
         // no memory: no list is so long.
@@ -275,22 +230,10 @@ fn both_ranges(
     let other = range_pointer(overlap.entry, next);
     let first = offset_there(alloc, text, value, &one)?;
     let second = offset_there(alloc, text, value, &other)?;
+    let why = overlap_line(alloc, value_at(value, &one), value_at(value, &other))?;
     let one = range_line(alloc, &one)?;
-    let other = next_range_line(alloc, &other)?;
+    let other = next_range_line(alloc, &other, &why)?;
     two_lines(alloc, text, Some(first), Some(second), &one, &other)
-}
-
-/// Which endpoint IDs two ranges of a node have.
-fn overlap_of(alloc: Global, value: &Value<'_>, overlap: Overlap) -> Result<String, AllocError>
-    ensures { IfOk result (λ line. string_bytes line ≡ overlap_of (view value.now) overlap) }
-{
-    let Some(next) = overlap.range.checked_add(1) else {
-        // no memory: no list is so long.
-        return Err(AllocError);
-    };
-    let one = range_pointer(overlap.entry, overlap.range);
-    let other = range_pointer(overlap.entry, next);
-    overlap_line(alloc, value_at(value, &one), value_at(value, &other))
 }
 
 /// Which endpoint IDs two ranges have, and whether they have some in common or stand in the wrong order.
@@ -298,9 +241,7 @@ fn overlap_line(
     alloc: Global,
     before: Option<&Value<'_>>,
     after: Option<&Value<'_>>,
-) -> Result<String, AllocError>
-    ensures { IfOk result (λ line. string_bytes line ≡ overlap_line (option_map (λ v. view v.now) before.entry) (option_map (λ v. view v.now) after.entry)) }
-{
+) -> Result<String, AllocError> {
     let stands_behind = ends_before(before, after);
     let before = range_words(alloc, before)?;
     let after = range_words(alloc, after)?;
@@ -311,9 +252,7 @@ fn overlap_line(
 }
 
 /// Whether the second range ends before the first one begins.
-fn ends_before(before: Option<&Value<'_>>, after: Option<&Value<'_>>) -> bool
-    ensures { result ≡ ends_before (option_map (λ v. view v.now) before.entry) (option_map (λ v. view v.now) after.entry) }
-{
+fn ends_before(before: Option<&Value<'_>>, after: Option<&Value<'_>>) -> bool {
     match (before, after) {
         (Some(before), Some(after)) => end_of_range(after) <= first_in_range(before),
         _ => false,
@@ -321,9 +260,7 @@ fn ends_before(before: Option<&Value<'_>>, after: Option<&Value<'_>>) -> bool
 }
 
 /// The first endpoint ID of a range and its last one.
-fn range_words(alloc: Global, range: Option<&Value<'_>>) -> Result<String, AllocError>
-    ensures { IfOk result (λ words. string_bytes words ≡ range_words (option_map (λ v. view v.now) range.entry)) }
-{
+fn range_words(alloc: Global, range: Option<&Value<'_>>) -> Result<String, AllocError> {
     match range {
         Some(range) => {
             let first = first_in_range(range);
@@ -346,15 +283,15 @@ fn range_pointer(entry: usize, range: usize) -> [PointerStep; 4]
 }
 
 fn range_line(alloc: Global, pointer: &[PointerStep]) -> Result<String, AllocError>
-    ensures { IfOk result (λ line. string_bytes line ≡ range_line (map step_value pointer.now)) }
+    ensures { IfOk result (λ line. Begins (pointer_text (map step_value pointer.now)) (string_bytes line)) }
 {
     let pointer = pointer_text(alloc, pointer)?;
     format!(in alloc; "{pointer} is one range.\n")
 }
 
-fn next_range_line(alloc: Global, pointer: &[PointerStep]) -> Result<String, AllocError>
-    ensures { IfOk result (λ line. string_bytes line ≡ next_range_line (map step_value pointer.now)) }
+fn next_range_line(alloc: Global, pointer: &[PointerStep], why: &str) -> Result<String, AllocError>
+    ensures { IfOk result (λ line. Begins (pointer_text (map step_value pointer.now)) (string_bytes line)) }
 {
     let pointer = pointer_text(alloc, pointer)?;
-    format!(in alloc; "{pointer} is the next one, and begins before that one has ended.\n")
+    format!(in alloc; "{pointer} is the next one, and begins before that one has ended.\n{why}")
 }

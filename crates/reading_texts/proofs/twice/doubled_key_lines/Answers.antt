@@ -1,8 +1,9 @@
-use Rattle.std.proofs.Common.{◌≡◌, ◌<◌, ℕ, List, [], length, get_or, string_bytes, ◌∙◌, sym, ap, subst}
+use Rattle.std.proofs.Common.{◌≡◌, ◌<◌, ℕ, List, length, string_bytes, rules, ◌∙◌, sym, ap, subst}
 use Rattle.json.specs.Value.{value_view}
 use Rattle.net_pointers.specs.Doubles.{part_at}
 use Rattle.net_pointers.specs.Offsets.{LeadsToKey}
-use Rattle.reading_texts.specs.TroubleLines.{keys_in, key_of, key_line, key_again_line, object_text}
+use Rattle.reading_texts.specs.ReadingLines.{Begins}
+use Rattle.reading_texts.specs.TroubleLines.{keys_in, object_text}
 use Rattle.reading_texts.proofs.DoubledTold.{key_told, members_there}
 use Rattle.reading_texts.proofs.twice.doubled_key_lines.Goals as goal
 
@@ -21,13 +22,11 @@ returns c =
     let text = c.args.text.now in
     let j = value_view c.args.value.now in
     let k = c.args.doubled.now in
-    let key = c.key_of-key.result.now in
     let whole = string_bytes c.in_ok-object.object in
     let path : c.as_slice-path.result.now ≡ k.path.items = c.as_slice-path.ensures.value in
-    let the_key : key ≡ key_of j k = c.key_of-key.ensures ∙ ap (λ (is : List ℕ). get_or (keys_in (part_at is j)) k.members.first []) path in
     let the_object : whole ≡ object_text k.path.items j = c.in_ok-object.ensures ∙ ap (λ (is : List ℕ). object_text is j) path in
-    let one : c.deref-3.result.now ≡ key_line whole key = c.deref-3.ensures ∙ (c.in_ok-one.ensures ∙ ap (λ w. key_line w key) c.deref.ensures) in
-    let other : c.deref-4.result.now ≡ key_again_line whole key = c.deref-4.ensures ∙ (c.in_ok-other.ensures ∙ ap (λ w. key_again_line w key) c.deref-2.ensures) in
+    let one : Begins whole c.deref-3.result.now = search rules in
+    let other : Begins whole c.deref-4.result.now = search rules in
     let first : LeadsToKey text k.path.items k.members.first c.in_ok-first.first = subst (λ (is : List ℕ). LeadsToKey text is k.members.first c.in_ok-first.first) path c.in_ok-first.ensures in
     let second : LeadsToKey text k.path.items k.members.second c.in_ok-second.second = subst (λ (is : List ℕ). LeadsToKey text is k.members.second c.in_ok-second.second) path c.in_ok-second.ensures in
-    key_told string_bytes text j k key whole c.deref-3.result.now c.deref-4.result.now c.in_ok-first.first c.in_ok-second.second c.two_lines.result the_key the_object one other first second c.two_lines.ensures
+    key_told string_bytes text j k whole c.deref-3.result.now c.deref-4.result.now c.in_ok-first.first c.in_ok-second.second c.two_lines.result the_object one other first second c.two_lines.ensures

@@ -1,12 +1,9 @@
 use Rattle.std.proofs.Common.{◌≡◌, map, drop, option_map, option_and_then}
-use Rattle.json.specs.Value.{value_view}
+use Rattle.net_plan.specs.Finding.{step_value}
 use Rattle.net_plan.specs.Trees.{view}
 use Rattle.net_pointers.specs.Pointers.{value_at}
-use Rattle.net_plan.specs.Finding.{step_value}
-use Rattle.reading_texts.specs.TroubleLines.{tree_at}
 use Rattle.reading_texts.proofs.values.value_at.Given as goal
 
 abbrev pub invariant-loop-step : goal.invariant-loop-step
 invariant-loop-step l =
-    (option_and_then (value_at (map step_value (drop l.step-index l.pointer))) (option_map (λ v. view v.now) l.part) ≡ value_at (map step_value l.pointer) (view l.value))
-    × (option_and_then (tree_at (map step_value (drop l.step-index l.pointer))) (option_map (λ v. value_view v.now) l.part) ≡ tree_at (map step_value l.pointer) (value_view l.value))
+    option_and_then (value_at (map step_value (drop l.step-index l.pointer))) (option_map (λ v. view v.now) l.part) ≡ value_at (map step_value l.pointer) (view l.value)
