@@ -8,6 +8,7 @@ that its rows name; with an endpoint ID the ways of its packets. Where Graphviz'
 each drawing and draw as many nodes and edges, and docs/server.svg must be what it makes of the server's drawing, where it is
 of the version that made it.
 """
+import functools
 import json
 import random
 import re
@@ -23,7 +24,7 @@ HEAD = [
     (("node",), {"fontsize": "10", "height": "0.2", "margin": "0.04"}),
     (("edge",), {"fontsize": "9"}),
 ]
-RANDOM = 40
+RANDOM = 25
 
 
 class NoDrawing(Exception):
@@ -294,6 +295,13 @@ def fault_in_picture(drawn, statements):
     return "" if got == wanted else f"dot: {got[0]} nodes and {got[1]} edges, {wanted[0]} and {wanted[1]} are meant"
 
 
+@functools.cache
+def obstacle(trial, plan):
+    """The line of what rules certificates of a plan out; '' where it has one."""
+    status, told, _ = trial.run(["certify", plan])
+    return told.decode() if status else ""
+
+
 def fault_of(trial, files, rows):
     """What is wrong with a drawing; '' where nothing is, and none where the certificate doesn't fit."""
     status, drawn, error = trial.run(["draw", *files, *rows])
@@ -304,12 +312,12 @@ def fault_of(trial, files, rows):
         return f"status {status}: {error}"
     plan = json.loads(files[0].read_text())
     certificate = json.loads(files[1].read_text()) if len(files) == 2 else None
-    line = "" if certificate else trial.run(["certify", files[0]])[1].decode()
+    line = "" if certificate else obstacle(trial, files[0])
     try:
         got = Drawing(drawn.decode()).statements
     except NoDrawing as why:
         return str(why)
-    wanted = Wanted(plan, certificate, "" if line.startswith("{") else line).of(rows)
+    wanted = Wanted(plan, certificate, line).of(rows)
     if got != wanted:
         return f"{[it for it in got if it not in wanted]} for {[it for it in wanted if it not in got]}, {len(got)} statements for {len(wanted)}"
     return fault_in_picture(drawn, got[len(HEAD) :]) if shutil.which("dot") else ""

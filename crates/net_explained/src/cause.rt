@@ -1,5 +1,4 @@
 //! Why a plan breaks a rule at an index.
-use crate::rest::Stretch;
 use mctp_transport::Eid;
 use pdr_record::RecordError;
 
@@ -19,34 +18,21 @@ pub enum Cause {
     },
     /// C04: the row covers nothing, or more than can be assigned.
     RowOutOfRange,
-    /// C05: an earlier row of the node covers one of the row's endpoint IDs. Of each of the two the first stretch that
-    /// no other row covers, if there is one.
+    /// C05: an earlier row of the node covers one of the row's endpoint IDs.
     OverlappedRow {
         earlier: usize,
         eid: Eid,
-        rest: Option<Stretch>,
-        earlier_rest: Option<Stretch>,
     },
-    /// C06: the row leads back to its own node. The first node that would fit in its place, if there is one.
-    NextIsItself {
-        next: Option<usize>,
-    },
-    /// C06: the node has no such port. The first port by which the row would name a neighbor, if there is one.
-    NoSuchPort {
-        fitting: Option<usize>,
-    },
-    /// C06: the next node has no port on the bus of the row's port. The first port that would fit, if there is one, and
-    /// the first node that would.
+    /// C06: the row leads back to its own node.
+    NextIsItself,
+    /// C06: the node has no such port.
+    NoSuchPort,
+    /// C06: the next node has no port on the bus of the row's port.
     NextNotOnBus {
         bus: usize,
-        fitting: Option<usize>,
-        next: Option<usize>,
     },
-    /// C06: the row covers several endpoint IDs and leads to an endpoint. The first node that would fit, if there is
-    /// one.
-    EndpointForSeveral {
-        next: Option<usize>,
-    },
+    /// C06: the row covers several endpoint IDs and leads to an endpoint.
+    EndpointForSeveral,
     /// C07: the owner is no bridge.
     OwnerIsEndpoint {
         owner: usize,
