@@ -2,11 +2,11 @@
 
 Each plan in examples/ is drawn alone, and with each certificate beside it that fits it; so are random plans, with loops of
 rows and of owners, nodes of one name, ports without an address and rows of no endpoint ID. What a drawing must have is made
-once more from the plan, its certificate and the line of certify, as docs/FORMATS.md says: each bus, node, port and owner once
-and in order, with its label, shape and color, and the hops of a loop of rows; with --rows the arrows from each node to those
-that its rows name; with an endpoint ID the ways of its packets. Where Graphviz' dot is there (Debian: graphviz), it must read
-each drawing and draw as many nodes and edges, and docs/server.svg must be what it makes of the server's drawing, where it is
-of the version that made it.
+once more from the plan, its certificate and the line of certify, as docs/FORMATS.md says: each bus, node, port and owner
+once and in order, with its label, shape and color, and the hops of a loop of rows; with --rows the arrows from each node to
+those that its rows name; with an endpoint ID the ways of its packets. Where Graphviz' dot is there (Debian: graphviz), it
+must read each drawing and draw as many nodes and edges, and docs/server.svg must be what it makes of the server's drawing,
+where it is of the version that made it.
 """
 import functools
 import json
@@ -117,17 +117,18 @@ class Wanted:
 
     def of(self, rows):
         if not rows:
-            return HEAD + [*self.bus_lines()] + self.node_lines(self.loop) + [*self.port_lines()] + [*self.owner_lines()] + [*self.hop_lines()]
+            return [*HEAD, *self.bus_lines(), *self.node_lines(self.loop), *self.port_lines(), *self.owner_lines(), *self.hop_lines()]
         if len(rows) == 1:
-            return HEAD + self.node_lines(self.loop) + [*self.bundle_lines()] + [*self.hop_lines()]
-        return HEAD + self.node_lines([]) + [*self.way_lines(int(rows[1]))]
+            return [*HEAD, *self.node_lines(self.loop), *self.bundle_lines(), *self.hop_lines()]
+        return [*HEAD, *self.node_lines([]), *self.way_lines(int(rows[1]))]
 
     def bus_lines(self):
         for index, bus in enumerate(self.buses):
             yield (f"bus_{index}",), {"shape": "box", "height": "0.1", "style": "filled", "label": quoted(bus["name"])}
 
     def node_lines(self, red):
-        return [((f"node_{index}",), self.looks(index, node, "red" if index in red else "black")) for index, node in enumerate(self.nodes)]
+        for index, node in enumerate(self.nodes):
+            yield (f"node_{index}",), self.looks(index, node, "red" if index in red else "black")
 
     def looks(self, index, node, color):
         """The attributes of a node."""
@@ -162,8 +163,8 @@ class Wanted:
                 yield (f"node_{self.places[node['owner']]}", f"node_{index}"), looks
 
     def hop_lines(self):
-        if self.eid is not None:
-            yield from (((f"node_{one}", f"node_{other}"), round_looks(self.eid)) for one, other in zip(self.loop, self.loop[1:]))
+        for one, other in zip(self.loop, self.loop[1:]) if self.eid is not None else ():
+            yield (f"node_{one}", f"node_{other}"), round_looks(self.eid)
 
     def bundle_lines(self):
         for index, node in enumerate(self.nodes):

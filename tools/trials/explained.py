@@ -2,8 +2,8 @@
 
 Each plan of examples/ that has a certificate is broken at each number, name, row and record, in some ways each; of all
 these 500 are tried, evenly chosen. explain has to end with the status and the first line of certify. Of a plan that has a
-certificate it has to count what is there, and to tell the two nodes between which that allows most hops. Each edit is made in
-the plan's JSON, as its line says, and certify has to say of that what stands behind `then:`. fix has to print the plan
+certificate it has to count what is there, and to tell the two nodes between which that allows most hops. Each edit is made
+in the plan's JSON, as its line says, and certify has to say of that what stands behind `then:`. fix has to print the plan
 with just the edits that it tells: with status 0 certify has a certificate of it, and with status 1 it says of it what is
 printed. A line tells how many of the broken plans have an edit after which certify answers a certificate, and of how many
 fix prints a plan. The words choose among the plans.

@@ -36,7 +36,8 @@ IsNewFaultTold before after (OfPlan rule) fault lines = IsExplainedIn after
 IsNewFaultTold before after M02 fault lines = IsWayOnTold before after New fault lines
 IsNewFaultTold before after M03 fault lines = ⊥
 
--- the lines explain what the move breaks whatever the certificate; of plans that differ in more than rows by words alone
+-- the lines explain what the move breaks whatever the certificate, where the plans differ in more than rows by words
+-- alone
 abbrev pub IsMoveErrorTold : PlanFile → PlanFile → MoveError → List ℕ → Type 0
 IsMoveErrorTold before after (move_error.Differ node) lines = ⊤
 IsMoveErrorTold before after (move_error.Old fault) lines = IsWayOnTold before after Old fault lines

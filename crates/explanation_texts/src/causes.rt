@@ -44,8 +44,7 @@ pub fn cause_pieces(
             "Row " {At(at)} " has first " {RowFirst(at)} " and size " {RowSize(at)}
             ".\nA row covers one or more endpoint IDs, all of 8 to 254.\n"),
         Cause::OverlappedRow { earlier, eid } => overlap_pieces(alloc, at, earlier, eid),
-        Cause::NextIsItself =>
-            told!(alloc; "Row " {At(at)} " leads to " {name} " itself.\n"),
+        Cause::NextIsItself => told!(alloc; "Row " {At(at)} " leads to " {name} " itself.\n"),
         Cause::NoSuchPort => told!(alloc;
             "Row " {At(at)} " leaves by port " {RowPort(at)} ".\n" {name} " has " {PortCount(node)} ".\n"),
         Cause::NextNotOnBus { bus } => told!(alloc;

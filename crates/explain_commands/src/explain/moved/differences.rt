@@ -5,7 +5,7 @@ use command_answers::PlanText;
 use fault_texts::part_pointer;
 use net_plan::PointerStep;
 use net_tables::lookup::node_name;
-use plan_values::{Bus, Node, Plan, are_same};
+use plan_values::{Bus, Node, Plan, PlanPart, are_same};
 use std::alloc::{AllocError, Global};
 
 /// What is not the same in two plans.
