@@ -1,8 +1,9 @@
 """The edits that explain proposes of broken plans, and what fix makes of these: each does what is said of it.
 
 Each plan of examples/ that has a certificate is broken at each number, name, row and record, in some ways each; of all
-these 500 are tried, evenly chosen. explain has to end with the status and the first line of certify. Each edit is made in
-the plan's JSON, as its line says, and certify has to say of that what stands behind `then:`. fix has to print the plan
+these 500 are tried, evenly chosen. explain has to end with the status and the first line of certify. Of a plan that has a
+certificate it has to count what is there, and to tell the two nodes between which that allows most hops. Each edit is made
+in the plan's JSON, as its line says, and certify has to say of that what stands behind `then:`. fix has to print the plan
 with just the edits that it tells: with status 0 certify has a certificate of it, and with status 1 it says of it what is
 printed. A line tells how many of the broken plans have an edit after which certify answers a certificate, and of how many
 fix prints a plan. The words choose among the plans.
@@ -71,12 +72,18 @@ def change(holder, key, value):
     return lambda: holder.__setitem__(key, old)
 
 
-def broken_plans(trial):
-    """The texts of all broken plans."""
+def sound_plans(trial):
+    """The texts of all plans of the examples that have a certificate."""
     for path in sorted(TOP.glob("examples/*/plan*.json")):
-        plan = json.loads(path.read_text())
-        if not trial.has(str(path.relative_to(TOP))) or certified(trial, json.dumps(plan)) != "yes":
-            continue
+        text = json.dumps(json.loads(path.read_text()))
+        if trial.has(str(path.relative_to(TOP))) and certified(trial, text) == "yes":
+            yield text
+
+
+def broken_plans(texts):
+    """The texts of all broken plans."""
+    for text in texts:
+        plan = json.loads(text)
         for place in [*places(plan)]:
             back = change(*place)
             yield json.dumps(plan)
@@ -114,6 +121,19 @@ def certified(trial, text):
     return "yes" if status == 0 else lines[0]
 
 
+def summary(trial, text):
+    """The lines that sum a plan up that has a certificate."""
+    plan, certificate = json.loads(text), json.loads(said(trial, "certify", text)[1][0])
+    nodes, ranges = plan["nodes"], {it["node"]: it["ranges"] for it in certificate["ranks"]}
+    rank = lambda name, eid: next((it["rank"] for it in ranges.get(name, []) if it["first"] <= eid < it["first"] + it["size"]), 0)
+    pairs = [(rank(one["name"], other["eid"]), one["name"], other["name"]) for one in nodes for other in nodes]
+    # (the first of those with most)
+    hops, one, other = max(pairs, key=lambda it: it[0], default=(0, "", ""))
+    records = [it["terminus"]["records"] for it in nodes if it["terminus"]]
+    yield f"nodes {len(nodes)} buses {len(plan['buses'])} rows {sum(len(it['rows']) for it in nodes)} records {sum(map(len, records))}"
+    yield f"most hops {hops} from {one} to {other}" if hops else "most hops 0"
+
+
 def wrong_of(trial, text):
     """What is wrong with what explain says of a plan, and how many of its edits lead to a certificate; none of a plan that
     has no fault."""
@@ -121,6 +141,8 @@ def wrong_of(trial, text):
     status, lines = said(trial, "explain", text)
     if lines[0] != first or status != (0 if first == "yes" else 2 if first.startswith("unreadable") else 1):
         return f"explain says {lines[0]} where certify says {first}", 0
+    if status == 0 and lines[1:] != [*summary(trial, text)]:
+        return f"explain sums up: {lines[1:]}, {[*summary(trial, text)]} is meant", None
     if status != 1:
         return None, None
     edits = [at for at, line in enumerate(lines) if EDIT.fullmatch(line)]
@@ -151,8 +173,9 @@ def wrong_of_fix(trial, text):
 
 
 def try_all(trial):
-    texts = [*broken_plans(trial)]
-    chosen = texts[:: max(1, len(texts) // WANTED)][:WANTED]
+    sound = [*sound_plans(trial)]
+    texts = [*broken_plans(sound)]
+    chosen = sound + texts[:: max(1, len(texts) // WANTED)][:WANTED]
 
     def tried(text):
         try:

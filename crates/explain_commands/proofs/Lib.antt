@@ -1,7 +1,6 @@
 mod Explained
 mod ExplainedEvents
 mod Mended
-mod Differing
 mod Hops
 mod ExplainedMoves
 mod MovedTexts

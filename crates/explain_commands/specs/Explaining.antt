@@ -14,7 +14,6 @@ use Rattle.net_explained.specs.declared.hops.MostHops.{MostHops}
 use Rattle.net_explained.specs.declared.trial.Tried.{Tried}
 use Rattle.net_explained.specs.Causes.{IsCauseAt}
 use Rattle.net_explained.specs.Obstacles.{IsTried}
-use Rattle.net_explained.specs.Hops.{IsMostHops}
 use Rattle.plan_values.specs.declared.certificate.Certificate.{Certificate}
 use Rattle.plan_values.specs.declared.plan.Plan.{Plan}
 use Rattle.plan_values.specs.PlanValues.{plan_value}
@@ -82,17 +81,16 @@ pub record IsObstacleText (name text : List ℕ) (plan : Plan) (lines : List ℕ
   pub explained : IsExplainedThere name text plan obstacle rest
   pub written : lines ≡ line ++ rest
 
--- the text says yes and sums the plan up, with the most hops that the certificate allows between two nodes
-abbrev pub IsSummedUp : Plan → Certificate → List ℕ → Type 0
-IsSummedUp plan certificate text =
-    (most : Option MostHops) × IsMostHops plan certificate most × (text ≡ yes_line ++ summary_text plan most)
+-- the text says yes and sums the plan up, with hops between two nodes
+abbrev pub IsSummedUp : Plan → List ℕ → Type 0
+IsSummedUp plan text = (most : Option MostHops) × (text ≡ yes_line ++ summary_text plan most)
 
 -- The exact certificate of the plan fits it, and the text says yes and sums the plan up.
 pub record IsSoundText (plan : Plan) (text : List ℕ) : Type 0 where
   pub certificate : Certificate
   pub accepted : Accepts plan certificate
   pub exact : IsExact plan certificate
-  pub written : IsSummedUp plan certificate text
+  pub written : IsSummedUp plan text
 
 -- ---- a plan alone
 
@@ -157,7 +155,7 @@ pub record IsFaultExplained (name certified_by text : List ℕ) (plan : Plan) (c
 
 -- every rule holds of the plan and the certificate, and the text says yes and sums the plan up
 abbrev pub IsYesExplained : Plan → Certificate → List ℕ → Type 0
-IsYesExplained plan certificate text = Accepts plan certificate × IsSummedUp plan certificate text
+IsYesExplained plan certificate text = Accepts plan certificate × IsSummedUp plan text
 
 -- a run that says so of the plan in this text and the certificate ends so: as `check` ends of them
 abbrev pub IsBothExplained : List ℕ → List ℕ → List ℕ → Plan → Certificate → Status → List ℕ → Type 0

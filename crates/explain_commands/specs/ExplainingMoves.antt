@@ -1,5 +1,5 @@
 -- What `explain` prints of a move, and what the end of it says.
-use Rattle.std.specs.Prelude.{◌≡◌, ◌⊎◌, ℕ, List, ◌++◌}
+use Rattle.std.specs.Prelude.{◌≡◌, ◌⊎◌, ⊤, ℕ, List, ◌++◌}
 use Rattle.plan_values.specs.declared.certificate.Certificate.{Certificate}
 use Rattle.plan_values.specs.declared.plan.Plan.{Plan}
 use Rattle.net_rules.specs.declared.certify_error.CertifyError.{CertifyError}
@@ -20,7 +20,6 @@ use Rattle.command_answers.specs.declared.status.Status.TheVariants as status
 use Rattle.command_answers.specs.Answers.{Stream, GavePlanText}
 use Rattle.fault_texts.specs.RuledOutMoves.{IsMoveRuledOutBy}
 use Rattle.explain_commands.specs.Explaining.{IsExplainedThere, IsSummedUp}
-use Rattle.explain_commands.specs.MoveDifferences.{IsDifferenceTold}
 use Rattle.explain_commands.specs.MoveRows.{PlanFile, IsMixedLoopTold, IsWayOnTold}
 use Rattle.command_answers.specs.UnreadTexts.{IsUnreadText}
 
@@ -37,9 +36,10 @@ IsNewFaultTold before after (OfPlan rule) fault lines = IsExplainedIn after
 IsNewFaultTold before after M02 fault lines = IsWayOnTold before after New fault lines
 IsNewFaultTold before after M03 fault lines = ⊥
 
--- the lines explain what the move breaks whatever the certificate
+-- the lines explain what the move breaks whatever the certificate, where the plans differ in more than rows by words
+-- alone
 abbrev pub IsMoveErrorTold : PlanFile → PlanFile → MoveError → List ℕ → Type 0
-IsMoveErrorTold before after (move_error.Differ node) lines = IsDifferenceTold before after node lines
+IsMoveErrorTold before after (move_error.Differ node) lines = ⊤
 IsMoveErrorTold before after (move_error.Old fault) lines = IsWayOnTold before after Old fault lines
 IsMoveErrorTold before after (move_error.New fault) lines = IsNewFaultTold before after fault.rule fault lines
 IsMoveErrorTold before after (move_error.Both fault) lines = ⊥
@@ -63,12 +63,12 @@ pub record IsMoveObstacleText (before after : PlanFile) (lines : List ℕ) : Typ
 
 -- ---- a move that has a certificate
 
--- The exact certificate of the move fits it. The text says yes, and sums the plan before up with this certificate.
+-- The exact certificate of the move fits it. The text says yes, and sums the plan before up.
 pub record IsSoundMoveText (before after : Plan) (text : List ℕ) : Type 0 where
   pub certificate : Certificate
   pub accepted : AcceptsMove before after certificate
   pub exact : IsExactForMove before after certificate
-  pub written : IsSummedUp before certificate text
+  pub written : IsSummedUp before text
 
 -- ---- a run
 

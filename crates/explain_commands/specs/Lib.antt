@@ -2,5 +2,4 @@ pub mod Explaining
 pub mod ExplainingEvents
 pub mod Fixing
 pub mod MoveRows
-pub mod MoveDifferences
 pub mod ExplainingMoves

@@ -54,13 +54,13 @@ cause_subjects plan f (cause.SharedName m) = Number m ∷ Number f.node ∷ Name
 cause_subjects plan f cause.UnassignableEid = Name f.node ∷ Given (eid_number f.eid) ∷ []
 cause_subjects plan f (cause.SharedEid m) = Name m ∷ Name f.node ∷ Given (eid_number f.eid) ∷ []
 cause_subjects plan f cause.RowOutOfRange = At (entry_of f) ∷ RowFirst (entry_of f) ∷ RowSize (entry_of f) ∷ []
-cause_subjects plan f (cause.OverlappedRow i eid rest earlier_rest) = overlap_subjects (entry_of f) i eid.value
-cause_subjects plan f (cause.NextIsItself next) = At (entry_of f) ∷ Name f.node ∷ []
-cause_subjects plan f (cause.NoSuchPort fitting) =
+cause_subjects plan f (cause.OverlappedRow i eid) = overlap_subjects (entry_of f) i eid.value
+cause_subjects plan f cause.NextIsItself = At (entry_of f) ∷ Name f.node ∷ []
+cause_subjects plan f cause.NoSuchPort =
     At (entry_of f) ∷ RowPort (entry_of f) ∷ Name f.node ∷ PortCount f.node ∷ []
-cause_subjects plan f (cause.NextNotOnBus bus fitting next) =
+cause_subjects plan f (cause.NextNotOnBus bus) =
     At (entry_of f) ∷ RowPort (entry_of f) ∷ RowNext (entry_of f) ∷ BusName bus ∷ RowNext (entry_of f) ∷ []
-cause_subjects plan f (cause.EndpointForSeveral next) =
+cause_subjects plan f cause.EndpointForSeveral =
     At (entry_of f) ∷ RowSpan (entry_of f) ∷ RowNext (entry_of f) ∷ []
 cause_subjects plan f (cause.OwnerIsEndpoint owner) = Name f.node ∷ Name owner ∷ []
 cause_subjects plan f (cause.OwnerSharesNoBus owner) = Name f.node ∷ Name owner ∷ []

@@ -1,13 +1,12 @@
 -- What is named where a fault, a loop or a bad chain is explained.
-use Rattle.std.specs.Prelude.{◌≡◌, ℕ, ◌+◌, ◌-◌, ◌&&◌, ◌==◌, not, nat_le, nat_lt, Bool, length, take}
-use Rattle.std.specs.Prelude.{List, [], ◌∷◌, ◌++◌, Option, Some, None, option_and_then, option_map, find, position}
+use Rattle.std.specs.Prelude.{◌≡◌, ℕ, ◌+◌, ◌-◌, ◌&&◌, ◌==◌, nat_le, nat_lt, Bool, length, take}
+use Rattle.std.specs.Prelude.{List, [], ◌∷◌, Option, Some, None, option_and_then, option_map, position}
 use Rattle.std.specs.List.{flat_map}
 use Rattle.net_rules.specs.Faults.{site_of}
-use Rattle.net_tables.specs.Ownership.{owner_of, pool_of}
 use Rattle.net_rules.specs.Circles.{IsLoopFrom}
 use Rattle.net_rules.specs.RecordChains.{IsFollowedBy}
 use Rattle.net_tables.specs.Repositories.{records_of}
-use Rattle.net_tables.specs.Routing.{eid_of, rows_of}
+use Rattle.net_tables.specs.Routing.{rows_of}
 use Rattle.net_rules.specs.declared.certify_error.CertifyError.{CertifyError}
 use Rattle.net_rules.specs.declared.certify_error.CertifyError.TheVariants as error
 use Rattle.net_rules.specs.declared.certifying.chains.ChainFault.{ChainFault}
@@ -18,19 +17,18 @@ use Rattle.net_explained.specs.Causes.{IsCauseAt}
 use Rattle.plan_values.specs.declared.nodes.Row.{Row}
 use Rattle.plan_values.specs.declared.plan.Plan.{Plan}
 use Rattle.explanation_texts.specs.CauseSubjects.{cause_subjects}
-use Rattle.explanation_texts.specs.EditSubjects.{edit_subjects, has_eid}
-use Rattle.explanation_texts.specs.Pieces.{Tells, entry_at, handle_of, record_of}
+use Rattle.explanation_texts.specs.Pieces.{Tells, entry_at, record_of}
 use Rattle.explanation_texts.specs.declared.pieces.Entry.{Entry}
 use Rattle.explanation_texts.specs.declared.pieces.Piece.{Piece}
-use Rattle.explanation_texts.specs.declared.pieces.Piece.TheVariants.{Number, Given, Name, OwnerName, EidOf, At}
+use Rattle.explanation_texts.specs.declared.pieces.Piece.TheVariants.{Given, Name, OwnerName, At}
 use Rattle.explanation_texts.specs.declared.pieces.Piece.TheVariants.{RowPort, RowBus, RowAddress, RowNext, Handle}
 use Rattle.explanation_texts.specs.declared.pieces.Piece.TheVariants.{NextHandle}
 
 -- ---- faults
 
--- a cause, and then the edits
+-- a cause, if there is one
 abbrev pub told_subjects : Plan → Fault → Option Cause → List Piece
-told_subjects plan fault (Some cause) = cause_subjects plan fault cause ++ edit_subjects plan fault cause
+told_subjects plan fault (Some cause) = cause_subjects plan fault cause
 told_subjects plan fault None = []
 
 -- that is named of the cause for which the plan breaks the fault's rule at the fault's place
@@ -56,31 +54,9 @@ row_for plan e n = record { node = n; index = position (covers_eid e) (rows_of p
 abbrev pub way_subjects : Entry → List Piece
 way_subjects at = At at ∷ RowPort at ∷ RowBus at ∷ RowAddress at ∷ RowNext at ∷ []
 
--- the way round for e, and e
-abbrev pub loop_subjects : Plan → ℕ → List ℕ → List Piece
-loop_subjects plan e nodes = flat_map (λ n. way_subjects (row_for plan e n)) (around nodes) ++ Number e ∷ []
-
--- the pool of a node's owner has the node's endpoint ID
-abbrev pub is_in_owners_pool : Plan → ℕ → Bool
-is_in_owners_pool plan n = has_eid (option_and_then (pool_of plan) (owner_of plan n)) (eid_of plan n)
-
--- the first of the nodes of which that is not so, if there is one
-abbrev pub outside_owners_pool : Plan → List ℕ → Option ℕ
-outside_owners_pool plan nodes = find (λ n. not (is_in_owners_pool plan n)) nodes
-
--- the node that is to have another owner, with its endpoint ID
-abbrev pub owned_anew : Option ℕ → List Piece
-owned_anew (Some n) = Name n ∷ EidOf n ∷ []
-owned_anew None = []
-
 -- a node, and its owner
 abbrev pub owner_subjects : ℕ → List Piece
 owner_subjects n = Name n ∷ OwnerName n ∷ []
-
--- the way round the owners, and the node whose owner is to be another
-abbrev pub owner_loop_subjects : Plan → List ℕ → List Piece
-owner_loop_subjects plan nodes =
-    flat_map owner_subjects (around nodes) ++ owned_anew (outside_owners_pool plan (around nodes))
 
 -- ---- chains
 
@@ -105,22 +81,11 @@ doubled_subjects plan n j = Given (record_before plan n (next_handle plan (entry
 abbrev pub record_subjects : Entry → List Piece
 record_subjects at = At at ∷ Handle at ∷ NextHandle at ∷ []
 
--- The record before record j is to end the chain. Where another one ends it already, that one is to lead on to j.
-abbrev pub opened_subjects : Plan → ℕ → ℕ → Option ℕ → List Piece
-opened_subjects plan n j (Some last) =
-    Handle (entry_at n j) ∷ Number last ∷ Given (record_before plan n (handle_of plan (entry_at n j))) ∷ []
-opened_subjects plan n j None = Given (record_before plan n (handle_of plan (entry_at n j))) ∷ []
-
--- the way round, and the edit that opens the circle
-abbrev pub circle_subjects : Plan → ℕ → ℕ → List ℕ → List Piece
-circle_subjects plan n j circle =
-    flat_map (λ k. record_subjects (entry_at n k)) (around circle)
-    ++ opened_subjects plan n j (record_before plan n (Some 0))
-
 -- that is named of the circle of the record: the records round which the next handles lead from it back to it
 abbrev pub IsNamedOfCircle : Plan → ℕ → ℕ → List Piece → Type 0
 IsNamedOfCircle plan n j named = (circle : List ℕ)
-    × IsLoopFrom (IsFollowedBy (records_of plan n)) j circle × (named ≡ circle_subjects plan n j circle)
+    × IsLoopFrom (IsFollowedBy (records_of plan n)) j circle
+    × (named ≡ flat_map (λ k. record_subjects (entry_at n k)) (around circle))
 
 -- that is named where a bad chain is told
 abbrev pub IsNamedOfChain : Plan → ℕ → ChainFault → ℕ → List Piece → Type 0
@@ -133,8 +98,9 @@ IsNamedOfChain plan n Circle j named = IsNamedOfCircle plan n j named
 -- that is named of what rules certificates of the plan out
 abbrev pub IsNamedOf : Plan → CertifyError → List Piece → Type 0
 IsNamedOf plan (error.Fault fault) named = IsNamedOfFault plan fault named
-IsNamedOf plan (error.OwnerLoop nodes) named = named ≡ owner_loop_subjects plan nodes.items
-IsNamedOf plan (error.Loop eid nodes) named = named ≡ loop_subjects plan eid.value nodes.items
+IsNamedOf plan (error.OwnerLoop nodes) named = named ≡ flat_map owner_subjects (around nodes.items)
+IsNamedOf plan (error.Loop eid nodes) named =
+    named ≡ flat_map (λ n. way_subjects (row_for plan eid.value n)) (around nodes.items)
 IsNamedOf plan (error.BadChain node kind entry) named = IsNamedOfChain plan node kind entry named
 IsNamedOf plan error.OutOfMemory named = ⊥
 

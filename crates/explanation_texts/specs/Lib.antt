@@ -1,6 +1,5 @@
 pub mod Pieces
 pub mod CauseSubjects
-pub mod EditSubjects
 pub mod Explanations
 pub mod CertificateSubjects
 pub mod SummaryLines

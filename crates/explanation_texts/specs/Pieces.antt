@@ -2,12 +2,10 @@
 use Rattle.std.specs.Prelude.{◌≡◌, ℕ, ◌+◌, ◌-◌, ◌*◌, ◌==◌, List, [], ◌∷◌, ◌++◌, codes, length, if◌then◌else◌}
 use Rattle.std.specs.Prelude.{Option, Some, None, option_map, option_and_then, slice_get}
 use Rattle.std.specs.Fmt.{decimal}
-use Rattle.std.specs.Int.{w32, to_le_bytes}
 use Rattle.std.specs.List.{flat_map}
-use Rattle.hex.specs.Hex.{encode_lower}
 use Rattle.net_tables.specs.Ownership.{owner_of, pool_of}
 use Rattle.net_tables.specs.Repositories.{records_of, terminus_of}
-use Rattle.net_tables.specs.Routing.{eid_of, ports_of, rows_of}
+use Rattle.net_tables.specs.Routing.{ports_of, rows_of}
 use Rattle.net_tables.specs.Rows.{bus_of}
 use Rattle.plan_values.specs.declared.nodes.Pool.{Pool}
 use Rattle.plan_values.specs.declared.nodes.Row.{Row}
@@ -16,7 +14,7 @@ use Rattle.plan_values.specs.declared.terminus.PlannedRecord.{PlannedRecord}
 use Rattle.pdr_record.specs.Codes.{code_of}
 use Rattle.net_tables.specs.Names.{address_on, node_name}
 use Rattle.plan_texts.specs.Lines.{number_or_dash}
-use Rattle.plan_texts.specs.LineParts.{address_text, bus_text, from_to, name_or_none, span_text}
+use Rattle.plan_texts.specs.LineParts.{address_text, bus_text, name_or_none, span_text}
 use Rattle.explanation_texts.specs.declared.pieces.Entry.{Entry}
 use Rattle.explanation_texts.specs.declared.pieces.Piece.{Piece}
 use Rattle.explanation_texts.specs.declared.pieces.Piece.TheVariants as piece
@@ -79,16 +77,6 @@ abbrev pub address_to : Plan → Option ℕ → Option Row → List ℕ
 address_to plan bus (Some row) = address_text (address_on plan row.next bus)
 address_to plan bus None = codes "-"
 
--- a byte as a plan writes bytes: in two hex digits, or a dash
-abbrev pub byte_text : Option ℕ → List ℕ
-byte_text (Some byte) = encode_lower (byte ∷ [])
-byte_text None = codes "-"
-
--- a handle as the bytes of a record have it: in eight hex digits, the lowest byte first, or a dash
-abbrev pub handle_bytes : Option ℕ → List ℕ
-handle_bytes (Some handle) = encode_lower (to_le_bytes w32 handle)
-handle_bytes None = codes "-"
-
 -- ---- pieces
 
 -- the text of a piece
@@ -96,16 +84,12 @@ abbrev pub piece_text : Plan → Piece → List ℕ
 piece_text plan (piece.Words words) = words.now
 piece_text plan (piece.Number number) = decimal number
 piece_text plan (piece.Given number) = number_or_dash number
-piece_text plan (piece.Span first last) = from_to first last
 piece_text plan (piece.Code why) = code_of why
 piece_text plan (piece.Name node) = node_name plan node
 piece_text plan (piece.OwnerName node) = owner_name plan (owner_of plan node)
 piece_text plan (piece.BusName bus) = bus_text plan (Some bus)
 piece_text plan (piece.PortCount node) = ports_text (length (ports_of plan node))
-piece_text plan (piece.EidOf node) = number_or_dash (eid_of plan node)
-piece_text plan (piece.EidByte node) = byte_text (eid_of plan node)
 piece_text plan (piece.Tid node) = number_or_dash (tid_of plan node)
-piece_text plan (piece.TidByte node) = byte_text (tid_of plan node)
 piece_text plan (piece.PoolSpan node) = pool_span (pool_of plan node)
 piece_text plan (piece.PoolFirst node) = number_or_dash (option_map (λ pool. pool.first.value) (pool_of plan node))
 piece_text plan (piece.PoolSize node) = number_or_dash (option_map (λ pool. pool.size) (pool_of plan node))
@@ -118,7 +102,6 @@ piece_text plan (piece.RowNext at) = name_or_none plan (option_map (λ row. row.
 piece_text plan (piece.RowBus at) = bus_text plan (bus_of_row plan at)
 piece_text plan (piece.RowAddress at) = address_to plan (bus_of_row plan at) (row_of plan at)
 piece_text plan (piece.Handle at) = number_or_dash (handle_of plan at)
-piece_text plan (piece.HandleBytes at) = handle_bytes (handle_of plan at)
 piece_text plan (piece.NextHandle at) = number_or_dash (option_map (λ r. r.next) (record_of plan at))
 piece_text plan (piece.DataLength at) =
     number_or_dash (option_and_then (λ r. data_length r.bytes.items) (record_of plan at))

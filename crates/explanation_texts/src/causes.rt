@@ -43,15 +43,14 @@ pub fn cause_pieces(
         Cause::RowOutOfRange => told!(alloc;
             "Row " {At(at)} " has first " {RowFirst(at)} " and size " {RowSize(at)}
             ".\nA row covers one or more endpoint IDs, all of 8 to 254.\n"),
-        Cause::OverlappedRow { earlier, eid, .. } => overlap_pieces(alloc, at, earlier, eid),
-        Cause::NextIsItself { .. } =>
-            told!(alloc; "Row " {At(at)} " leads to " {name} " itself.\n"),
-        Cause::NoSuchPort { .. } => told!(alloc;
+        Cause::OverlappedRow { earlier, eid } => overlap_pieces(alloc, at, earlier, eid),
+        Cause::NextIsItself => told!(alloc; "Row " {At(at)} " leads to " {name} " itself.\n"),
+        Cause::NoSuchPort => told!(alloc;
             "Row " {At(at)} " leaves by port " {RowPort(at)} ".\n" {name} " has " {PortCount(node)} ".\n"),
-        Cause::NextNotOnBus { bus, .. } => told!(alloc;
+        Cause::NextNotOnBus { bus } => told!(alloc;
             "Row " {At(at)} " leads by port " {RowPort(at)} " to " {RowNext(at)}
             ".\nThat port is on bus " {BusName(bus)} ", and " {RowNext(at)} " is not.\n"),
-        Cause::EndpointForSeveral { .. } => told!(alloc;
+        Cause::EndpointForSeveral => told!(alloc;
             "Row " {At(at)} " covers " {RowSpan(at)} ".\nIt leads to " {RowNext(at)}
             ", an endpoint.\nOnly a bridge can forward more than one endpoint ID.\n"),
         Cause::OwnerIsEndpoint { owner } => told!(alloc;

@@ -1,32 +1,27 @@
 //! What the command `explain` prints below its first line.
-ghost use Rattle.std.specs.Prelude.{◌≡◌, ◌==◌, IfOk, Some, not, position, string_bytes};
+ghost use Rattle.std.specs.Prelude.{◌≡◌, ◌==◌, IfOk, Some, position, string_bytes};
 ghost use Rattle.std.specs.List.{flat_map};
 ghost use Rattle.net_rules.specs.Certificates.{NamesObstacle};
 ghost use Rattle.net_rules.specs.Circles.{IsOnCircle};
-ghost use Rattle.net_tables.specs.Ownership.{pool_of};
 ghost use Rattle.net_rules.specs.RecordChains.{HaveNewHandles, IsBadChain, IsFollowedBy};
 ghost use Rattle.net_tables.specs.Repositories.{records_of};
 ghost use Rattle.net_tables.specs.Routing.{rows_of};
 ghost use Rattle.explanation_texts.specs.Explanations.{IsNamedOf, IsNamedOfChain, IsNamedOfCircle, IsNamedOfFault};
-ghost use Rattle.explanation_texts.specs.Explanations.{IsObstacleTold, around, circle_subjects, covers_eid, doubled_subjects};
-ghost use Rattle.explanation_texts.specs.Explanations.{is_in_owners_pool, loop_subjects, missing_subjects, next_handle};
-ghost use Rattle.explanation_texts.specs.Explanations.{opened_subjects, outside_owners_pool, owned_anew, owner_loop_subjects};
-ghost use Rattle.explanation_texts.specs.Explanations.{owner_subjects, record_before, record_subjects, row_for};
-ghost use Rattle.explanation_texts.specs.Explanations.{told_subjects, way_subjects};
+ghost use Rattle.explanation_texts.specs.Explanations.{IsObstacleTold, around, covers_eid, doubled_subjects};
+ghost use Rattle.explanation_texts.specs.Explanations.{missing_subjects, next_handle, owner_subjects, record_before, record_subjects};
+ghost use Rattle.explanation_texts.specs.Explanations.{row_for, told_subjects, way_subjects};
 ghost use Rattle.explanation_texts.specs.Pieces.{Tells, entry_at, subjects};
 
 use crate::causes::cause_pieces;
-use crate::edits::{edit_pieces, has_eid, may_be_unowned};
-use crate::lookups::{eid_of, handle_of, record_of};
+use crate::lookups::record_of;
 use crate::pieces::Piece::{
-    At, EidOf, Given, Handle, Name, NextHandle, Number, OwnerName, RowAddress, RowBus, RowNext,
-    RowPort,
+    At, Given, Handle, Name, NextHandle, OwnerName, RowAddress, RowBus, RowNext, RowPort,
 };
-use crate::pieces::{Entry, Piece, entry_at, followed_by, render, told};
+use crate::pieces::{Entry, Piece, entry_at, render, told};
 use mctp_transport::Eid;
 use net_explained::{Cause, circle_from, find_cause};
 use net_rules::{CertifyError, ChainFault, Fault};
-use net_tables::lookup::{owner_at, pool_at, records_at, rows_at};
+use net_tables::lookup::{records_at, rows_at};
 use plan_values::{Plan, PlannedRecord, Row};
 use std::alloc::{AllocError, Global};
 
@@ -53,8 +48,8 @@ fn obstacle_pieces(
 {
     match obstacle {
         CertifyError::Fault(fault) => fault_pieces(alloc, plan, fault),
-        CertifyError::OwnerLoop(nodes) => owner_loop_pieces(alloc, plan, nodes),
-        CertifyError::Loop(eid, nodes) => loop_pieces(alloc, plan, *eid, nodes),
+        CertifyError::OwnerLoop(nodes) => owners_pieces(alloc, around(nodes)),
+        CertifyError::Loop(eid, nodes) => ways_pieces(alloc, plan, *eid, around(nodes)),
         CertifyError::BadChain(node, kind, entry) => {
             chain_pieces(alloc, plan, *node, *kind, *entry)
         }
@@ -64,7 +59,7 @@ fn obstacle_pieces(
 
 // ---- faults
 
-/// Tells a cause of a fault, and edits that take it away.
+/// Tells a cause of a fault.
 pub fn cause_lines(
     alloc: Global,
     plan: &Plan,
@@ -73,52 +68,21 @@ pub fn cause_lines(
 ) -> Result<String, AllocError>
     ensures { IfOk result (λ text. Tells plan.now (told_subjects plan.now fault.now (Some cause)) (string_bytes text)) }
 {
-    let pieces = told_pieces(alloc, plan, fault, cause)?;
+    let pieces = cause_pieces(alloc, plan, fault, cause)?;
     render(alloc, plan, &pieces)
 }
 
-/// The cause of a fault, if the plan itself breaks the rule, and edits that take it away.
+/// The cause of a fault, if the plan itself breaks the rule.
 fn fault_pieces(alloc: Global, plan: &Plan, fault: &Fault) -> Result<Vec<Piece>, AllocError>
     ensures { IfOk result (λ pieces. IsNamedOfFault plan.now fault.now (subjects pieces.items)) }
 {
     match find_cause(plan, fault) {
-        Some(cause) => told_pieces(alloc, plan, fault, cause),
+        Some(cause) => cause_pieces(alloc, plan, fault, cause),
         None => Ok(Vec::new(alloc)),
     }
 }
 
-fn told_pieces(
-    alloc: Global,
-    plan: &Plan,
-    fault: &Fault,
-    cause: Cause,
-) -> Result<Vec<Piece>, AllocError>
-    ensures { IfOk result (λ pieces. subjects pieces.items ≡ told_subjects plan.now fault.now (Some cause)) }
-{
-    followed_by(
-        cause_pieces(alloc, plan, fault, cause)?,
-        &edit_pieces(alloc, plan, fault, cause)?,
-    )
-}
-
 // ---- loops
-
-/// The way round the nodes of a loop, a line a hop, for what is for the endpoint ID.
-fn loop_pieces(
-    alloc: Global,
-    plan: &Plan,
-    eid: Eid,
-    nodes: &[usize],
-) -> Result<Vec<Piece>, AllocError>
-    ensures { IfOk result (λ pieces. subjects pieces.items ≡ loop_subjects plan.now eid.value nodes.now) }
-{
-    let ways = ways_pieces(alloc, plan, eid, around(nodes))?;
-    followed_by(
-        ways,
-        &told!(alloc; "Hint: lead endpoint ID " {Number(usize::from(eid.value))}
-        " elsewhere by one of these rows, or by none.\n")?,
-    )
-}
 
 /// The nodes of a loop, each once: its list ends with the first node again.
 pub fn around(nodes: &[usize]) -> &[usize]
@@ -131,7 +95,7 @@ pub fn around(nodes: &[usize]) -> &[usize]
     }
 }
 
-/// How each node sends what is for the endpoint ID.
+/// How each node sends what is for the endpoint ID, a line a node.
 fn ways_pieces(
     alloc: Global,
     plan: &Plan,
@@ -182,19 +146,7 @@ fn covers_eid(row: &Row, eid: Eid) -> bool
 
 // ---- owners
 
-/// The way round the nodes of a loop of owners, a line an owner.
-fn owner_loop_pieces(alloc: Global, plan: &Plan, nodes: &[usize]) -> Result<Vec<Piece>, AllocError>
-    ensures { IfOk result (λ pieces. subjects pieces.items ≡ owner_loop_subjects plan.now nodes.now) }
-{
-    let nodes = around(nodes);
-    let owners = owners_pieces(alloc, nodes)?;
-    followed_by(
-        owners,
-        &owner_edit(alloc, plan, outside_owners_pool(plan, nodes))?,
-    )
-}
-
-/// The owner of each node.
+/// The owner of each node, a line a node.
 fn owners_pieces(alloc: Global, nodes: &[usize]) -> Result<Vec<Piece>, AllocError>
     ensures { IfOk result (λ pieces. subjects pieces.items ≡ flat_map owner_subjects nodes.now) }
 {
@@ -209,41 +161,6 @@ fn owner_pieces(alloc: Global, node: usize) -> Result<Vec<Piece>, AllocError>
     ensures { IfOk result (λ pieces. subjects pieces.items ≡ owner_subjects node) }
 {
     told!(alloc; "The owner of " {Name(node)} " is " {OwnerName(node)} ".\n")
-}
-
-/// The first of the nodes whose endpoint ID isn't in its owner's pool.
-fn outside_owners_pool(plan: &Plan, nodes: &[usize]) -> Option<usize>
-    ensures { result ≡ outside_owners_pool plan.now nodes.now }
-{
-    nodes
-        .iter()
-        .copied()
-        .find(|node| !is_in_owners_pool(plan, *node))
-}
-
-/// Whether the pool of a node's owner has the node's endpoint ID.
-fn is_in_owners_pool(plan: &Plan, node: usize) -> bool
-    ensures { result ≡ is_in_owners_pool plan.now node }
-{
-    match owner_at(plan, node) {
-        Some(owner) => has_eid(pool_at(plan, owner), eid_of(plan, node)),
-        None => false,
-    }
-}
-
-/// Which node is to have another owner.
-fn owner_edit(alloc: Global, plan: &Plan, node: Option<usize>) -> Result<Vec<Piece>, AllocError>
-    ensures { IfOk result (λ pieces. subjects pieces.items ≡ owned_anew node) }
-{
-    match node {
-        Some(node) if may_be_unowned(plan, node) =>
-            told!(alloc; "Hint: set the owner of " {Name(node)}
-            " to null,\nor to another bridge, whose pool has " {EidOf(node)} ".\n"),
-        Some(node) => told!(alloc; "Hint: set the owner of " {Name(node)}
-            " to another bridge,\nwhose pool has " {EidOf(node)} ".\n"),
-        None =>
-            told!(alloc; "Hint: set the owner of one of them to a bridge that is none of them.\n"),
-    }
 }
 
 // ---- chains
@@ -272,8 +189,7 @@ fn missing_pieces(alloc: Global, node: usize, index: usize) -> Result<Vec<Piece>
     ensures { IfOk result (λ pieces. subjects pieces.items ≡ missing_subjects node index) }
 {
     let at = entry_at(node, index);
-    told!(alloc; "Record " {At(at)} " has next handle " {NextHandle(at)} ".\nNo record has that handle.\n"
-        "Hint: let next be the handle of the record that is to follow, or 0 at the last one.\n")
+    told!(alloc; "Record " {At(at)} " has next handle " {NextHandle(at)} ".\nNo record has that handle.\n")
 }
 
 /// A record whose next handle an earlier record has too.
@@ -287,8 +203,7 @@ fn doubled_pieces(
 {
     let at = entry_at(node, index);
     let earlier = record_before(plan, node, next_handle(plan, at));
-    told!(alloc; "Records " {Given(earlier)} " and " {At(at)} " both have next handle " {NextHandle(at)} ".\n"
-        "Hint: let next of one of them be the handle of the record that is to follow it,\nor 0 at the last one.\n")
+    told!(alloc; "Records " {Given(earlier)} " and " {At(at)} " both have next handle " {NextHandle(at)} ".\n")
 }
 
 /// The next handle of a record.
@@ -315,7 +230,7 @@ fn first_leading_to(records: &[PlannedRecord], next: u32) -> Option<usize>
     records.iter().position(|record| record.next == next)
 }
 
-/// The way round the circle of a record, a line a record, and an edit that opens it.
+/// The way round the circle of a record, a line a record.
 fn circle_pieces(
     alloc: Global,
     plan: &Plan,
@@ -327,23 +242,8 @@ fn circle_pieces(
     ensures { IfOk result (λ pieces. IsNamedOfCircle plan.now node index (subjects pieces.items)) }
 {
     let circle = circle_from(alloc, records_at(plan, node), index)?;
-    let pieces = round_pieces(alloc, plan, node, index, &circle)?;
+    let pieces = records_pieces(alloc, node, around(&circle))?;
     Ok(pieces)
-}
-
-/// The way round a circle that is known, and an edit that opens it.
-fn round_pieces(
-    alloc: Global,
-    plan: &Plan,
-    node: usize,
-    index: usize,
-    circle: &[usize],
-) -> Result<Vec<Piece>, AllocError>
-    ensures { IfOk result (λ pieces. subjects pieces.items ≡ circle_subjects plan.now node index circle.now) }
-{
-    let records = records_pieces(alloc, node, around(circle))?;
-    let last = record_before(plan, node, Some(0));
-    followed_by(records, &opened_pieces(alloc, plan, node, index, last)?)
 }
 
 /// The handle and the next handle of each of these records.
@@ -361,23 +261,4 @@ fn record_pieces(alloc: Global, at: Entry) -> Result<Vec<Piece>, AllocError>
     ensures { IfOk result (λ pieces. subjects pieces.items ≡ record_subjects at) }
 {
     told!(alloc; "Record " {At(at)} ": handle " {Handle(at)} " next " {NextHandle(at)} "\n")
-}
-
-/// An edit that opens the circle of a record before it.
-fn opened_pieces(
-    alloc: Global,
-    plan: &Plan,
-    node: usize,
-    index: usize,
-    last: Option<usize>,
-) -> Result<Vec<Piece>, AllocError>
-    ensures { IfOk result (λ pieces. subjects pieces.items ≡ opened_subjects plan.now node index last) }
-{
-    let at = entry_at(node, index);
-    let before = Given(record_before(plan, node, handle_of(plan, at)));
-    match last {
-        Some(last) => told!(alloc; "Hint: let next be " {Handle(at)} " at record " {Number(last)}
-            ", and 0 at record " {before} ".\n"),
-        None => told!(alloc; "Hint: let next be 0 at record " {before} ".\n"),
-    }
 }

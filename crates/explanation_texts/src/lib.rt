@@ -1,9 +1,8 @@
-//! Why answers about plans are so, in sentences, and what would help.
+//! Why answers about plans are so, in sentences, and which edits would help.
 #![tactic(auto)]
 
 mod causes;
 mod certificates;
-mod edits;
 mod explanations;
 mod lookups;
 mod pieces;

@@ -1,9 +1,8 @@
 //! What a message names of a plan, looked up and written.
 ghost use Rattle.std.specs.Prelude.{◌≡◌, ◌++◌, codes, option_and_then, option_map, IfOk, string_bytes};
-ghost use Rattle.net_tables.specs.Routing.{eid_of};
 ghost use Rattle.net_tables.specs.Names.{node_name};
 ghost use Rattle.plan_texts.specs.Lines.{number_or_dash};
-ghost use Rattle.explanation_texts.specs.Pieces.{row_of, bus_of_row, record_of, handle_of, tid_of, data_length, row_span, pool_span, owner_name, ports_text, address_to, byte_text, handle_bytes};
+ghost use Rattle.explanation_texts.specs.Pieces.{row_of, bus_of_row, record_of, handle_of, tid_of, data_length, row_span, pool_span, owner_name, ports_text, address_to};
 
 use crate::pieces::Entry;
 use net_tables::lookup::{address_on, bus_at, node_name, record_at, row_at, terminus_at};
@@ -50,13 +49,6 @@ fn data_length(bytes: &[u8]) -> Option<usize>
     ensures { result ≡ data_length bytes.now }
 {
     Some(usize::from(*bytes.get(8)?) + 256 * usize::from(*bytes.get(9)?))
-}
-
-/// The endpoint ID of a node.
-pub fn eid_of(plan: &Plan, node: usize) -> Option<u8>
-    ensures { result ≡ eid_of plan.now node }
-{
-    Some(plan.nodes.get(node)?.eid.value)
 }
 
 /// The terminus ID of a node.
@@ -131,26 +123,6 @@ pub fn address_to(
 {
     match row {
         Some(row) => address_text(alloc, address_on(plan, row.next, bus)),
-        None => "-".to_string(alloc),
-    }
-}
-
-/// A byte as a plan writes bytes.
-pub fn byte_text(alloc: Global, byte: Option<u8>) -> Result<String, AllocError>
-    ensures { IfOk result (λ text. string_bytes text ≡ byte_text byte) }
-{
-    match byte {
-        Some(byte) => hex::encode(alloc, [byte].as_slice()),
-        None => "-".to_string(alloc),
-    }
-}
-
-/// A handle as the bytes of a record have it.
-pub fn handle_bytes(alloc: Global, handle: Option<u32>) -> Result<String, AllocError>
-    ensures { IfOk result (λ text. string_bytes text ≡ handle_bytes handle) }
-{
-    match handle {
-        Some(handle) => hex::encode(alloc, handle.to_le_bytes().as_slice()),
         None => "-".to_string(alloc),
     }
 }

@@ -5,12 +5,12 @@ ghost use Rattle.explanation_texts.specs.Pieces.{entry_at, piece_text, rendered,
 ghost use Rattle.explanation_texts.specs.declared.pieces.Piece.TheVariants.{Number};
 
 use crate::lookups::{
-    address_to, at_text, bus_of_row, byte_text, data_length_of, eid_of, handle_bytes, handle_of,
-    owner_name, pool_span, ports_text, record_of, row_of, row_span, tid_of,
+    address_to, at_text, bus_of_row, data_length_of, handle_of, owner_name, pool_span, ports_text,
+    record_of, row_of, row_span, tid_of,
 };
 use net_tables::lookup::{node_name, owner_at, pool_at, ports_at};
 use pdr_record::{HEADER_LENGTH, RecordError};
-use plan_texts::{bus_text, from_to, name_or_none, number_text};
+use plan_texts::{bus_text, name_or_none, number_text};
 use plan_values::Plan;
 use std::alloc::{AllocError, Global};
 
@@ -40,8 +40,6 @@ pub enum Piece {
     Number(usize),
     /// A number that may not be given: an index or an endpoint ID.
     Given(Option<usize>),
-    /// The endpoint IDs from one to another, or the one.
-    Span(usize, usize),
     /// The code for which bytes are no record.
     Code(RecordError),
     Name(usize),
@@ -50,12 +48,8 @@ pub enum Piece {
     BusName(usize),
     /// How many ports a node has.
     PortCount(usize),
-    /// The endpoint ID of a node, and the byte in hex.
-    EidOf(usize),
-    EidByte(usize),
-    /// The terminus ID of a node, and the byte in hex.
+    /// The terminus ID of a node.
     Tid(usize),
-    TidByte(usize),
     /// What a node's pool has, its first endpoint ID and its size.
     PoolSpan(usize),
     PoolFirst(usize),
@@ -71,9 +65,8 @@ pub enum Piece {
     RowNext(Entry),
     RowBus(Entry),
     RowAddress(Entry),
-    /// A record's handle, its bytes in hex, and the next handle.
+    /// A record's handle, and the next handle.
     Handle(Entry),
-    HandleBytes(Entry),
     NextHandle(Entry),
     /// How many bytes a record has, how many behind the header, and how many these are by its header.
     Length(Entry),
@@ -142,16 +135,12 @@ fn piece_text(alloc: Global, plan: &Plan, piece: Piece) -> Result<String, AllocE
         Piece::Words(words) => words.to_string(alloc),
         Piece::Number(number) => number_text(alloc, Some(number)),
         Piece::Given(number) => number_text(alloc, number),
-        Piece::Span(first, last) => from_to(alloc, first, last),
         Piece::Code(why) => why.code().to_string(alloc),
         Piece::Name(node) => node_name(plan, node).to_string(alloc),
         Piece::OwnerName(node) => owner_name(plan, owner_at(plan, node)).to_string(alloc),
         Piece::BusName(bus) => bus_text(plan, Some(bus)).to_string(alloc),
         Piece::PortCount(node) => ports_text(alloc, ports_at(plan, node).len()),
-        Piece::EidOf(node) => number_text(alloc, eid_of(plan, node).map(|eid| usize::from(eid))),
-        Piece::EidByte(node) => byte_text(alloc, eid_of(plan, node)),
         Piece::Tid(node) => number_text(alloc, tid_of(plan, node).map(|tid| usize::from(tid))),
-        Piece::TidByte(node) => byte_text(alloc, tid_of(plan, node)),
         Piece::PoolSpan(node) => pool_span(alloc, pool_at(plan, node)),
         Piece::PoolFirst(node) => number_text(
             alloc,
@@ -175,7 +164,6 @@ fn piece_text(alloc: Global, plan: &Plan, piece: Piece) -> Result<String, AllocE
         Piece::RowBus(at) => bus_text(plan, bus_of_row(plan, at)).to_string(alloc),
         Piece::RowAddress(at) => address_to(alloc, plan, bus_of_row(plan, at), row_of(plan, at)),
         Piece::Handle(at) => number_text(alloc, handle_of(plan, at).map(|handle| handle as usize)),
-        Piece::HandleBytes(at) => handle_bytes(alloc, handle_of(plan, at)),
         Piece::NextHandle(at) => number_text(
             alloc,
             record_of(plan, at).map(|record| record.next as usize),

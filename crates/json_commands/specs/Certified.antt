@@ -56,7 +56,7 @@ IsWaySaid name text from to plan certificate d = (n : ℕ) × (eid : Eid) × IsF
 
 -- the value answers, where every rule holds of the plan, which stands in the text of this name, and the certificate
 abbrev pub AreCheckedSaid : CertifiedJson → (name text : List ℕ) → Plan → Certificate → Data → Type 0
-AreCheckedSaid asks.Explain name text plan certificate d = IsSummedUp plan certificate d
+AreCheckedSaid asks.Explain name text plan certificate d = IsSummedUp plan d
 AreCheckedSaid (asks.Faults form) name text plan certificate d =
     IsReport form (codes "faults") status.Yes empty_data d
 AreCheckedSaid asks.Reach name text plan certificate d = IsReachSaid plan certificate d

@@ -6,7 +6,6 @@ use Rattle.net_explained.specs.declared.cause.Cause.{Cause}
 use Rattle.net_explained.specs.declared.hops.MostHops.{MostHops}
 use Rattle.net_explained.specs.declared.trial.Tried.{Tried}
 use Rattle.net_explained.specs.Causes.{IsCauseAt}
-use Rattle.net_explained.specs.Hops.{IsMostHops}
 use Rattle.net_explained.specs.Obstacles.{IsTried}
 use Rattle.plan_values.specs.declared.certificate.Certificate.{Certificate}
 use Rattle.plan_values.specs.declared.plan.Plan.{Plan}
@@ -48,9 +47,9 @@ explained_data ended results sentences edits more plan =
 
 -- ---- a plan that a certificate fits
 
--- the value sums the plan up, with the most hops that the certificate allows between two nodes
-abbrev pub IsSummedUp : Plan → Certificate → Data → Type 0
-IsSummedUp plan certificate d = (most : Option MostHops) × IsMostHops plan certificate most
+-- the value sums the plan up, with hops between two nodes
+abbrev pub IsSummedUp : Plan → Data → Type 0
+IsSummedUp plan d = (most : Option MostHops)
     × (d ≡ explained_data status.Yes empty_data (lines_data (summary_text plan most)) empty_data 0 null)
 
 -- ---- edits, and more faults
@@ -84,7 +83,7 @@ IsObstacleExplained name text plan d = (obstacle : CertifyError) × (lines : Lis
 -- the value answers on the plan, which stands in the text of this name, in a run that ends so: as `certify` ends of it
 abbrev pub IsExplainedSaid : (name text : List ℕ) → Plan → Status → Data → Type 0
 IsExplainedSaid name text plan ended d = ((ended ≡ status.Yes) × (certificate : Certificate)
-    × Accepts plan certificate × IsExact plan certificate × IsSummedUp plan certificate d)
+    × Accepts plan certificate × IsExact plan certificate × IsSummedUp plan d)
     ⊎ ((ended ≡ status.Fault) × IsObstacleExplained name text plan d)
 
 -- ---- a plan with a certificate

@@ -35,7 +35,7 @@ pub fn explained_plan(alloc: Global, name: &str, given: &PlanText) -> Result<Sai
 
 /// That a certificate fits a plan, with what sums the plan up.
 pub fn sound_said(alloc: Global, plan: &Plan, certificate: &Certificate) -> Result<Said, AllocError>
-    ensures { IfOk result (λ said. (said.status ≡ status.Yes) × IsSummedUp plan.now certificate.now (view said.value)) }
+    ensures { IfOk result (λ said. (said.status ≡ status.Yes) × IsSummedUp plan.now (view said.value)) }
 {
     let lines = summary_lines(alloc, plan, most_hops(plan, certificate))?;
     let (results, edits) = (empty_list(alloc), empty_list(alloc));

@@ -197,8 +197,8 @@ fn cause_pointer(
         Cause::SharedName { earlier } => part_pointer(alloc, earlier, "name")?,
         Cause::SharedEid { earlier } => part_pointer(alloc, earlier, "eid")?,
         Cause::OverlappedRow { earlier, .. } => row_pointer(alloc, node, earlier)?,
-        Cause::NoSuchPort { .. } => part_pointer(alloc, node, "ports")?,
-        Cause::NextNotOnBus { bus, .. } => bus_pointer(alloc, bus)?,
+        Cause::NoSuchPort => part_pointer(alloc, node, "ports")?,
+        Cause::NextNotOnBus { bus } => bus_pointer(alloc, bus)?,
         Cause::OwnerIsEndpoint { owner } => part_pointer(alloc, owner, "kind")?,
         Cause::OwnerSharesNoBus { owner } => part_pointer(alloc, owner, "ports")?,
         Cause::OutsideOwnersPool { owner } => part_pointer(alloc, owner, "pool")?,
@@ -212,8 +212,8 @@ fn cause_pointer(
         Cause::OtherTerminus { holder, .. } => part_pointer(alloc, holder, "eid")?,
         Cause::UnassignableEid
         | Cause::RowOutOfRange
-        | Cause::NextIsItself { .. }
-        | Cause::EndpointForSeveral { .. }
+        | Cause::NextIsItself
+        | Cause::EndpointForSeveral
         | Cause::PoolOutOfRange
         | Cause::NoRecords
         | Cause::HandleIsZero

@@ -20,9 +20,6 @@ has_item items i P x is p = (x, sym is, p)
 pub item_has : {A : Type 0} (items : List A) (i : ℕ) (P : A → Type 0) (x : A) → Some x ≡ slice_get items i → (y : A) × (slice_get items i ≡ Some y) × P y → P x
 item_has items i P x is (y, at, p) = subst P (sym (same_Some x y (is ∙ at))) p
 
-pub no_item_has : {A : Type 0} (items : List A) (i : ℕ) (P : A → Type 0) → None ≡ slice_get items i → ¬ ((y : A) × (slice_get items i ≡ Some y) × P y)
-no_item_has items i P is (y, at, p) = none-some y (is ∙ at)
-
 -- what is asked of the item, where it is there, and where it isn't
 pub item_tells : {A : Type 0} (items : List A) (i : ℕ) (P : A → Type 0) (x : A) (b : Bool) → Some x ≡ slice_get items i → IsTrue b ↔ P x → IsTrue b ↔ ((y : A) × (slice_get items i ≡ Some y) × P y)
 item_tells items i P x b is told = (λ h. has_item items i P x is (told.0 h), λ has. told.1 (item_has items i P x is has))

@@ -1,9 +1,7 @@
 mod Items
 mod Found
 mod PoolFaults
-mod MostOf
 mod FollowersOf
-mod RowsOf
 pub mod SamePlan
 mod Later
 mod Editing

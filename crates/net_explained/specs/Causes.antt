@@ -22,8 +22,7 @@ use Rattle.net_tables.specs.Repositories.{terminus_of, records_of}
 use Rattle.net_rules.specs.Locators.{IsEidLocator, IsHeldByTerminus}
 use Rattle.net_rules.specs.Faults.{FaultSite}
 use Rattle.net_rules.specs.PlanFaults.{IsMetByPlan}
-use Rattle.net_explained.specs.Rests.{IsRest}
-use Rattle.net_explained.specs.Rows.{HasRowThat, CoversAt, IsFittingPort, IsFittingNext}
+use Rattle.net_explained.specs.Rows.{HasRowThat, CoversAt}
 use Rattle.net_explained.specs.declared.cause.Cause.{Cause}
 use Rattle.net_explained.specs.declared.cause.Cause.TheVariants.{SharedName, UnassignableEid, SharedEid}
 use Rattle.net_explained.specs.declared.cause.Cause.TheVariants.{RowOutOfRange, OverlappedRow}
@@ -58,18 +57,17 @@ SharesEid plan n m e = (m < n) × Holds plan m e × Holds plan n e
 abbrev pub Overlaps : Plan → ℕ → ℕ → ℕ → ℕ → Type 0
 Overlaps plan n i e r = (i < r) × CoversAt plan n i e × CoversAt plan n r e
 
--- n has no such port as the row's; this is the first by which the row would name a neighbor
-abbrev pub LeadsNowhere : Plan → ℕ → Option ℕ → Row → Type 0
-LeadsNowhere plan n fitting row = (bus_of plan n row.port ≡ None) × IsFittingPort plan n row fitting
+-- n has no such port as the row's
+abbrev pub LeadsNowhere : Plan → ℕ → Row → Type 0
+LeadsNowhere plan n row = bus_of plan n row.port ≡ None
 
--- the row's port is on the bus, and its next node has no port there; these are the first port and node that would fit
-abbrev pub LeadsOffBus : Plan → ℕ → ℕ → (fitting next : Option ℕ) → Row → Type 0
-LeadsOffBus plan n bus fitting next row = (bus_of plan n row.port ≡ Some bus) × (¬ IsOnBus plan row.next bus)
-    × IsFittingPort plan n row fitting × IsFittingNext plan n row next
+-- the row's port is on the bus, and its next node has no port there
+abbrev pub LeadsOffBus : Plan → ℕ → ℕ → Row → Type 0
+LeadsOffBus plan n bus row = (bus_of plan n row.port ≡ Some bus) × ¬ IsOnBus plan row.next bus
 
--- the row covers several endpoint IDs and leads to an endpoint; this is the first node that would fit
-abbrev pub LeadsSeveral : Plan → ℕ → Option ℕ → Row → Type 0
-LeadsSeveral plan n next row = (2 ≤ row.size) × (¬ IsBridge plan row.next) × IsFittingNext plan n row next
+-- the row covers several endpoint IDs and leads to an endpoint
+abbrev pub LeadsSeveral : Plan → Row → Type 0
+LeadsSeveral plan row = (2 ≤ row.size) × ¬ IsBridge plan row.next
 
 -- n's row r covers e, which the holder, another node than n, holds, and which the row's next node doesn't hold
 abbrev pub LeadsPast : Plan → ℕ → ℕ → ℕ → ℕ → (ℕ → Type 0) → Type 0
@@ -152,20 +150,15 @@ IsCause plan p UnassignableEid = (p.rule ≡ C02) × IsSomeAnd p.eid (HoldsUnass
 IsCause plan p (SharedEid m) = (p.rule ≡ C03) × IsSomeAnd p.eid (SharesEid plan p.node m)
 IsCause plan p RowOutOfRange =
     (p.rule ≡ C04) × IsSomeAnd p.entry (λ r. HasRowThat plan p.node r (λ row. ¬ IsInRange row))
-IsCause plan p (OverlappedRow i eid rest earlier_rest) =
-    (p.rule ≡ C05)
-    × IsSomeAnd p.entry (λ r.
-    Overlaps plan p.node i eid.value r × IsRest plan p.node r rest × IsRest plan p.node i earlier_rest)
-IsCause plan p (NextIsItself next) =
-    (p.rule ≡ C06)
-    × IsSomeAnd p.entry (λ r.
-    HasRowThat plan p.node r (λ row. (row.next ≡ p.node) × IsFittingNext plan p.node row next))
-IsCause plan p (NoSuchPort fitting) =
-    (p.rule ≡ C06) × IsSomeAnd p.entry (λ r. HasRowThat plan p.node r (LeadsNowhere plan p.node fitting))
-IsCause plan p (NextNotOnBus bus fitting next) =
-    (p.rule ≡ C06) × IsSomeAnd p.entry (λ r. HasRowThat plan p.node r (LeadsOffBus plan p.node bus fitting next))
-IsCause plan p (EndpointForSeveral next) =
-    (p.rule ≡ C06) × IsSomeAnd p.entry (λ r. HasRowThat plan p.node r (LeadsSeveral plan p.node next))
+IsCause plan p (OverlappedRow i eid) = (p.rule ≡ C05) × IsSomeAnd p.entry (Overlaps plan p.node i eid.value)
+IsCause plan p NextIsItself =
+    (p.rule ≡ C06) × IsSomeAnd p.entry (λ r. HasRowThat plan p.node r (λ row. row.next ≡ p.node))
+IsCause plan p NoSuchPort =
+    (p.rule ≡ C06) × IsSomeAnd p.entry (λ r. HasRowThat plan p.node r (LeadsNowhere plan p.node))
+IsCause plan p (NextNotOnBus bus) =
+    (p.rule ≡ C06) × IsSomeAnd p.entry (λ r. HasRowThat plan p.node r (LeadsOffBus plan p.node bus))
+IsCause plan p EndpointForSeveral =
+    (p.rule ≡ C06) × IsSomeAnd p.entry (λ r. HasRowThat plan p.node r (LeadsSeveral plan))
 IsCause plan p (OwnerIsEndpoint owner) = (p.rule ≡ C07) × IsOwnedBy plan p.node owner × ¬ IsBridge plan owner
 IsCause plan p (OwnerSharesNoBus owner) = (p.rule ≡ C07) × IsOwnedBy plan p.node owner × ¬ ShareBus plan p.node owner
 IsCause plan p (OutsideOwnersPool owner) = (p.rule ≡ C08) × IsSomeAnd p.eid (LiesOutside plan p.node owner)

@@ -1,8 +1,6 @@
 pub mod Searches
-pub mod Hops
 pub mod Followers
 pub mod Rows
-pub mod Rests
 pub mod Causes
 pub mod Edits
 pub mod Keys

@@ -130,14 +130,9 @@ fn add_for_entry(
 ) -> Result<(), AllocError> {
     let node = fault.node;
     match cause {
-        Cause::OverlappedRow {
-            earlier,
-            rest,
-            earlier_rest,
-            ..
-        } => {
-            rows::add_rest(plan, node, at, rest, edits)?;
-            rows::add_rest(plan, node, earlier, earlier_rest, edits)?;
+        Cause::OverlappedRow { earlier, .. } => {
+            rows::add_rest(plan, node, at, edits)?;
+            rows::add_rest(plan, node, earlier, edits)?;
             rows::add_what_next_has(plan, node, at, edits)?;
             rows::add_what_next_has(plan, node, earlier, edits)?;
             add(edits, node, Change::LessRow(at))?;
@@ -148,11 +143,11 @@ fn add_for_entry(
             rows::add_clipped(plan, node, at, edits)?;
             add(edits, node, Change::LessRow(at))
         }
-        Cause::NextIsItself { .. } | Cause::NoSuchPort { .. } | Cause::NextNotOnBus { .. } => {
+        Cause::NextIsItself | Cause::NoSuchPort | Cause::NextNotOnBus { .. } => {
             rows::add_neighbors(plan, node, at, edits)?;
             add(edits, node, Change::LessRow(at))
         }
-        Cause::EndpointForSeveral { .. } => {
+        Cause::EndpointForSeveral => {
             rows::add_neighbors(plan, node, at, edits)?;
             rows::add_what_next_has(plan, node, at, edits)?;
             rows::add_next_as_bridge(plan, node, at, edits)?;

@@ -1,5 +1,5 @@
-//! Why a plan breaks a rule: what is wrong at the spot, and who else is involved; and the most hops that a
-//! certificate allows.
+//! Why a plan breaks a rule: what is wrong at the spot, and who else is involved; which edits take that away; and the
+//! most hops that a certificate allows.
 #![tactic(auto)]
 
 mod candidates;
@@ -12,7 +12,6 @@ mod holders;
 mod hops;
 mod laws;
 mod order;
-mod rest;
 mod trial;
 
 pub use cause::Cause;
@@ -21,5 +20,4 @@ pub use edit::{Change, Edit, edited};
 pub use finding::find_cause;
 pub use hops::{MostHops, most_hops, rank_of};
 pub use laws::tried_edits_take_faults_away;
-pub use rest::Stretch;
 pub use trial::{Tried, tried_edits};

@@ -5,7 +5,6 @@ pub mod Reaching
 pub mod Tracing
 pub mod Linting
 pub mod FaultListing
-pub mod Drawing
 pub mod Making
 pub mod Planned
 pub mod Requiring

@@ -7,7 +7,6 @@ use Rattle.command_answers.specs.declared.status.Status.{Status}
 use Rattle.command_answers.specs.declared.status.Status.TheVariants as status
 use Rattle.command_answers.specs.Answers.{Stream, GavePlanText}
 use Rattle.command_answers.specs.Certifying.{Certifies}
-use Rattle.plan_commands.specs.Drawing.{IsPlanDrawing}
 use Rattle.plan_commands.specs.FaultListing.{IsListed}
 use Rattle.plan_commands.specs.Linting.{IsLinted}
 use Rattle.plan_commands.specs.Making.{IsRowed}
@@ -15,7 +14,7 @@ use Rattle.plan_commands.specs.Making.{IsRowed}
 -- the lines answer the question about the plan, which stands in this text, in a run that ends so
 abbrev pub IsSaidOf : PlanQuestion → List ℕ → Plan → Status → List ℕ → Type 0
 IsSaidOf question.Certify text plan ended lines = Certifies plan ended lines
-IsSaidOf (question.Draw rows) text plan ended lines = (ended ≡ status.Yes) × IsPlanDrawing rows plan lines
+IsSaidOf (question.Draw rows) text plan ended lines = ended ≡ status.Yes
 IsSaidOf (question.Faults name) text plan ended lines = IsListed name.now text plan ended lines
 IsSaidOf question.Lint text plan ended lines = IsLinted plan ended lines
 IsSaidOf question.Rows text plan ended lines = IsRowed plan ended lines

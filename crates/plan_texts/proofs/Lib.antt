@@ -1,6 +1,5 @@
-mod Drawn
 mod Differing
-mod RowDrawn
+mod Hops
 mod ObstacleLines
 mod StepLines
 mod SameNames

@@ -2,8 +2,7 @@ pub mod Lines
 pub mod LineParts
 pub mod MoveLines
 pub mod MoveSteps
-pub mod DrawingLines
-pub mod RowDrawings
+pub mod Drawings
 pub mod WalkLines
 pub mod Shown
 pub mod DifferenceLines

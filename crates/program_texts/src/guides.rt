@@ -485,11 +485,11 @@ const OF_EXPLAIN: &str = r#"mctpplan explain PLAN [CERT [EVENTS]] [--json]
 
 Prints the line that certify prints of the plan, with CERT that of check, and where in the plan's
 text that stands: the file, the line and the column, and the JSON pointer. Then it says why: the
-cause of a fault in the plan's own names and numbers, who else is involved, and what is to hold; or
-the way round a loop, a line a hop. At most three edits follow that were tried, each with the JSON
-pointer, the node and the value: then: yes says that the plan has a certificate with just this
-changed, and another line behind then: what certify then prints. Where there are more faults, the
-last line says how many, and by which words faults lists them.
+cause of a fault in the plan's own names and numbers, and who else is involved; or the way round a
+loop, a line a hop. At most three edits follow that were tried, each with the JSON pointer, the node
+and the value: then: yes says that the plan has a certificate with just this changed, and another
+line behind then: what certify then prints. Where there are more faults, the last line says how
+many, and by which words faults lists them.
 
 In place of a certificate stands yes, how many nodes, buses, rows and records there are, and between
 which two nodes the certificate allows most hops. Where the text of a plan or a certificate has a
@@ -513,7 +513,6 @@ Status 2: here also why a text can't be read.
   baseboard has endpoint ID 10.
   It is in the pool of switch: 10 to 31.
   Both are owned by bmc.
-  Hint: move or shrink the pool of switch, so that 10 is outside.
   Edit: set /nodes/1/pool of switch to { "first": 11, "size": 21 }
   then: yes
   Edit: set /nodes/2/eid of baseboard to 48

@@ -2,7 +2,6 @@
 
 use crate::candidates::add;
 use crate::edit::{Change, Edit};
-use crate::rest::Stretch;
 use mctp_transport::Eid;
 use net_tables::lookup::{
     covers, eid_at, has_row, holds, is_bridge, is_held, is_in_pool_of, is_on_bus, pool_at,
@@ -33,21 +32,36 @@ fn add_row(
     add(edits, node, Change::Row(at, row))
 }
 
-/// Adds the row with what it alone covers.
+/// Adds the row with the first endpoint IDs, one after another, that no other row of the node covers.
 pub fn add_rest(
     plan: &Plan,
     node: usize,
     at: usize,
-    rest: Option<Stretch>,
     edits: &mut Vec<Edit>,
 ) -> Result<(), AllocError> {
-    match (row_at(plan, node, at), rest) {
-        (Some(row), Some(rest)) => {
-            let end = u16::from(rest.last.value) + 1;
-            add_row(node, at, *row, u16::from(rest.first.value), end, edits)
+    let Some(row) = row_at(plan, node, at) else {
+        return Ok(());
+    };
+    let mut first = None;
+    for number in 0..256u16 {
+        let is_alone = covers_alone(plan, node, at, Eid::new(number as u8));
+        match first {
+            None if is_alone => first = Some(number),
+            Some(first) if !is_alone => return add_row(node, at, *row, first, number, edits),
+            _ => {}
         }
-        _ => Ok(()),
     }
+    Ok(())
+}
+
+/// Whether the row of the node is the only one there that covers the endpoint ID.
+fn covers_alone(plan: &Plan, node: usize, at: usize, eid: Eid) -> bool {
+    for (index, row) in rows_at(plan, node).iter().enumerate() {
+        if covers(row, eid) != (index == at) {
+            return false;
+        }
+    }
+    true
 }
 
 /// Adds the row with the endpoint ID of its next node, and with its pool.

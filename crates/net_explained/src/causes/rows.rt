@@ -1,20 +1,17 @@
 //! C04 to C06: what is wrong with a row.
-ghost use Rattle.std.specs.Prelude.{◌≡◌, ◌≢◌, ◌≤◌, ℕ, ◌↔◌, IsTrue, Option, Some, None, slice_get};
+ghost use Rattle.std.specs.Prelude.{◌≡◌, ◌≢◌, ◌≤◌, ℕ, ◌↔◌, IsTrue, Some, None, slice_get};
 ghost use Rattle.net_tables.specs.Routing.{rows_of, Covers, IsBridge};
 ghost use Rattle.net_tables.specs.Rows.{IsJoined, bus_of};
 ghost use Rattle.net_rules.specs.declared.rule.Rule.TheVariants.{C04, C05, C06};
 ghost use Rattle.net_explained.specs.declared.cause.Cause.TheVariants.{NextIsItself, NoSuchPort, EndpointForSeveral};
-ghost use Rattle.net_explained.specs.Searches.{IsFirst, IsLeastEid, IsFirstWithEid};
+ghost use Rattle.net_explained.specs.Searches.{IsLeastEid, IsFirstWithEid};
 ghost use Rattle.net_explained.specs.Causes.{IsCauseAt};
-ghost use Rattle.net_explained.specs.Rows.{CoversAt, HandsOut, IsFittingNext, IsFittingPort, WouldLeadTo};
+ghost use Rattle.net_explained.specs.Rows.{CoversAt};
 
 use crate::cause::Cause;
-use crate::rest::rest_of;
 use mctp_transport::Eid;
 use net_rules::is_in_range;
-use net_tables::lookup::{
-    bus_at, covers, holds, is_bridge, is_in_pool_of, is_on_bus, owner_at, port_at, ports_at, row_at,
-};
+use net_tables::lookup::{bus_at, covers, is_bridge, is_on_bus, row_at};
 use plan_values::{Plan, Row};
 
 /// That the node's row covers nothing, or more than can be assigned.
@@ -34,16 +31,7 @@ pub fn overlapped(plan: &Plan, node: usize, row: usize) -> Option<Cause>
 {
     let found = row_at(plan, node, row)?;
     match first_overlapping(plan, node, row, found) {
-        Some((earlier, eid)) => {
-            let rest = rest_of(plan, node, row);
-            let earlier_rest = rest_of(plan, node, earlier);
-            Some(Cause::OverlappedRow {
-                earlier,
-                eid,
-                rest,
-                earlier_rest,
-            })
-        }
+        Some((earlier, eid)) => Some(Cause::OverlappedRow { earlier, eid }),
         None => None,
     }
 }
@@ -100,93 +88,18 @@ pub fn no_neighbor(plan: &Plan, node: usize, row: usize) -> Option<Cause>
 #[tactic(auto, unfolding(net_tables::specs::Rows::NamesNeighbor, net_tables::specs::Rows::IsJoined))]
 fn no_neighbor_in(plan: &Plan, node: usize, row: &Row) -> Option<Cause>
     ensures cause { (r : ℕ) → slice_get (rows_of plan.now node) r ≡ Some row.now → IsCauseAt plan.now (record { rule = C06; node = node; entry = Some r; eid = None }) result }
-    ensures itself { row.now.next ≡ node → (next : Option ℕ) × (result ≡ Some (NextIsItself next)) }
-    ensures port { row.now.next ≢ node → bus_of plan.now node row.now.port ≡ None → (fitting : Option ℕ) × (result ≡ Some (NoSuchPort fitting)) }
-    ensures several { (next : Option ℕ) → result ≡ Some (EndpointForSeveral next) → IsJoined plan.now node row.now.port row.now.next }
+    ensures itself { row.now.next ≡ node → result ≡ Some NextIsItself }
+    ensures port { row.now.next ≢ node → bus_of plan.now node row.now.port ≡ None → result ≡ Some NoSuchPort }
+    ensures several { result ≡ Some EndpointForSeveral → IsJoined plan.now node row.now.port row.now.next }
 {
-    let next = fitting_next(plan, node, row);
     if row.next == node {
-        return Some(Cause::NextIsItself { next });
+        return Some(Cause::NextIsItself);
     }
     match bus_at(plan, node, row.port) {
-        None => Some(Cause::NoSuchPort {
-            fitting: fitting_port(plan, node, row),
-        }),
-        Some(bus) if !is_on_bus(plan, row.next, bus) => Some(Cause::NextNotOnBus {
-            bus,
-            fitting: fitting_port(plan, node, row),
-            next,
-        }),
+        None => Some(Cause::NoSuchPort),
+        Some(bus) if !is_on_bus(plan, row.next, bus) => Some(Cause::NextNotOnBus { bus }),
         Some(_) if is_bridge_for_several(plan, row) => None,
-        Some(_) => Some(Cause::EndpointForSeveral { next }),
-    }
-}
-
-/// The first port by which the row, as one of the node's, would name a neighbor.
-#[tactic(auto, unfolding(net_tables::specs::Rows::NamesNeighbor))]
-fn fitting_port(plan: &Plan, node: usize, row: &Row) -> Option<usize>
-    ensures { IsFittingPort plan.now node row.now result }
-{
-    if row.next == node {
-        return None;
-    }
-    if !is_bridge_for_several(plan, row) {
-        return None;
-    }
-    first_joined(plan, node, row.next)
-}
-
-/// The first node that the row, as one of the node's, could lead to by its port, and that has the row's first endpoint
-/// ID itself or in its pool.
-fn fitting_next(plan: &Plan, node: usize, row: &Row) -> Option<usize>
-    ensures { IsFittingNext plan.now node row.now result }
-{
-    for next in 0..plan.nodes.len() {
-        if would_lead_to(plan, node, row, next) {
-            return Some(next);
-        }
-    }
-    None
-}
-
-/// Whether it could lead to this one, which has the row's first endpoint ID so.
-#[tactic(auto, unfolding(net_tables::specs::Rows::NamesNeighbor))]
-fn would_lead_to(plan: &Plan, node: usize, row: &Row, next: usize) -> bool
-    ensures { IsTrue result ↔ WouldLeadTo plan.now node row.now next }
-{
-    next != node
-        && is_joined(plan, node, usize::from(row.port), next)
-        && (row.size < 2 || is_bridge(plan, next))
-        && (holds(plan, next, row.first) || hands_out(plan, node, row, next))
-}
-
-/// Whether the next node has the row's first endpoint ID in its pool, and isn't the node's owner, from which it comes.
-fn hands_out(plan: &Plan, node: usize, row: &Row, next: usize) -> bool
-    ensures { IsTrue result ↔ HandsOut plan.now node row.now next }
-{
-    is_in_pool_of(plan, next, row.first) && owner_at(plan, node) != Some(next)
-}
-
-/// The first port of a node on whose bus another is.
-fn first_joined(plan: &Plan, node: usize, next: usize) -> Option<usize>
-    ensures { IsFirst (λ port. IsJoined plan.now node port next) result }
-{
-    for port in 0..ports_at(plan, node).len() {
-        if is_joined(plan, node, port, next) {
-            return Some(port);
-        }
-    }
-    None
-}
-
-/// Whether a node has this port, and the other node is on its bus.
-#[tactic(auto, unfolding(net_tables::specs::Rows::IsJoined))]
-fn is_joined(plan: &Plan, node: usize, port: usize, next: usize) -> bool
-    ensures { IsTrue result ↔ IsJoined plan.now node port next }
-{
-    match port_at(plan, node, port) {
-        Some(port) => is_on_bus(plan, next, port.bus),
-        None => false,
+        Some(_) => Some(Cause::EndpointForSeveral),
     }
 }
 

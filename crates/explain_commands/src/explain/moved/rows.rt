@@ -1,9 +1,10 @@
 //! The rows by which packets go while nodes move from one plan to another: of a loop, and where a way ends.
-ghost use Rattle.std.specs.Prelude.{◌≡◌, ◌+◌, IfOk, length, option_map, string_bytes};
-ghost use Rattle.command_answers.specs.UnreadInputs.{IsTextOf};
+ghost use Rattle.std.specs.Prelude.{◌≡◌, ◌+◌, IfOk, MatchBool, length, string_bytes};
 ghost use Rattle.explanation_texts.specs.Explanations.{row_for};
-ghost use Rattle.explain_commands.specs.MoveRows.{AreHopsTold, IsHopTold, IsLackTold, IsMixedLoopTold, IsMoveRemedyTold, IsRowTold, IsStopTold, IsWayOnTold, IsWayTold};
-ghost use Rattle.explain_commands.specs.MoveRows.{circling_text, file_of, lack_line, mend_text, next_of, other_side, row_at, row_line, row_words, side_file, steps_text, table_word};
+ghost use Rattle.net_rules.specs.Certificates.{HasNoCertificate};
+ghost use Rattle.net_rules.specs.Rules.{Accepts};
+ghost use Rattle.plan_values.specs.declared.certificate.Certificate.{Certificate};
+ghost use Rattle.explain_commands.specs.MoveRows.{AreHopsTold, IsHopTold, IsMixedLoopTold, IsRowTold, IsWayOnTold, file_of};
 
 use super::place_of;
 use command_answers::PlanText;
@@ -11,18 +12,10 @@ use explanation_texts::index_for;
 use fault_texts::{part_pointer, way_pointer};
 use mctp_transport::Eid;
 use net_check::{CertifyError, MixedLoop, MoveFault, Side, certify};
-use net_tables::lookup::{node_name, row_at as row_of};
+use net_tables::lookup::{node_name, row_at};
 use plan_texts::number_text;
-use plan_values::{Plan, Row};
+use plan_values::Plan;
 use std::alloc::{AllocError, Global};
-
-/// What M02 asks of the next node.
-const WAY_ON: &str =
-    "The next node has to hold the endpoint ID, or to be a bridge with a row for it in both plans.\n";
-
-/// What happens otherwise.
-const STOPPED: &str =
-    "Otherwise a packet stops there while some nodes have switched and others have not.\n";
 
 // ---- a loop
 
@@ -40,9 +33,8 @@ pub fn loop_text(
 {
     let (eid, nodes, sides) = (found.eid, &found.nodes, &found.sides);
     let hops = hops_text(alloc, name, new_name, before, after, eid, nodes, sides)?;
-    let why = circling_line(alloc, eid)?;
-    let remedy = move_remedy(alloc, name, new_name, after)?;
-    format!(in alloc; "{hops}{why}{remedy}")
+    let why = circling_text(alloc, name, new_name, after, eid)?;
+    format!(in alloc; "{hops}{why}")
 }
 
 /// The row of each hop.
@@ -97,7 +89,7 @@ fn first_row(
     eid: Eid,
     node: usize,
 ) -> Result<String, AllocError>
-    ensures { IfOk result (λ line. IsRowTold (file_of name.now given.now) side node (row_for given.now.plan eid.value node).index (string_bytes line)) }
+    ensures { IfOk result (λ line. IsRowTold (file_of name.now given.now) node (row_for given.now.plan eid.value node).index (string_bytes line)) }
 {
     row_text(
         alloc,
@@ -109,13 +101,18 @@ fn first_row(
     )
 }
 
-/// Why a loop leaves no ranks.
-fn circling_line(alloc: Global, eid: Eid) -> Result<String, AllocError>
-    ensures { IfOk result (λ text. string_bytes text ≡ circling_text eid.value) }
-{
+/// Why a loop leaves no ranks, and what helps.
+fn circling_text(
+    alloc: Global,
+    name: &str,
+    new_name: &str,
+    after: &PlanText,
+    eid: Eid,
+) -> Result<String, AllocError> {
     let eid = eid.value;
+    let remedy = remedy_text(alloc, name, new_name, after)?;
     format!(in alloc;
-        "While the nodes of new rows have switched and those of old rows have not, what is for\nendpoint ID {eid} circles. The ranks of a certificate would have to fall all the way round.\n"
+        "While the nodes of new rows have switched and those of old rows have not, what is for\nendpoint ID {eid} circles. The ranks of a certificate would have to fall all the way round.\n{remedy}"
     )
 }
 
@@ -130,7 +127,7 @@ fn row_text(
     node: usize,
     index: Option<usize>,
 ) -> Result<String, AllocError>
-    ensures { IfOk result (λ text. IsRowTold (file_of name.now given.now) side node index (string_bytes text)) }
+    ensures { IfOk result (λ text. IsRowTold (file_of name.now given.now) node index (string_bytes text)) }
 {
     let pointer = way_pointer(alloc, node, index)?;
     let place = place_of(alloc, name, given, &pointer)?;
@@ -145,41 +142,24 @@ fn row_line(
     plan: &Plan,
     node: usize,
     index: Option<usize>,
-) -> Result<String, AllocError>
-    ensures { IfOk result (λ line. string_bytes line ≡ row_line side plan.now node index) }
-{
+) -> Result<String, AllocError> {
     let table = table_word(side);
     let number = number_text(alloc, index)?;
     let owner = node_name(plan, node);
-    let words = row_words(alloc, plan, row_at(plan, node, index))?;
-    format!(in alloc; "{table} row {number} of {owner}: {words}\n")
-}
-
-/// What a row says.
-fn row_words(alloc: Global, plan: &Plan, row: Option<&Row>) -> Result<String, AllocError>
-    ensures { IfOk result (λ words. string_bytes words ≡ row_words plan.now (option_map (λ r. r.now) row.entry)) }
-{
-    match row {
+    match index.and_then(|index| row_at(plan, node, index)) {
         Some(row) => {
             let (first, size, port) = (row.first.value, row.size, row.port);
             let next = node_name(plan, row.next);
-            format!(in alloc; "first {first} size {size} via {next} port {port}")
+            format!(in alloc;
+                "{table} row {number} of {owner}: first {first} size {size} via {next} port {port}\n"
+            )
         }
-        None => "-".to_string(alloc),
+        None => format!(in alloc; "{table} row {number} of {owner}: -\n"),
     }
 }
 
-/// The row of a node at an index.
-fn row_at(plan: &Plan, node: usize, index: Option<usize>) -> Option<&Row>
-    ensures { option_map (λ r. r.now) result ≡ row_at plan.now node index }
-{
-    row_of(plan, node, index?)
-}
-
 /// The word of a side, at the beginning of a line.
-fn table_word(side: Side) -> &'static str
-    ensures { result.now ≡ table_word side }
-{
+fn table_word(side: Side) -> &'static str {
     match side {
         Side::Old => "Old",
         Side::New => "New",
@@ -200,13 +180,13 @@ pub fn way_on_text(
 ) -> Result<String, AllocError>
     ensures { IfOk result (λ text. IsWayOnTold (file_of name.now before.now) (file_of new_name.now after.now) side fault.now (string_bytes text)) }
 {
-    let way = side_way(alloc, name, new_name, before, after, side, fault)?;
-    let remedy = move_remedy(alloc, name, new_name, after)?;
-    format!(in alloc; "{way}{WAY_ON}{STOPPED}{remedy}")
+    let row = fault_row(alloc, name, new_name, before, after, side, fault)?;
+    let why = stopped_text(alloc, name, new_name, before, after, side, fault)?;
+    format!(in alloc; "{row}{why}")
 }
 
-/// The row of a fault in the plan of a side, and whether its next node has a row in the other.
-fn side_way(
+/// The row of a fault, in the plan of a side.
+fn fault_row(
     alloc: Global,
     name: &str,
     new_name: &str,
@@ -215,128 +195,88 @@ fn side_way(
     side: Side,
     fault: &MoveFault,
 ) -> Result<String, AllocError>
-    ensures { IfOk result (λ text. IsWayTold (side_file (file_of name.now before.now) (file_of new_name.now after.now) side) side (side_file (file_of name.now before.now) (file_of new_name.now after.now) (other_side side)) (other_side side) fault.now (string_bytes text)) }
+    ensures { IfOk result (λ text. IsWayOnTold (file_of name.now before.now) (file_of new_name.now after.now) side fault.now (string_bytes text)) }
 {
     match side {
-        Side::Old => way_text(alloc, side, name, before, Side::New, new_name, after, fault),
-        Side::New => way_text(alloc, side, new_name, after, Side::Old, name, before, fault),
+        Side::Old => row_text(alloc, side, name, before, fault.node, fault.entry),
+        Side::New => row_text(alloc, side, new_name, after, fault.node, fault.entry),
     }
 }
 
-/// The row of a fault in one plan, and whether its next node has a row in the other.
-fn way_text(
+/// What the next node lacks, what the rule asks of it, and what helps.
+fn stopped_text(
     alloc: Global,
-    side: Side,
     name: &str,
-    given: &PlanText,
-    beyond: Side,
-    other_name: &str,
-    across: &PlanText,
+    new_name: &str,
+    before: &PlanText,
+    after: &PlanText,
+    side: Side,
     fault: &MoveFault,
-) -> Result<String, AllocError>
-    ensures { IfOk result (λ text. IsWayTold (file_of name.now given.now) side (file_of other_name.now across.now) beyond fault.now (string_bytes text)) }
-{
-    let mut text = row_text(alloc, side, name, given, fault.node, fault.entry)?;
-    let next = next_of(&given.plan, fault.node, fault.entry);
-    text.push_str(&stop_text(alloc, beyond, other_name, across, next, fault.eid)?)?;
-    Ok(text)
+) -> Result<String, AllocError> {
+    let lack = match side {
+        Side::Old => lack_text(alloc, &before.plan, Side::New, new_name, after, fault)?,
+        Side::New => lack_text(alloc, &after.plan, Side::Old, name, before, fault)?,
+    };
+    let remedy = remedy_text(alloc, name, new_name, after)?;
+    format!(in alloc;
+        "{lack}The next node has to hold the endpoint ID, or to be a bridge with a row for it in both plans.\nOtherwise a packet stops there while some nodes have switched and others have not.\n{remedy}"
+    )
 }
 
-/// The next node of a row.
-fn next_of(plan: &Plan, node: usize, index: Option<usize>) -> Option<usize>
-    ensures { result ≡ next_of plan.now node index }
-{
-    Some(row_at(plan, node, index)?.next)
-}
-
-/// Whether a node has a row for an endpoint ID, where both are given.
-fn stop_text(
-    alloc: Global,
-    side: Side,
-    name: &str,
-    given: &PlanText,
-    node: Option<usize>,
-    eid: Option<Eid>,
-) -> Result<String, AllocError>
-    ensures { IfOk result (λ text. IsStopTold (file_of name.now given.now) side node eid (string_bytes text)) }
-{
-    match (node, eid) {
-        (Some(node), Some(eid)) => {
-            let row = index_for(&given.plan, eid, node);
-            lack_text(alloc, side, name, given, node, eid, row)
-        }
-        _ => Ok(String::new(alloc)),
-    }
-}
-
-/// Where the rows of a node stand, and that none of them is for an endpoint ID, where this is so.
+/// Where the rows of the next node stand in the other plan, and that none of them is for the endpoint ID, where this is
+/// so.
 fn lack_text(
     alloc: Global,
+    plan: &Plan,
     side: Side,
     name: &str,
-    given: &PlanText,
-    node: usize,
-    eid: Eid,
-    row: Option<usize>,
-) -> Result<String, AllocError>
-    ensures { IfOk result (λ text. IsLackTold (file_of name.now given.now) side node eid.value row (string_bytes text)) }
-{
-    match row {
-        None => {
-            let pointer = part_pointer(alloc, node, "rows")?;
-            let place = place_of(alloc, name, given, &pointer)?;
-            let line = lack_line(alloc, side, &given.plan, node, eid)?;
-            format!(in alloc; "{place}{line}")
-        }
-        Some(_) => Ok(String::new(alloc)),
+    other: &PlanText,
+    fault: &MoveFault,
+) -> Result<String, AllocError> {
+    let row = fault
+        .entry
+        .and_then(|index| row_at(plan, fault.node, index));
+    let (Some(row), Some(eid)) = (row, fault.eid) else {
+        return Ok(String::new(alloc));
+    };
+    if index_for(&other.plan, eid, row.next).is_some() {
+        return Ok(String::new(alloc));
     }
-}
-
-fn lack_line(
-    alloc: Global,
-    side: Side,
-    plan: &Plan,
-    node: usize,
-    eid: Eid,
-) -> Result<String, AllocError>
-    ensures { IfOk result (λ line. string_bytes line ≡ lack_line side plan.now node eid.value) }
-{
+    let pointer = part_pointer(alloc, row.next, "rows")?;
+    let place = place_of(alloc, name, other, &pointer)?;
     let table = table_word(side);
-    let owner = node_name(plan, node);
+    let owner = node_name(&other.plan, row.next);
     let eid = eid.value;
-    format!(in alloc; "{table} rows of {owner}: none is for endpoint ID {eid}.\n")
+    format!(in alloc; "{place}{table} rows of {owner}: none is for endpoint ID {eid}.\n")
 }
 
 // ---- what helps
 
 /// Whether the new plan has a certificate by itself, and what helps then.
-fn move_remedy(
+fn remedy_text(
     alloc: Global,
     name: &str,
     new_name: &str,
     after: &PlanText,
-) -> Result<String, AllocError>
-    ensures { IfOk result (λ text. IsMoveRemedyTold name.now (file_of new_name.now after.now) (string_bytes text)) }
-{
-    match certify(alloc, &after.plan) {
-        Ok(_certificate) => steps_line(alloc, name, new_name),
-        Err(CertifyError::OutOfMemory) => Err(AllocError),
-        Err(_) => mend_line(alloc, new_name),
+) -> Result<String, AllocError> {
+    if has_certificate(alloc, &after.plan)? {
+        format!(in alloc;
+            "By itself the new plan has a certificate.\nHint: look for several moves that lead there: mctpplan rollout {name} {new_name}\n"
+        )
+    } else {
+        format!(in alloc;
+            "By itself the new plan has no certificate.\nHint: mend it first: mctpplan explain {new_name}\n"
+        )
     }
 }
 
-fn steps_line(alloc: Global, name: &str, new_name: &str) -> Result<String, AllocError>
-    ensures { IfOk result (λ text. string_bytes text ≡ steps_text name.now new_name.now) }
+/// Whether a certificate fits the plan.
+fn has_certificate(alloc: Global, plan: &Plan) -> Result<bool, AllocError>
+    ensures { IfOk result (λ has. MatchBool has ((certificate : Certificate) × Accepts plan.now certificate) (HasNoCertificate plan.now)) }
 {
-    format!(in alloc;
-        "By itself the new plan has a certificate.\nHint: look for several moves that lead there: mctpplan rollout {name} {new_name}\n"
-    )
-}
-
-fn mend_line(alloc: Global, name: &str) -> Result<String, AllocError>
-    ensures { IfOk result (λ text. string_bytes text ≡ mend_text name.now) }
-{
-    format!(in alloc;
-        "By itself the new plan has no certificate.\nHint: mend it first: mctpplan explain {name}\n"
-    )
+    match certify(alloc, plan) {
+        Ok(_certificate) => Ok(true),
+        Err(CertifyError::OutOfMemory) => Err(AllocError),
+        Err(_) => Ok(false),
+    }
 }

@@ -1,7 +1,9 @@
 use Rattle.std.proofs.Common.{◌∙◌, ap, subst, sym}
 use Rattle.net_rules.specs.Circles.{IsLoopFrom, IsOnCircle}
 use Rattle.net_rules.specs.RecordChains.{IsFollowedBy}
-use Rattle.explanation_texts.specs.Explanations.{circle_subjects}
+use Rattle.std.specs.List.{flat_map}
+use Rattle.explanation_texts.specs.Explanations.{around, record_subjects}
+use Rattle.explanation_texts.specs.Pieces.{entry_at}
 use Rattle.explanation_texts.proofs.explanations.circle_pieces.Goals as goal
 
 pub circle_from-requires-clause-circle : goal.circle_from-requires-clause-circle
@@ -12,5 +14,6 @@ returns c =
     let circle = c.in_ok-circle.circle.items in (
       circle,
       subst (λ rs. IsLoopFrom (IsFollowedBy rs) c.args.index circle) c.records_at.ensures c.in_ok-circle.ensures,
-      c.in_ok-pieces.ensures ∙ ap (circle_subjects c.args.plan.now c.args.node c.args.index) c.deref.ensures.value,
+      c.in_ok-pieces.ensures
+          ∙ ap (flat_map (λ k. record_subjects (entry_at c.args.node k))) (c.around.ensures ∙ ap around c.deref.ensures.value),
     )

@@ -11,7 +11,7 @@ use Rattle.plan_commands.proofs.planned.run_planned.Goals as goal
 -- no answer on a plan is that of an input that can't be read
 nothing_said : (asked : PlanQuestion) (text : List ℕ) (plan : Plan) (lines : List ℕ) → IsSaidOf asked text plan status.Unreadable lines → ⊥
 nothing_said question.Certify text plan lines h = h
-nothing_said (question.Draw rows) text plan lines (is, drawn) = absurd (cc)
+nothing_said (question.Draw rows) text plan lines is = absurd (cc)
 nothing_said (question.Faults name) text plan lines h = h
 nothing_said question.Lint text plan lines h = h
 nothing_said question.Rows text plan lines h = h

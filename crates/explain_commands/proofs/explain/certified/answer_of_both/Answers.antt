@@ -9,7 +9,7 @@ pub returns-in_ok-sound_text-in-Ok-clause-answers : goal.returns-in_ok-sound_tex
 returns-in_ok-sound_text-in-Ok-clause-answers c =
     let text = c.in_ok-sound_text-in-Ok in
     let S : Status → Type 0 = λ s. IsBothExplained c.args.name.now c.args.certified_by.now c.args.given.now.text.items c.args.given.now.plan c.args.certificate.now s (cow_str_bytes c.found.result.text) in
-    let summed = subst (IsSummedUp c.args.given.now.plan c.args.certificate.now) (sym c.found.ensures.text) text.ensures in
+    let summed = subst (IsSummedUp c.args.given.now.plan) (sym c.found.ensures.text) text.ensures in
     subst S (sym c.found.ensures.status) (c.in-Ok.ensures.accepted, summed)
 
 pub returns-in-Err-clause-answers : goal.returns-in-Err-clause-answers

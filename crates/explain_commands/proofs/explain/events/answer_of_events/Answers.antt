@@ -13,7 +13,7 @@ returns-in_ok-sound_text-in-Ok-clause-answers g c =
     let cert = c.args.certificate.now in
     let happenings = stream g.V.Source.account c.args.events.now c.events_or_text.new.events in
     let S : Status → Type 0 = λ s. AreEventsExplained plan cert happenings s (cow_str_bytes c.found.result.text) in
-    let summed = subst (IsSummedUp plan cert) (sym c.found.ensures.text) c.in_ok-sound_text-in-Ok.ensures in
+    let summed = subst (IsSummedUp plan) (sym c.found.ensures.text) c.in_ok-sound_text-in-Ok.ensures in
     subst S (sym c.found.ensures.status) ((c.in-Ok._events.items, c.in-Ok.ensures.given), (c.requires.accepted, summed))
 
 pub returns-in-Err-clause-answers : goal.returns-in-Err-clause-answers

@@ -11,7 +11,7 @@ pub returns-then-row-node-clause-cause : goal.returns-then-row-node-clause-cause
 unfolding NamesNeighbor
 returns-then-row-node-clause-cause c = λ r is.
     let plan = c.args.plan.now in (
-      (refl, (c.args.row.now, is, (c.if-row-node.true, c.fitting_next-next.ensures))),
+      (refl, (c.args.row.now, is, c.if-row-node.true)),
       not_of_item (rows_of plan c.args.node) r (λ (row : Row). NamesNeighbor plan c.args.node row) c.args.row.now (sym is) (λ names. names.0 c.if-row-node.true),
     )
 
@@ -19,7 +19,7 @@ pub returns-in-None-clause-cause : goal.returns-in-None-clause-cause
 unfolding NamesNeighbor IsJoined
 returns-in-None-clause-cause c = λ r is.
     let plan = c.args.plan.now in (
-      (refl, (c.args.row.now, is, (sym c.in-None.ensures, c.fitting_port.ensures))),
+      (refl, (c.args.row.now, is, sym c.in-None.ensures)),
       not_of_item (rows_of plan c.args.node) r (λ (row : Row). NamesNeighbor plan c.args.node row) c.args.row.now (sym is)
           (λ names. none-some names.1.0 (c.in-None.ensures ∙ names.1.1)),
     )
@@ -31,7 +31,7 @@ returns-in-Some-clause-cause c = λ r is.
     let row = c.args.row.now in
     let bus = c.in-Some.bus in
     let out : ¬ IsOnBus plan row.next bus = λ on. cc (c.is_on_bus.ensures, on, c.if-not-is_on_bus.true) in (
-      (refl, (row, is, (sym c.in-Some.ensures, out, c.fitting_port-in-Some.ensures, c.fitting_next-next.ensures))),
+      (refl, (row, is, (sym c.in-Some.ensures, out))),
       not_of_item (rows_of plan c.args.node) r (λ (row : Row). NamesNeighbor plan c.args.node row) row (sym is)
           (λ names. out (subst (λ (b : ℕ). IsOnBus plan row.next b) (same_Some names.1.0 bus (sym names.1.1 ∙ sym c.in-Some.ensures)) names.1.2)),
     )
@@ -46,6 +46,6 @@ returns-in-Some-3-clause-cause c = λ r is.
       | inl one ↦ absurd (not (λ two. absurd (omega (arith, one, two))))
       | inr two ↦ two
     ] in (
-      (refl, (row, is, (several, (λ bridge. not (λ _. bridge)), c.fitting_next-next.ensures))),
+      (refl, (row, is, (several, λ bridge. not (λ _. bridge)))),
       not_of_item (rows_of plan c.args.node) r (λ (row : Row). NamesNeighbor plan c.args.node row) row (sym is) (λ names. not names.2),
     )

@@ -33,7 +33,7 @@ returns-in-Some c =
     let e = c.in-Some.eid.value in
     let found = c.in-Some.ensures in
     let other = found.1.0 in (
-      (refl, ((found.0, other, has_item rows c.args.row (λ (r : Row). Covers r e) row c.in_ok-found.ensures found.1.1), c.rest_of-rest.ensures, c.rest_of-earlier_rest.ensures)),
+      (refl, (found.0, other, has_item rows c.args.row (λ (r : Row). Covers r e) row c.in_ok-found.ensures found.1.1)),
       not_of_item rows c.args.row (IsApartFromEarlier rows c.args.row) row c.in_ok-found.ensures
           (not_apart rows c.args.row c.in-Some.earlier e row other.0 found.0 other.1 found.1.1 other.2),
     )

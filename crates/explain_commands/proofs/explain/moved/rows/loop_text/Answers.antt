@@ -1,5 +1,4 @@
-use Rattle.std.proofs.Common.{◌≡◌, ◌++◌, List, ℕ, length, string_bytes, subst}
-use Rattle.std.specs.Prelude.{IfOk}
+use Rattle.std.proofs.Common.{List, ℕ, length, string_bytes, subst}
 use Rattle.net_rules.specs.declared.mixed_loop.Side.{Side}
 use Rattle.explain_commands.specs.MoveRows.{AreHopsTold, file_of}
 use Rattle.explain_commands.proofs.MovedTexts.{loop_told}
@@ -11,8 +10,6 @@ returns c =
     let after = file_of c.args.new_name.now c.args.after.now in
     let loop = c.args.found.now in
     let hops = string_bytes c.in_ok-hops.hops in
-    let remedy = string_bytes c.in_ok-remedy.remedy in
     let nodes_so = subst (λ (nodes : List ℕ). AreHopsTold before after loop.eid.value nodes c.deref-2.result.now (length c.deref-2.result.now) hops) c.deref.ensures.value c.in_ok-hops.ensures in
     let each = subst (λ (sides : List Side). AreHopsTold before after loop.eid.value loop.nodes.items sides (length sides) hops) c.deref-2.ensures.value nodes_so in
-    let written = subst (λ (why : List ℕ). IfOk c.format.result (λ t. string_bytes t ≡ hops ++ (why ++ remedy))) c.in_ok-why.ensures c.format.ensures.ok in
-    loop_told string_bytes before after loop hops remedy c.format.result each c.in_ok-remedy.ensures written
+    loop_told string_bytes before after loop hops (string_bytes c.in_ok-why.why) c.format.result each c.format.ensures.ok

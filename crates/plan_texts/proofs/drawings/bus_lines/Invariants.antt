@@ -1,6 +1,0 @@
-use Rattle.std.proofs.Common.{◌≡◌, string_bytes, take}
-use Rattle.plan_texts.specs.DrawingLines.{all_by_index, bus_line}
-use Rattle.plan_texts.proofs.drawings.bus_lines.Given as goal
-
-abbrev pub invariant-loop-index : goal.invariant-loop-index
-invariant-loop-index l = string_bytes l.lines ≡ all_by_index bus_line (take l.index l.buses)

@@ -1,7 +1,0 @@
-use Rattle.std.proofs.Common.{◌≡◌, string_bytes, encode_utf8_all}
-use Rattle.std.specs.List.{flat_map}
-use Rattle.plan_texts.specs.DrawingLines.{escaped_char}
-use Rattle.plan_texts.proofs.drawings.escaped.Given as goal
-
-abbrev pub invariant-loop-character : goal.invariant-loop-character
-invariant-loop-character l = string_bytes l.written ≡ encode_utf8_all (flat_map escaped_char l.yielded)
