@@ -3,8 +3,6 @@ use Rattle.std.proofs.Common.{◌≡◌, ◌≢◌, ◌⊎◌, ℕ, zero, suc, �
 use Rattle.std.specs.declared.alloc.Global.{Global}
 use Rattle.plan_values.specs.declared.plan.Plan.{Plan}
 use Rattle.net_tables.specs.Routing.{IsBridge}
-use Rattle.toml.specs.Data.{Data}
-use Rattle.board_kept.specs.Made.{AsksFor, AreKindsAsSaid, GivesStep, IsCutOff}
 use Rattle.board_kept.specs.Turns.{AreTurnsTo}
 use Rattle.board_kept.specs.Ways.{AreClosed, AreNear, ComesOver, HasNoWay, HasNoWayBy, SendsOn, TurnsTo}
 use Rattle.board_kept.proofs.Reaching.{more_given}
@@ -43,9 +41,3 @@ pub no_way_so : {E : Type 0} (Given : ℕ → ℕ → ℕ → Type 0) (turns see
 no_way_so Given turns seen plan a b (Ok answer) same are none = λ yes.
     no_way_given Given seen plan a b (subst (λ ts. AreTurnsTo Given plan b ts) (sym same) are) (none yes)
 no_way_so Given turns seen plan a b (Err e) same are none = tt
-
--- and of a board that asks for it
-pub cut_off_so : {E : Type 0} (board : Data) (plan : Plan) (a b : ℕ) (r : Result Bool E) → AsksFor board plan a b → AreKindsAsSaid board plan
-    → IfOk r (λ answer. IsTrue answer → HasNoWayBy (GivesStep board plan) plan a b) → IfOk r (λ answer. IsTrue answer → IsCutOff board plan a b)
-cut_off_so board plan a b (Ok answer) asked kinds none = λ yes. record { asked = asked; kinds = kinds; none = none yes }
-cut_off_so board plan a b (Err e) asked kinds none = tt

@@ -1,4 +1,3 @@
-pub mod Beyond
 pub mod More
 pub mod Members
 pub mod Reaching

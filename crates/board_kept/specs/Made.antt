@@ -1,19 +1,17 @@
 -- What a board asks for, and which plans are fit for it.
-use Rattle.std.specs.Prelude.{◌≡◌, ◌≢◌, ◌⊎◌, ℕ, ◌<◌, List, codes, length, None, Some, slice_get}
+use Rattle.std.specs.Prelude.{◌≡◌, ◌⊎◌, ℕ, ◌<◌, List, codes, length, None, Some, slice_get}
 use Rattle.toml.specs.Data.{Data, get}
 use Rattle.board.specs.declared.board.RecordFile.{RecordFile}
 use Rattle.plan_values.specs.declared.plan.Plan.{Plan}
 use Rattle.plan_values.specs.declared.certificate.Certificate.{Certificate}
-use Rattle.plan_values.specs.declared.nodes.Port.{Port}
 use Rattle.plan_values.specs.declared.nodes.Row.{Row}
-use Rattle.net_tables.specs.Ownership.{IsOwnedBy}
-use Rattle.net_tables.specs.Routing.{Covers, IsBridge, ports_of, rows_of}
+use Rattle.net_tables.specs.Routing.{Covers, rows_of}
 use Rattle.net_rules.specs.Rules.{Accepts}
 use Rattle.board_values.specs.Said.{SaysText, item_at}
 use Rattle.board_kept.specs.Texts.{row_text}
 use Rattle.net_tables.specs.Names.{name_of_node}
 use Rattle.board_kept.specs.Kept.{Keeps}
-use Rattle.board_kept.specs.Ways.{HasNoWayBy, ReachesBy}
+use Rattle.board_kept.specs.Ways.{ReachesBy}
 
 -- the name stands in the list at `reaches`
 abbrev pub ListsName : Data → List ℕ → Type 0
@@ -67,31 +65,3 @@ pub record IsFitFor (files : List RecordFile) (board : Data) (plan : Plan) (cert
   pub accepted : Accepts plan certificate
   pub keeps : Keeps files board plan
   pub reaches : AllReachAsked board plan
-
--- ---- where no way leads
-
--- n has ports on two buses
-abbrev pub IsOnTwoBuses : Plan → ℕ → Type 0
-IsOnTwoBuses plan n = (p q : ℕ) × (one other : Port) × (slice_get (ports_of plan n) p ≡ Some one)
-    × (slice_get (ports_of plan n) q ≡ Some other) × (one.bus ≢ other.bus)
-
--- what stands of n makes it a bridge where no kind does: it has a pool, owns a node, or has rows and ports on two buses
-abbrev pub IsMadeBridge : Plan → ℕ → Data → Type 0
-IsMadeBridge plan n d = (get (codes "pool") d ≢ None) ⊎ ((k : ℕ) × IsOwnedBy plan k n)
-    ⊎ ((item_at (codes "rows") 0 d ≢ None) × IsOnTwoBuses plan n)
-
--- n is a bridge where what stands of it makes it one
-abbrev pub IsKindAsSaid : Data → Plan → ℕ → Type 0
-IsKindAsSaid board plan n = (d : Data) → item_at (codes "node") n board ≡ Some d → get (codes "kind") d ≡ None
-    → IsMadeBridge plan n d → IsBridge plan n
-
--- so it is of each node
-abbrev pub AreKindsAsSaid : Data → Plan → Type 0
-AreKindsAsSaid board plan = (n : ℕ) → n < length plan.nodes.items → IsKindAsSaid board plan n
-
--- The board asks that a reaches b, every node that it makes a bridge is one, and no way over buses and bridges leads
--- from a to b that goes where the rows lead that the board gives for b's endpoint ID.
-pub record IsCutOff (board : Data) (plan : Plan) (a b : ℕ) : Type 0 where
-  pub asked : AsksFor board plan a b
-  pub kinds : AreKindsAsSaid board plan
-  pub none : HasNoWayBy (GivesStep board plan) plan a b

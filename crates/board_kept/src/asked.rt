@@ -37,7 +37,7 @@ fn asks(said: &Value, plan: &Plan, to: usize) -> bool
 }
 
 /// The most nodes that are named.
-pub const MOST_NAMES: usize = 64;
+const MOST_NAMES: usize = 64;
 
 /// Whether the name stands in the list at `reaches`, or more names do than are looked at.
 fn lists_name(said: &Value, name: &str) -> bool
@@ -53,7 +53,7 @@ fn lists_name(said: &Value, name: &str) -> bool
 }
 
 /// Whether a name stands at an index of the list at `reaches`.
-pub fn is_name_at(said: &Value, name: &str, index: usize) -> bool
+fn is_name_at(said: &Value, name: &str, index: usize) -> bool
     ensures { IsTrue result ↔ SaysText (item_at (codes "reaches") index (view said.now)) name.now }
 {
     match item(said, "reaches", index) {

@@ -1,46 +1,13 @@
 //! Whether no way over buses and bridges leads from one node to another.
 ghost use Rattle.std.specs.Prelude.{◌≡◌, ◌≢◌, ◌<◌, ◌↔◌, IfOk, IsTrue, false, length, slice_get, Some, true};
-ghost use Rattle.toml.specs.View.{view};
 ghost use Rattle.board_kept.specs.Ways.{HasNoWay, HasNoWayBy, TurnsTo, AreNear, IsStepIn, IsPassing, IsClosedAt, AreClosed};
-ghost use Rattle.board_kept.specs.Made.{AsksFor, Asks, AreKindsAsSaid, ListsName, IsCutOff};
 ghost use Rattle.board_kept.specs.Rowed.{LeadsAlready};
 
-use crate::asked::{MOST_NAMES, is_name_at, turns_to};
-use crate::cut_kinds::are_kinds_as_said;
-use crate::rowed::turns_to as turns_before;
-use crate::texts::node_name;
+use crate::rowed::turns_to;
 use crate::ways::{first_reached, is_next, is_step, neighbours};
-use board_values::{is_left_out, item};
 use net_tables::lookup::is_bridge;
 use plan_values::Plan;
 use std::alloc::{AllocError, Global};
-use toml::Value;
-
-/// Whether the board asks that a node reaches another, to which no way leads. Where the answer is no, that is not
-/// known.
-pub fn is_cut_off(
-    alloc: Global,
-    board: &Value,
-    plan: &Plan,
-    from: usize,
-    to: usize,
-) -> Result<bool, AllocError>
-    ensures { IfOk result (λ answer. IsTrue answer → IsCutOff (view board.now) plan.now from to) }
-{
-    if !may_be_cut(board, plan, from, to) {
-        return Ok(false);
-    }
-    let turns = turns_to(alloc, board, plan, to)?;
-    leads_nowhere(alloc, plan, &turns, from, to)
-}
-
-/// Whether the board asks that a node reaches another, and each node that it makes a bridge is one.
-fn may_be_cut(board: &Value, plan: &Plan, from: usize, to: usize) -> bool
-    ensures asked { IsTrue result → AsksFor (view board.now) plan.now from to }
-    ensures kinds { IsTrue result → AreKindsAsSaid (view board.now) plan.now }
-{
-    is_asked(board, plan, from, to) && are_kinds_as_said(board, plan)
-}
 
 /// Whether no way leads from a node to another that goes where the rows of another plan lead. Where the answer is no,
 /// that is not known.
@@ -53,42 +20,8 @@ pub fn is_cut_off_with(
 ) -> Result<bool, AllocError>
     ensures { IfOk result (λ answer. IsTrue answer → HasNoWayBy (LeadsAlready before.now) plan.now from to) }
 {
-    let turns = turns_before(alloc, before, plan, to)?;
+    let turns = turns_to(alloc, before, plan, to)?;
     leads_nowhere(alloc, plan, &turns, from, to)
-}
-
-/// Whether the board asks that a node reaches another.
-fn is_asked(board: &Value, plan: &Plan, from: usize, to: usize) -> bool
-    ensures { IsTrue result → AsksFor (view board.now) plan.now from to }
-{
-    match item(board, "node", from) {
-        Some(said) => is_asked_at(said, plan, to),
-        None => false,
-    }
-}
-
-fn is_asked_at(said: &Value, plan: &Plan, to: usize) -> bool
-    ensures { IsTrue result → Asks (view said.now) plan.now to }
-{
-    if is_left_out(said, "reaches") {
-        return true;
-    }
-    match node_name(plan, to) {
-        Some(name) => has_name(said, name),
-        None => false,
-    }
-}
-
-/// Whether the name stands among the first in the list at `reaches`.
-fn has_name(said: &Value, name: &str) -> bool
-    ensures { IsTrue result → ListsName (view said.now) name.now }
-{
-    for index in 0..MOST_NAMES {
-        if is_name_at(said, name, index) {
-            return true;
-        }
-    }
-    false
 }
 
 /// Whether no way leads from a node to another that goes where `turns` lead.

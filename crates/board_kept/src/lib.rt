@@ -3,7 +3,6 @@
 
 mod asked;
 mod cut;
-mod cut_kinds;
 mod fields;
 mod fit;
 mod kept;
@@ -17,7 +16,7 @@ mod texts;
 mod unfit;
 mod ways;
 
-pub use cut::{is_cut_off, is_cut_off_with};
+pub use cut::is_cut_off_with;
 pub use fit::judge;
 pub use kept::keeps;
 pub use rowed::judge_rows;

@@ -10,9 +10,9 @@ use Rattle.board.specs.declared.board.RecordFile.{RecordFile}
 use Rattle.board.specs.declared.making.NoPlan.{NoPlan}
 use Rattle.board_values.specs.Lacks.{Lacks}
 use Rattle.board_values.specs.Lines.{IsNodeTold, IsWorded}
+use Rattle.board_values.specs.Ways.{IsCutOff}
 use Rattle.net_tables.specs.Names.{name_of_node}
 use Rattle.board_kept.specs.Kept.{Keeps}
-use Rattle.board_kept.specs.Made.{IsCutOff}
 use Rattle.board_kept.specs.Rowed.{IsSameButRows, LeadsAlready}
 use Rattle.board_kept.specs.Ways.{HasNoWayBy}
 
@@ -48,14 +48,12 @@ abbrev pub IsWayTold : Data → ℕ → ℕ → List ℕ → Type 0
 IsWayTold board a b text = (one other : List ℕ) × IsNodeTold board a one × IsNodeTold board b other
     × (text ≡ reason_line (way_words one other))
 
--- The text says that no way leads from one node to another, for which the board asks; and so it is in a plan that has
--- all that the board gives.
-pub record IsCutTold (files : List RecordFile) (board : Data) (text : List ℕ) : Type 0 where
-  pub plan : Plan
+-- The text says that no way leads from one node to another, for which the board asks; and so it is, whatever is chosen of
+-- what the board leaves out.
+pub record IsCutTold (board : Data) (text : List ℕ) : Type 0 where
   pub one : ℕ
   pub other : ℕ
-  pub given : Keeps files board plan
-  pub cut : IsCutOff board plan one other
+  pub cut : IsCutOff board one other
   pub told : IsWayTold board one other text
 
 -- The text says that the board lacks something, and so it does.
@@ -73,7 +71,7 @@ IsUnfound text = (words : List ℕ) × (text ≡ codes "no plan: none was found:
 -- why no plan is made of a board
 abbrev pub IsReason : List RecordFile → Data → List ℕ → Type 0
 IsReason files board text =
-    IsRuledOut (Keeps files board) text ⊎ IsCutTold files board text ⊎ IsLackTold board text ⊎ IsUnfound text
+    IsRuledOut (Keeps files board) text ⊎ IsCutTold board text ⊎ IsLackTold board text ⊎ IsUnfound text
 
 -- ---- rows PLAN
 
