@@ -3,11 +3,13 @@
 Boards are trees of bridges with endpoints, some with a second way, and with endpoint IDs, pools, rows and lists of whom to
 reach left out or given. Of a plan that make prints check has to say yes with the certificate that it writes, and what the
 board gives has to be in it; from each node packets have to come to all that it is to reach, by the rows, and in as few hops
-as the buses allow where no row is given for the endpoint ID. Of a reason is tried that no endpoint ID of the pool or no run
+as the buses and the rows allow that are given for the endpoint ID. Of a reason is tried that no endpoint ID of the pool or no run
 of them is left; that no way leads from the one node to the other, whichever endpoint IDs are chosen, along the rows that
 are given for one that is given; or that a rule is named of a board that gives endpoint IDs, pools or rows. Where packets of
-the plan that was made don't arrive, the pool must have too few endpoint IDs for which no row is given. 10,000 boards are
-tried of the proved program, 200 of another; a word that is a number says how many, and `from N` with which to begin.
+the plan that was made don't arrive, the pool must have too few endpoint IDs for which no row is given. A plan of every
+fourth board loses most of its rows, and now and then another row is turned: `rows` has to make a plan of it in which each
+node reaches all in as few hops as may be with the rows that are left, or has to have a reason that is true. 10,000 boards
+are tried of the proved program, 200 of another; a word that is a number says how many, and `from N` with which to begin.
 """
 import json
 import random
@@ -25,7 +27,7 @@ class Board:
     """A board: its buses, and its nodes as dicts of what is given."""
 
     def __init__(self, seed):
-        self.random = random.Random(seed)
+        self.seed, self.random = seed, random.Random(seed)
         self.buses, self.nodes = [], []
         self.add("root", None, [self.bus()])
         self.nodes[0]["pool"] = self.random.choice(["9-254", "9-63", "16-40"])
@@ -178,16 +180,69 @@ def wrong_of_plan(trial, board, text, certificate):
         return "its certificate doesn't fit"
     if wrong := lacks(board, plan):
         return f"lacks {wrong}"
-    nodes, is_bridge = plan["nodes"], [it["kind"] == "bridge" for it in plan["nodes"]]
-    covered = {eid for eid in range(8, 255) if is_covered(board, eid)}
+    nodes = plan["nodes"]
     for at, node in enumerate(board.nodes):
-        least = hops_over(board.nodes, is_bridge, at)
-        for to, other in enumerate(nodes):
-            if other["name"] in node.get("reaches", [other["name"]]):
-                hops = hops_by_rows(plan, at, other["eid"])
-                if hops is None or other["eid"] not in covered and hops != least[to]:
-                    return f"{node['name']} to {other['name']}: {hops} hops"
+        asked = [to for to, other in enumerate(nodes) if other["name"] in node.get("reaches", [other["name"]])]
+        if wrong := wrong_of_hops(board.nodes, plan, at, asked):
+            return wrong
+    return wrong_of_rows(trial, board.random, plan) if board.seed % 4 == 0 else None
+
+
+def wrong_of_hops(given, plan, at, asked):
+    """Whether packets come from a node to others in as few hops as may be with the rows of the nodes that are given."""
+    nodes, is_bridge = plan["nodes"], [it["kind"] == "bridge" for it in plan["nodes"]]
+    least = hops_over(given, is_bridge, at)
+    for to in asked:
+        eid = nodes[to]["eid"]
+        own = hops_over(given, is_bridge, at, eid) if any(given_turn(it, eid) for it in given) else least
+        hops = hops_by_rows(plan, at, eid)
+        if hops is None or hops != own.get(to):
+            return f"{nodes[at]['name']} to {nodes[to]['name']}: {hops} hops, and not {own.get(to)}"
     return None
+
+
+# ---- rows of plans
+
+
+def as_given(plan):
+    """The nodes of a plan in the form of a board's."""
+    ports = [[f"{it['bus']} {it['address']}" for it in node["ports"]] for node in plan["nodes"]]
+    return [{"name": it["name"], "ports": own, "rows": [*map(row_text, it["rows"])]} for it, own in zip(plan["nodes"], ports)]
+
+
+def turn_some(random, plan):
+    """Takes most rows away, and turns one now and then to another node on its bus."""
+    for node in plan["nodes"]:
+        node["rows"] = [it for it in node["rows"] if random.random() < 0.2]
+        for row in node["rows"]:
+            bus = node["ports"][row["port"]]["bus"]
+            near = [it["name"] for it in plan["nodes"] if it is not node and bus in {own["bus"] for own in it["ports"]}]
+            if random.random() < 0.1:
+                row["next"] = random.choice(near)
+
+
+def wrong_of_rows(trial, random, plan):
+    turn_some(random, plan)
+    given, nodes = as_given(plan), plan["nodes"]
+    status, output, error = trial.run(["rows", trial.file("rows.json", json.dumps(plan))])
+    reason = output.decode()
+    if status == 1 and (found := re.match(r'no plan: no way over .* leads from node "(\w+)" to node "(\w+)"', reason)):
+        at = {it["name"]: place for place, it in enumerate(nodes)}
+        bridges = [it["kind"] == "bridge" for it in nodes]
+        is_cut = at[found[2]] not in hops_over(given, bridges, at[found[1]], nodes[at[found[2]]]["eid"])
+        return None if is_cut else f"rows: {reason}"
+    if status == 1:
+        return None if reason.startswith("no plan: ") and any(it["rows"] for it in nodes) else f"rows: {reason}"
+    if status:
+        return f"rows: status {status}: {(output + error).decode()}"
+    made = json.loads(reason)
+    if trial.run(["certify", trial.file("made.json", reason)])[0]:
+        return "rows: no certificate"
+    if [{**it, "rows": []} for it in made["nodes"]] != [{**it, "rows": []} for it in nodes] or made["buses"] != plan["buses"]:
+        return "rows: not the same plan"
+    if any(row not in own["rows"] for it, own in zip(nodes, made["nodes"]) for row in it["rows"]):
+        return "rows: lost a row"
+    return next(filter(None, (wrong_of_hops(given, made, at, range(len(nodes))) for at in range(len(nodes)))), None)
 
 
 # ---- reasons

@@ -1,17 +1,14 @@
 -- What a board asks for, and which plans are fit for it.
-use Rattle.std.specs.Prelude.{◌≡◌, ◌⊎◌, ℕ, ◌<◌, List, codes, length, None, Some, slice_get}
+use Rattle.std.specs.Prelude.{◌≡◌, ◌⊎◌, ℕ, ◌<◌, List, codes, length, None, Some}
 use Rattle.toml.specs.Data.{Data, get}
 use Rattle.board.specs.declared.board.RecordFile.{RecordFile}
 use Rattle.plan_values.specs.declared.plan.Plan.{Plan}
 use Rattle.plan_values.specs.declared.certificate.Certificate.{Certificate}
-use Rattle.plan_values.specs.declared.nodes.Row.{Row}
-use Rattle.net_tables.specs.Routing.{Covers, rows_of}
 use Rattle.net_rules.specs.Rules.{Accepts}
 use Rattle.board_values.specs.Said.{SaysText, item_at}
-use Rattle.board_kept.specs.Texts.{row_text}
 use Rattle.net_tables.specs.Names.{name_of_node}
+use Rattle.net_reached.specs.Wishes.{ReachesNode}
 use Rattle.board_kept.specs.Kept.{Keeps}
-use Rattle.board_kept.specs.Ways.{ReachesBy}
 
 -- the name stands in the list at `reaches`
 abbrev pub ListsName : Data → List ℕ → Type 0
@@ -29,31 +26,9 @@ Asks d plan b = (get (codes "reaches") d ≡ None) ⊎ ListsNode d plan b
 abbrev pub AsksFor : Data → Plan → ℕ → ℕ → Type 0
 AsksFor board plan a b = (d : Data) × (item_at (codes "node") a board ≡ Some d) × Asks d plan b
 
--- the row stands in the list at `rows`
-abbrev pub ListsRow : Data → Plan → Row → Type 0
-ListsRow d plan row = (i : ℕ) × SaysText (item_at (codes "rows") i d) (row_text plan row)
-
--- the row covers e, leads to k and stands in the list at `rows`
-abbrev pub IsRowGiven : Data → Plan → Row → ℕ → ℕ → Type 0
-IsRowGiven d plan row e k = Covers row e × (row.next ≡ k) × ListsRow d plan row
-
--- n has such a row
-abbrev pub GivesStepAt : Data → Plan → ℕ → ℕ → ℕ → Type 0
-GivesStepAt d plan e n k =
-    (r : ℕ) × (row : Row) × (slice_get (rows_of plan n) r ≡ Some row) × IsRowGiven d plan row e k
-
--- the board gives n a row for e that leads to k
-abbrev pub GivesStep : Data → Plan → ℕ → ℕ → ℕ → Type 0
-GivesStep board plan e n k = (d : Data) × (item_at (codes "node") n board ≡ Some d) × GivesStepAt d plan e n k
-
--- Packets that are put in at a reach b, after as few hops as the buses, the bridges and the rows that the board gives
--- allow.
-abbrev pub ReachesWell : Data → Plan → ℕ → ℕ → Type 0
-ReachesWell board plan a b = ReachesBy (GivesStep board plan) plan a b
-
--- so it is of all of the plan's nodes for which the board asks at a
+-- packets that are put in at a reach all of the plan's nodes for which the board asks there
 pub record ReachesAllAsked (board : Data) (plan : Plan) (a : ℕ) : Type 0 where
-  pub each : (b : ℕ) → b < length plan.nodes.items → AsksFor board plan a b → ReachesWell board plan a b
+  pub each : (b : ℕ) → b < length plan.nodes.items → AsksFor board plan a b → ReachesNode plan a b
 
 -- so it is of every node
 pub record AllReachAsked (board : Data) (plan : Plan) : Type 0 where

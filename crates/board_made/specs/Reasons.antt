@@ -11,10 +11,8 @@ use Rattle.board.specs.declared.making.NoPlan.{NoPlan}
 use Rattle.board_values.specs.Lacks.{Lacks}
 use Rattle.board_values.specs.Lines.{IsNodeTold, IsWorded}
 use Rattle.board_values.specs.Ways.{IsCutOff}
-use Rattle.net_tables.specs.Names.{name_of_node}
 use Rattle.board_kept.specs.Kept.{Keeps}
-use Rattle.board_kept.specs.Rowed.{IsSameButRows, LeadsAlready}
-use Rattle.board_kept.specs.Ways.{HasNoWayBy}
+use Rattle.board_kept.specs.Rowed.{IsSameButRows}
 
 -- The text tells this obstacle: its line, a place in the board or none, and an explanation.
 pub record TellsObstacle (plan : Plan) (obstacle : CertifyError) (text : List ℕ) : Type 0 where
@@ -75,24 +73,10 @@ IsReason files board text =
 
 -- ---- rows PLAN
 
--- a node of a plan by its name
-abbrev pub name_words : List ℕ → List ℕ
-name_words name = codes "node \"" ++ (name ++ codes "\"")
-
--- the text says of these nodes of a plan that no way leads from one to the other
-abbrev pub IsWayToldOf : Plan → ℕ → ℕ → List ℕ → Type 0
-IsWayToldOf plan a b text = (one other : List ℕ) × (name_of_node plan a ≡ Some one) × (name_of_node plan b ≡ Some other)
-    × (text ≡ reason_line (way_words (name_words one) (name_words other)))
-
--- The text says so, and so it is in a plan that is the given one but for its rows, with the rows of the given one.
-pub record IsCutToldOf (before : Plan) (text : List ℕ) : Type 0 where
-  pub plan : Plan
-  pub one : ℕ
-  pub other : ℕ
-  pub given : IsSameButRows before plan
-  pub cut : HasNoWayBy (LeadsAlready before) plan one other
-  pub told : IsWayToldOf plan one other text
+-- a line that says that no way leads from one node to another; that it is so is not promised
+abbrev pub IsWayLine : List ℕ → Type 0
+IsWayLine text = (one other : List ℕ) × (text ≡ reason_line (way_words one other))
 
 -- why no plan with rows is made
 abbrev pub IsRowsReason : Plan → List ℕ → Type 0
-IsRowsReason before text = IsRuledOut (IsSameButRows before) text ⊎ IsCutToldOf before text ⊎ IsUnfound text
+IsRowsReason before text = IsRuledOut (IsSameButRows before) text ⊎ IsWayLine text ⊎ IsUnfound text
