@@ -1,6 +1,6 @@
 -- What is answered for a board is answered to its text, and how lines are worded.
 use Rattle.std.proofs.Common.{◌≡◌, ◌≢◌, ℕ, List, ◌++◌, Some, Result, Ok, Err, subst, sym}
-use Rattle.std.specs.Prelude.{IfOk, codes, string_bytes}
+use Rattle.std.specs.Prelude.{IfOk, codes}
 use Rattle.toml.specs.Data.{Data}
 use Rattle.plan_values.specs.declared.plan.Plan.{Plan}
 use Rattle.net_rules.specs.declared.certify_error.CertifyError.{CertifyError}

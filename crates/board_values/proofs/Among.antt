@@ -1,7 +1,7 @@
 -- What stands among the first of a list, or there are more.
-use Rattle.std.proofs.Common.{◌≡◌, ℕ, ◌+◌, ◌<◌, List, [], ◌∷◌, ◌++◌, length, Bool, false, Option, Some, None, IsTrue, IfSome, option_and_then, option_map, slice_get, refl, sym, subst, ◌∙◌, inl, inr, arith, codes}
+use Rattle.std.proofs.Common.{◌≡◌, ℕ, ◌<◌, List, [], ◌∷◌, ◌++◌, length, Bool, false, Option, Some, None, IsTrue, IfSome, option_and_then, option_map, refl, sym, subst, ◌∙◌, inl, inr, arith, codes}
 use Rattle.std.proofs.lemmas.Bool.{cases_lt, cases_Bool, false≢true}
-use Rattle.std.proofs.lemmas.Option.{none-some, same_Some}
+use Rattle.std.proofs.lemmas.Option.{none-some}
 use Rattle.mctp_transport.proofs.FirstIndexes.{get_cases}
 use Rattle.toml.specs.Data.{Data, as_str, get}
 use Rattle.board_values.specs.Said.{SaysText, item_at}

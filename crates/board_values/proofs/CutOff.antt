@@ -1,6 +1,6 @@
 -- Nodes that no hop leaves.
-use Rattle.std.proofs.Common.{◌≡◌, ◌≢◌, ◌⊎◌, ℕ, zero, suc, ◌<◌, List, length, Bool, true, false, not, Option, Some, None, IsTrue, slice_get, subst, sym, ◌∙◌, inl, inr, arith, codes}
-use Rattle.std.proofs.lemmas.Bool.{cases_lt, cases_Bool, false≢true}
+use Rattle.std.proofs.Common.{◌≡◌, ◌≢◌, ◌⊎◌, ℕ, zero, suc, ◌<◌, List, length, Bool, true, false, not, Option, Some, None, slice_get, subst, sym, ◌∙◌, inl, inr, arith, codes}
+use Rattle.std.proofs.lemmas.Bool.{cases_lt}
 use Rattle.std.proofs.lemmas.Option.{none-some}
 use Rattle.toml.specs.Data.{Data}
 use Rattle.board_values.specs.Said.{item_at}
