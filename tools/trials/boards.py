@@ -3,9 +3,13 @@
 Boards are trees of bridges with endpoints, some with a second way, and with endpoint IDs, pools, rows and lists of whom to
 reach left out or given. Of a plan that make prints check has to say yes with the certificate that it writes, and what the
 board gives has to be in it; from each node packets have to come to all that it is to reach, by the rows, and in as few hops
-as the buses allow where no row is given for the endpoint ID. Of a reason is tried that no endpoint ID of the pool, no run
-of them or no way is left, or that a rule is named of a board that gives endpoint IDs, pools or rows. 10,000 boards are
-tried of the proved program, 200 of another; a word that is a number says how many, and `from N` with which to begin.
+as the buses and the rows allow that are given for the endpoint ID. Of a reason is tried that no endpoint ID of the pool or no run
+of them is left; that no way leads from the one node to the other, whichever endpoint IDs are chosen, along the rows that
+are given for one that is given; or that a rule is named of a board that gives endpoint IDs, pools or rows. Where packets of
+the plan that was made don't arrive, the pool must have too few endpoint IDs for which no row is given. A plan of every
+fourth board loses most of its rows, and now and then another row is turned: `rows` has to make a plan of it in which each
+node reaches all in as few hops as may be with the rows that are left, or has to have a reason that is true. 10,000 boards
+are tried of the proved program, 200 of another; a word that is a number says how many, and `from N` with which to begin.
 """
 import json
 import random
@@ -23,7 +27,7 @@ class Board:
     """A board: its buses, and its nodes as dicts of what is given."""
 
     def __init__(self, seed):
-        self.random = random.Random(seed)
+        self.seed, self.random = seed, random.Random(seed)
         self.buses, self.nodes = [], []
         self.add("root", None, [self.bus()])
         self.nodes[0]["pool"] = self.random.choice(["9-254", "9-63", "16-40"])
@@ -64,12 +68,21 @@ class Board:
             node["reaches"] = self.random.sample(names, self.random.randint(0, min(4, len(names))))
         if self.random.random() < 0.05:
             node["eid"] = self.random.randint(8, 60)
-        if self.random.random() < 0.03 and node is not self.nodes[0]:
-            first = self.random.randint(9, 60)
-            node["rows"] = [f"{first} via {self.random.choice([it for it in names if it != node['name']])} port 0"]
+        if self.random.random() < 0.06 and len(names) > 1:
+            node["rows"] = [self.row(node)]
         if self.random.random() < 0.2:
             node["tid"] = self.nodes.index(node) + 1
             node["record"] = [{"type": "terminus-locator", "tid": node["tid"], "eid": node["name"]}]
+
+    def row(self, node):
+        """A row of the node's own: mostly of some endpoint IDs, to a bridge on the port's bus."""
+        port = self.random.randrange(len(node["ports"]))
+        others = [it for it in self.nodes if it is not node]
+        near = [it for it in others if buses_of(node)[port] in buses_of(it)]
+        to = self.random.choice([it for it in near if "pool" in it] or near or others)
+        first = self.random.randint(9, 60)
+        last = first + ("pool" in to) * self.random.randint(0, 12)
+        return f"{eids_text(first, last)} via {to['name']} port {port}"
 
     def text(self):
         lines = []
@@ -88,19 +101,33 @@ def buses_of(node):
     return [it.split()[0] for it in node["ports"]]
 
 
+def eids_text(first, last):
+    return str(first) if first == last else f"{first}-{last}"
+
+
+def given_turn(node, eid):
+    """The name of the node to which a row leads that is given for an endpoint ID."""
+    for row in node.get("rows", []):
+        eids, _, to, *_ = row.split()
+        if int(eids.split("-")[0]) <= eid <= int(eids.split("-")[-1]):
+            return to
+    return None
+
+
 # ---- plans
 
 
-def hops_over(nodes, is_bridge, start):
-    """How few hops over buses lead from a node to each."""
+def hops_over(nodes, is_bridge, start, eid=None):
+    """How few hops over buses lead from a node to each; for an endpoint ID along the rows that are given for it."""
     hops, front = {start: 0}, [start]
     while front:
         after = []
         for at in front:
             if at != start and not is_bridge[at]:
                 continue
+            turn = given_turn(nodes[at], eid) if eid else None
             for to, node in enumerate(nodes):
-                if to not in hops and set(buses_of(nodes[at])) & set(buses_of(node)):
+                if to not in hops and turn in (None, node["name"]) and set(buses_of(nodes[at])) & set(buses_of(node)):
                     hops[to] = hops[at] + 1
                     after.append(to)
         front = after
@@ -112,8 +139,7 @@ def row_for(node, eid):
 
 
 def row_text(row):
-    last = row["first"] + row["size"] - 1
-    eids = str(last) if row["size"] == 1 else f"{row['first']}-{last}"
+    eids = eids_text(row["first"], row["first"] + row["size"] - 1)
     return f"{eids} via {row['next']} port {row['port']}"
 
 
@@ -154,17 +180,69 @@ def wrong_of_plan(trial, board, text, certificate):
         return "its certificate doesn't fit"
     if wrong := lacks(board, plan):
         return f"lacks {wrong}"
-    nodes, is_bridge = plan["nodes"], [it["kind"] == "bridge" for it in plan["nodes"]]
-    given = [it for node in board.nodes for it in node.get("rows", [])]
-    covered = {eid for it in given for eid in range(int(it.split()[0].split("-")[0]), int(it.split()[0].split("-")[-1]) + 1)}
+    nodes = plan["nodes"]
     for at, node in enumerate(board.nodes):
-        least = hops_over(board.nodes, is_bridge, at)
-        for to, other in enumerate(nodes):
-            if other["name"] in node.get("reaches", [other["name"]]):
-                hops = hops_by_rows(plan, at, other["eid"])
-                if hops is None or other["eid"] not in covered and hops != least[to]:
-                    return f"{node['name']} to {other['name']}: {hops} hops"
+        asked = [to for to, other in enumerate(nodes) if other["name"] in node.get("reaches", [other["name"]])]
+        if wrong := wrong_of_hops(board.nodes, plan, at, asked):
+            return wrong
+    return wrong_of_rows(trial, board.random, plan) if board.seed % 4 == 0 else None
+
+
+def wrong_of_hops(given, plan, at, asked):
+    """Whether packets come from a node to others in as few hops as may be with the rows of the nodes that are given."""
+    nodes, is_bridge = plan["nodes"], [it["kind"] == "bridge" for it in plan["nodes"]]
+    least = hops_over(given, is_bridge, at)
+    for to in asked:
+        eid = nodes[to]["eid"]
+        own = hops_over(given, is_bridge, at, eid) if any(given_turn(it, eid) for it in given) else least
+        hops = hops_by_rows(plan, at, eid)
+        if hops is None or hops != own.get(to):
+            return f"{nodes[at]['name']} to {nodes[to]['name']}: {hops} hops, and not {own.get(to)}"
     return None
+
+
+# ---- rows of plans
+
+
+def as_given(plan):
+    """The nodes of a plan in the form of a board's."""
+    ports = [[f"{it['bus']} {it['address']}" for it in node["ports"]] for node in plan["nodes"]]
+    return [{"name": it["name"], "ports": own, "rows": [*map(row_text, it["rows"])]} for it, own in zip(plan["nodes"], ports)]
+
+
+def turn_some(random, plan):
+    """Takes most rows away, and turns one now and then to another node on its bus."""
+    for node in plan["nodes"]:
+        node["rows"] = [it for it in node["rows"] if random.random() < 0.2]
+        for row in node["rows"]:
+            bus = node["ports"][row["port"]]["bus"]
+            near = [it["name"] for it in plan["nodes"] if it is not node and bus in {own["bus"] for own in it["ports"]}]
+            if random.random() < 0.1:
+                row["next"] = random.choice(near)
+
+
+def wrong_of_rows(trial, random, plan):
+    turn_some(random, plan)
+    given, nodes = as_given(plan), plan["nodes"]
+    status, output, error = trial.run(["rows", trial.file("rows.json", json.dumps(plan))])
+    reason = output.decode()
+    if status == 1 and (found := re.match(r'no plan: no way over .* leads from node "(\w+)" to node "(\w+)"', reason)):
+        at = {it["name"]: place for place, it in enumerate(nodes)}
+        bridges = [it["kind"] == "bridge" for it in nodes]
+        is_cut = at[found[2]] not in hops_over(given, bridges, at[found[1]], nodes[at[found[2]]]["eid"])
+        return None if is_cut else f"rows: {reason}"
+    if status == 1:
+        return None if reason.startswith("no plan: ") and any(it["rows"] for it in nodes) else f"rows: {reason}"
+    if status:
+        return f"rows: status {status}: {(output + error).decode()}"
+    made = json.loads(reason)
+    if trial.run(["certify", trial.file("made.json", reason)])[0]:
+        return "rows: no certificate"
+    if [{**it, "rows": []} for it in made["nodes"]] != [{**it, "rows": []} for it in nodes] or made["buses"] != plan["buses"]:
+        return "rows: not the same plan"
+    if any(row not in own["rows"] for it, own in zip(nodes, made["nodes"]) for row in it["rows"]):
+        return "rows: lost a row"
+    return next(filter(None, (wrong_of_hops(given, made, at, range(len(nodes))) for at in range(len(nodes)))), None)
 
 
 # ---- reasons
@@ -176,8 +254,35 @@ def pool_of(board, name):
     return set(range(int(pool.split("-")[0]), int(pool.split("-")[1]) + 1)) if isinstance(pool, str) else None
 
 
-def given_rows(board):
-    return any("rows" in it for it in board.nodes)
+def is_covered(board, eid):
+    """Whether the board gives a row for an endpoint ID."""
+    return any(given_turn(it, eid) for it in board.nodes)
+
+
+def is_made_bridge(board, node):
+    owns_some = any(it.get("owner") == node["name"] for it in board.nodes)
+    return "pool" in node or owns_some or "rows" in node and len({*buses_of(node)}) > 1
+
+
+def is_cut_off(board, one, other):
+    """Whether the board asks that a node reaches another to which no way leads, along the rows for an endpoint ID that is
+    given."""
+    at = {it["name"]: place for place, it in enumerate(board.nodes)}
+    bridges = [is_made_bridge(board, it) for it in board.nodes]
+    is_asked = other in board.nodes[at[one]].get("reaches", [other])
+    return is_asked and at[other] not in hops_over(board.nodes, bridges, at[one], board.nodes[at[other]].get("eid"))
+
+
+def has_room(board, name):
+    """Whether each node beside this one could have an endpoint ID of the pool for which no row is given. (Not where pools lie
+    beside, whose places are chosen.)"""
+    node = next(it for it in board.nodes if it["name"] == name)
+    beside = [it for it in board.nodes if it.get("owner") == node.get("owner")]
+    pool = pool_of(board, node["owner"]) if "owner" in node else {*range(8, 255)}
+    if "eid" in node or pool is None or any("pool" in it for it in beside if it["name"] != name):
+        return False
+    given = {it["eid"] for it in board.nodes if "eid" in it}
+    return len([it for it in pool - given if not is_covered(board, it)]) >= len(beside)
 
 
 def wrong_of_reason(board, reason):
@@ -190,10 +295,9 @@ def wrong_of_reason(board, reason):
         size = len(pool) if pool else next(it for it in board.nodes if it["name"] == found[2])["pool"]
         return None if wanted > size else "there is room"
     if found := re.match(r'no plan: no way over buses, bridges and given rows leads from node "(\w+)" .* to node "(\w+)"', reason):
-        names = [it["name"] for it in board.nodes]
-        bridges = ["pool" in it for it in board.nodes]
-        is_cut = names.index(found[2]) not in hops_over(board.nodes, bridges, names.index(found[1]))
-        return None if is_cut or given_rows(board) else "there is a way"
+        return None if is_cut_off(board, found[1], found[2]) else "there is a way"
+    if found := re.match(r'no plan: none was found: no packet of node "(\w+)" .* comes to node "(\w+)"', reason):
+        return f"{found[2]} could have another endpoint ID" if has_room(board, found[2]) else None
     return None if gives_some and reason.startswith("no plan: ") else "nothing that the board gives is against a plan"
 
 

@@ -9,10 +9,12 @@ use crate::board::{Board, BoardNode, BoardRow, RecordFile};
 use crate::writing::plan_text;
 use eids::choose_eids;
 use plan_values::Kind;
+use pools::Runs;
 use records::make_records;
 pub use records::named_files;
 use rows::{given_rows, make_rows};
 use std::alloc::{AllocError, AllocFailed, Global};
+use ways::net_of;
 
 /// Why no plan is made of a board. Nodes are named by their indices.
 #[derive(Clone, Copy)]
@@ -104,8 +106,27 @@ pub struct Cut {
 /// The text of a plan that is made of a board, whose records may name these files, or why none is made. Nothing of the
 /// plan is promised here.
 pub fn made_plan(alloc: Global, board: &Board, files: &[RecordFile]) -> Result<Made, NoPlan> {
-    let chosen = choose_eids(alloc, board)?;
-    let made = make_rows(alloc, board, &chosen)?;
+    let first = made_with(alloc, board, files, Runs::Free)?;
+    if first.cut.is_none() {
+        return Ok(first);
+    }
+    match made_with(alloc, board, files, Runs::Unrouted) {
+        Ok(other) if other.cut.is_none() => Ok(other),
+        Err(NoPlan::OutOfMemory) => Err(NoPlan::OutOfMemory),
+        _ => Ok(first),
+    }
+}
+
+/// What is made of a board where pools are chosen of these runs.
+fn made_with(
+    alloc: Global,
+    board: &Board,
+    files: &[RecordFile],
+    runs: Runs,
+) -> Result<Made, NoPlan> {
+    let net = net_of(alloc, board)?;
+    let chosen = choose_eids(alloc, board, &net, runs)?;
+    let made = make_rows(alloc, board, &net, &chosen)?;
     let records = make_records(alloc, board, files, &chosen)?;
     let text = plan_text(alloc, board, &chosen, &made.rows, &records)?;
     Ok(Made {
@@ -116,7 +137,8 @@ pub fn made_plan(alloc: Global, board: &Board, files: &[RecordFile]) -> Result<M
 
 /// The text of a plan that a board gives as a whole, with the rows that it gives and no others.
 pub fn given_plan(alloc: Global, board: &Board) -> Result<String, NoPlan> {
-    let chosen = choose_eids(alloc, board)?;
+    let net = net_of(alloc, board)?;
+    let chosen = choose_eids(alloc, board, &net, Runs::Free)?;
     let rows = given_rows(alloc, board)?;
     let records = make_records(alloc, board, &[], &chosen)?;
     Ok(plan_text(alloc, board, &chosen, &rows, &records)?)
@@ -162,6 +184,16 @@ pub fn given_row(node: &BoardNode, eid: u8) -> Option<BoardRow> {
         }
     }
     None
+}
+
+/// Whether the board gives a row for an endpoint ID.
+pub fn is_given(board: &Board, eid: u8) -> bool {
+    for node in &board.nodes {
+        if given_row(node, eid).is_some() {
+            return true;
+        }
+    }
+    false
 }
 
 /// Whether an endpoint ID is one of a run.

@@ -10,7 +10,7 @@ use Rattle.board_values.specs.Said.{SaysText, item_at}
 use Rattle.plan_values.specs.declared.nodes.Row.{Row}
 use Rattle.board_kept.specs.Fields.{NamesHolder}
 use Rattle.board_kept.specs.Kept.{IsRowKeptAt, IsNameAt}
-use Rattle.board_kept.proofs.Beyond.{item_beyond}
+use Rattle.board_values.proofs.Beyond.{item_beyond}
 
 pub one_more : (P : ℕ → Type 0) (i : ℕ) → ((k : ℕ) → k < i → P k) → P i → (k : ℕ) → k < i + 1 → P k
 one_more P i before here k within = elim (cases_lt k i) [

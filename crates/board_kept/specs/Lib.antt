@@ -2,7 +2,5 @@ pub mod Texts
 pub mod Fields
 pub mod Keys
 pub mod Kept
-pub mod Ways
-pub mod Turns
 pub mod Made
 pub mod Rowed

@@ -1,19 +1,14 @@
 -- What a board asks for, and which plans are fit for it.
-use Rattle.std.specs.Prelude.{◌≡◌, ◌≢◌, ◌⊎◌, ℕ, ◌<◌, List, codes, length, None, Some, slice_get}
+use Rattle.std.specs.Prelude.{◌≡◌, ◌⊎◌, ℕ, ◌<◌, List, codes, length, None, Some}
 use Rattle.toml.specs.Data.{Data, get}
 use Rattle.board.specs.declared.board.RecordFile.{RecordFile}
 use Rattle.plan_values.specs.declared.plan.Plan.{Plan}
 use Rattle.plan_values.specs.declared.certificate.Certificate.{Certificate}
-use Rattle.plan_values.specs.declared.nodes.Port.{Port}
-use Rattle.plan_values.specs.declared.nodes.Row.{Row}
-use Rattle.net_tables.specs.Ownership.{IsOwnedBy}
-use Rattle.net_tables.specs.Routing.{Covers, IsBridge, ports_of, rows_of}
 use Rattle.net_rules.specs.Rules.{Accepts}
 use Rattle.board_values.specs.Said.{SaysText, item_at}
-use Rattle.board_kept.specs.Texts.{row_text}
 use Rattle.net_tables.specs.Names.{name_of_node}
+use Rattle.net_reached.specs.Wishes.{ReachesNode}
 use Rattle.board_kept.specs.Kept.{Keeps}
-use Rattle.board_kept.specs.Ways.{HasNoWayBy, ReachesBy}
 
 -- the name stands in the list at `reaches`
 abbrev pub ListsName : Data → List ℕ → Type 0
@@ -31,31 +26,9 @@ Asks d plan b = (get (codes "reaches") d ≡ None) ⊎ ListsNode d plan b
 abbrev pub AsksFor : Data → Plan → ℕ → ℕ → Type 0
 AsksFor board plan a b = (d : Data) × (item_at (codes "node") a board ≡ Some d) × Asks d plan b
 
--- the row stands in the list at `rows`
-abbrev pub ListsRow : Data → Plan → Row → Type 0
-ListsRow d plan row = (i : ℕ) × SaysText (item_at (codes "rows") i d) (row_text plan row)
-
--- the row covers e, leads to k and stands in the list at `rows`
-abbrev pub IsRowGiven : Data → Plan → Row → ℕ → ℕ → Type 0
-IsRowGiven d plan row e k = Covers row e × (row.next ≡ k) × ListsRow d plan row
-
--- n has such a row
-abbrev pub GivesStepAt : Data → Plan → ℕ → ℕ → ℕ → Type 0
-GivesStepAt d plan e n k =
-    (r : ℕ) × (row : Row) × (slice_get (rows_of plan n) r ≡ Some row) × IsRowGiven d plan row e k
-
--- the board gives n a row for e that leads to k
-abbrev pub GivesStep : Data → Plan → ℕ → ℕ → ℕ → Type 0
-GivesStep board plan e n k = (d : Data) × (item_at (codes "node") n board ≡ Some d) × GivesStepAt d plan e n k
-
--- Packets that are put in at a reach b, after as few hops as the buses, the bridges and the rows that the board gives
--- allow.
-abbrev pub ReachesWell : Data → Plan → ℕ → ℕ → Type 0
-ReachesWell board plan a b = ReachesBy (GivesStep board plan) plan a b
-
--- so it is of all of the plan's nodes for which the board asks at a
+-- packets that are put in at a reach all of the plan's nodes for which the board asks there
 pub record ReachesAllAsked (board : Data) (plan : Plan) (a : ℕ) : Type 0 where
-  pub each : (b : ℕ) → b < length plan.nodes.items → AsksFor board plan a b → ReachesWell board plan a b
+  pub each : (b : ℕ) → b < length plan.nodes.items → AsksFor board plan a b → ReachesNode plan a b
 
 -- so it is of every node
 pub record AllReachAsked (board : Data) (plan : Plan) : Type 0 where
@@ -67,31 +40,3 @@ pub record IsFitFor (files : List RecordFile) (board : Data) (plan : Plan) (cert
   pub accepted : Accepts plan certificate
   pub keeps : Keeps files board plan
   pub reaches : AllReachAsked board plan
-
--- ---- where no way leads
-
--- n has ports on two buses
-abbrev pub IsOnTwoBuses : Plan → ℕ → Type 0
-IsOnTwoBuses plan n = (p q : ℕ) × (one other : Port) × (slice_get (ports_of plan n) p ≡ Some one)
-    × (slice_get (ports_of plan n) q ≡ Some other) × (one.bus ≢ other.bus)
-
--- what stands of n makes it a bridge where no kind does: it has a pool, owns a node, or has rows and ports on two buses
-abbrev pub IsMadeBridge : Plan → ℕ → Data → Type 0
-IsMadeBridge plan n d = (get (codes "pool") d ≢ None) ⊎ ((k : ℕ) × IsOwnedBy plan k n)
-    ⊎ ((item_at (codes "rows") 0 d ≢ None) × IsOnTwoBuses plan n)
-
--- n is a bridge where what stands of it makes it one
-abbrev pub IsKindAsSaid : Data → Plan → ℕ → Type 0
-IsKindAsSaid board plan n = (d : Data) → item_at (codes "node") n board ≡ Some d → get (codes "kind") d ≡ None
-    → IsMadeBridge plan n d → IsBridge plan n
-
--- so it is of each node
-abbrev pub AreKindsAsSaid : Data → Plan → Type 0
-AreKindsAsSaid board plan = (n : ℕ) → n < length plan.nodes.items → IsKindAsSaid board plan n
-
--- The board asks that a reaches b, every node that it makes a bridge is one, and no way over buses and bridges leads
--- from a to b that goes where the rows lead that the board gives for b's endpoint ID.
-pub record IsCutOff (board : Data) (plan : Plan) (a b : ℕ) : Type 0 where
-  pub asked : AsksFor board plan a b
-  pub kinds : AreKindsAsSaid board plan
-  pub none : HasNoWayBy (GivesStep board plan) plan a b

@@ -4,10 +4,10 @@ use Rattle.plan_values.specs.NodeValues.{bus_value, row_value}
 use Rattle.plan_values.specs.declared.plan.Plan.{Plan}
 use Rattle.plan_values.specs.declared.certificate.Certificate.{Certificate}
 use Rattle.plan_values.specs.declared.nodes.Row.{Row}
-use Rattle.net_tables.specs.Routing.{Routes, rows_of}
+use Rattle.net_tables.specs.Routing.{rows_of}
 use Rattle.net_rules.specs.Rules.{Accepts}
 use Rattle.plan_values.specs.NodeValues.{but_rows}
-use Rattle.board_kept.specs.Ways.{ReachesBy}
+use Rattle.net_reached.specs.Wishes.{ReachesNode}
 
 -- The transmission unit, the buses and the nodes are the same, these but for their rows.
 pub record IsSameButRows (before after : Plan) : Type 0 where
@@ -32,17 +32,13 @@ AreRowsOfNodeKept before after n = (r : ℕ) → IsRowOfNodeKept before after n 
 abbrev pub AreRowsOfAllKept : Plan → Plan → Type 0
 AreRowsOfAllKept before after = (n : ℕ) → n < length before.nodes.items → AreRowsOfNodeKept before after n
 
--- the old plan has a row of n for e that leads to k
-abbrev pub LeadsAlready : Plan → ℕ → ℕ → ℕ → Type 0
-LeadsAlready before e n k = Routes before n e k
-
--- a reaches all nodes, after as few hops as the buses, the bridges and the old plan's rows allow
-abbrev pub ReachesAll : Plan → Plan → ℕ → Type 0
-ReachesAll before after a = (b : ℕ) → b < length after.nodes.items → ReachesBy (LeadsAlready before) after a b
+-- packets that are put in at a reach all nodes
+abbrev pub ReachesAll : Plan → ℕ → Type 0
+ReachesAll plan a = (b : ℕ) → b < length plan.nodes.items → ReachesNode plan a b
 
 -- so it is of each node
-abbrev pub AllReachAll : Plan → Plan → Type 0
-AllReachAll before after = (a : ℕ) → a < length after.nodes.items → ReachesAll before after a
+abbrev pub AllReachAll : Plan → Type 0
+AllReachAll plan = (a : ℕ) → a < length plan.nodes.items → ReachesAll plan a
 
 -- Every rule holds of the new plan and the certificate, and it is the old one but for its rows, in which it has the old
 -- ones.
@@ -54,4 +50,4 @@ pub record IsKeptIn (before after : Plan) (certificate : Certificate) : Type 0 w
 -- so it is, and all nodes of the new plan reach each other
 pub record IsRowedFrom (before after : Plan) (certificate : Certificate) : Type 0 where
   pub kept : IsKeptIn before after certificate
-  pub reaches : AllReachAll before after
+  pub reaches : AllReachAll after

@@ -2,25 +2,19 @@
 #![tactic(auto)]
 
 mod asked;
-mod cut;
-mod cut_kinds;
 mod fields;
 mod fit;
 mod kept;
 mod keys;
 mod nodes;
-mod pairs;
 mod records;
 mod rowed;
 mod same;
 mod texts;
 mod unfit;
-mod ways;
 
-pub use cut::{is_cut_off, is_cut_off_with};
 pub use fit::judge;
 pub use kept::keeps;
 pub use rowed::judge_rows;
 pub use same::is_same_but_rows;
-pub use texts::node_name;
 pub use unfit::Unfit;

@@ -1,29 +1,25 @@
 //! Whether a checked plan is another one with rows.
-ghost use Rattle.std.specs.Prelude.{◌≡◌, ◌<◌, [], IfOk, IfSome, IsTrue, OnOk, length};
+ghost use Rattle.std.specs.Prelude.{◌≡◌, IsTrue, OnOk};
 ghost use Rattle.plan_values.specs.NodeValues.{row_value};
-ghost use Rattle.net_tables.specs.Routing.{Routes};
-ghost use Rattle.board_kept.specs.Ways.{AreLeast, AreNear, ReachesBy};
-ghost use Rattle.board_kept.specs.Turns.{AreTurns, AreTurnsTo, HaveTurns};
-ghost use Rattle.board_kept.specs.Rowed.{IsKeptIn, LeadsAlready, HasTheRow, IsRowOfNodeKept, AreRowsOfNodeKept, AreRowsOfAllKept, ReachesAll, AllReachAll, IsRowedFrom};
+ghost use Rattle.board_kept.specs.Rowed.{IsKeptIn, HasTheRow, IsRowOfNodeKept, AreRowsOfNodeKept, AreRowsOfAllKept, ReachesAll, AllReachAll, IsRowedFrom};
 
-use crate::pairs::{Known, judge_pair, least_in, near_in, turns_at};
+use crate::fit::judge_pair;
 use crate::same::is_same_but_rows;
 use crate::unfit::Unfit;
-use mctp_transport::Eid;
 use net_check::Checked;
-use net_tables::lookup::{covers, eid_at, row_at, rows_at};
+use net_tables::lookup::{row_at, rows_at};
 use plan_values::{Plan, Row};
-use std::alloc::{AllocError, Global};
+use std::alloc::Global;
 
 /// That a checked plan is another one but for its rows, in which it has those of the other, and that all its nodes
-/// reach each other, in as few hops as the buses, the bridges and the other plan's rows allow.
+/// reach each other.
 pub fn judge_rows(alloc: Global, before: &Plan, checked: &Checked) -> Result<(), Unfit>
     ensures { OnOk result (IsRowedFrom before.now checked.now.0 checked.now.1) }
 {
     if !is_kept(before, checked) {
         return Err(Unfit::NotKept);
     }
-    judge_reached(alloc, before, checked)
+    judge_all(alloc, checked)
 }
 
 /// Whether a checked plan is another one but for its rows, in which it has those of the other.
@@ -32,14 +28,6 @@ fn is_kept(before: &Plan, checked: &Checked) -> bool
 {
     let plan = checked.plan();
     is_same_but_rows(before, plan) && keeps_all_rows(before, plan)
-}
-
-fn judge_reached(alloc: Global, before: &Plan, checked: &Checked) -> Result<(), Unfit>
-    ensures { OnOk result (AllReachAll before.now checked.now.0) }
-{
-    let near = near_in(alloc, checked)?;
-    let turns = turns_before(alloc, before, checked)?;
-    judge_all(alloc, before, checked, &near, &turns)
 }
 
 /// Whether each node has the rows that it has in the other plan.
@@ -101,133 +89,22 @@ fn is_same_row(own: &Row, row: &Row) -> bool
     own.first == row.first && own.size == row.size && own.port == row.port && own.next == row.next
 }
 
-/// Where the rows of the other plan lead for each node's endpoint ID.
-fn turns_before(
-    alloc: Global,
-    before: &Plan,
-    checked: &Checked,
-) -> Result<Vec<Vec<Option<usize>>>, AllocError>
-    ensures { IfOk result (λ given. HaveTurns (LeadsAlready before.now) checked.now.0 given.items) }
-{
-    let mut given = Vec::new(alloc);
-    for to in 0..checked.plan().nodes.len() {
-        given.push(turns_to(alloc, before, checked.plan(), to)?)?;
-    }
-    Ok(given)
-}
-
-/// Where the rows of the other plan lead for the endpoint ID of a node. Nothing is answered where there are none.
-pub fn turns_to(
-    alloc: Global,
-    before: &Plan,
-    plan: &Plan,
-    to: usize,
-) -> Result<Vec<Option<usize>>, AllocError>
-    ensures { IfOk result (λ turns. AreTurnsTo (LeadsAlready before.now) plan.now to turns.items) }
-{
-    match eid_at(plan, to) {
-        Some(eid) => Ok(turns_for(alloc, before, eid)?),
-        None => Ok(Vec::new(alloc)),
-    }
-}
-
-fn turns_for(alloc: Global, before: &Plan, eid: Eid) -> Result<Vec<Option<usize>>, AllocError>
-    ensures { IfOk result (λ turns. AreTurns (LeadsAlready before.now eid.value) turns.items) }
-{
-    let mut turns = Vec::new(alloc);
-    let mut are_some = false;
-    for node in 0..before.nodes.len() {
-        let turn = turn_of(before, node, eid);
-        are_some = are_some || turn.is_some();
-        turns.push(turn)?;
-    }
-    if !are_some {
-        return Ok(Vec::new(alloc));
-    }
-    Ok(turns)
-}
-
-/// Where the first row of a node leads that covers the endpoint ID.
-fn turn_of(before: &Plan, node: usize, eid: Eid) -> Option<usize>
-    ensures { IfSome result (λ k. Routes before.now node eid.value k) }
-{
-    for index in 0..rows_at(before, node).len() {
-        if let Some(next) = turn_by(before, node, eid, index) {
-            return Some(next);
-        }
-    }
-    None
-}
-
-fn turn_by(before: &Plan, node: usize, eid: Eid, index: usize) -> Option<usize>
-    ensures { IfSome result (λ k. Routes before.now node eid.value k) }
-{
-    match row_at(before, node, index) {
-        Some(row) => {
-            if covers(row, eid) {
-                Some(row.next)
-            } else {
-                None
-            }
-        }
-        None => None,
-    }
-}
-
 /// That all nodes reach each other.
-fn judge_all(
-    alloc: Global,
-    before: &Plan,
-    checked: &Checked,
-    near: &[Vec<bool>],
-    turns: &[Vec<Option<usize>>],
-) -> Result<(), Unfit>
-    requires near { AreNear checked.now.0 near.now }
-    requires turns { HaveTurns (LeadsAlready before.now) checked.now.0 turns.now }
-    ensures { OnOk result (AllReachAll before.now checked.now.0) }
+fn judge_all(alloc: Global, checked: &Checked) -> Result<(), Unfit>
+    ensures { OnOk result (AllReachAll checked.now.0) }
 {
     for from in 0..checked.plan().nodes.len() {
-        judge_from(alloc, before, checked, Known { near, turns }, from)?;
+        judge_from(alloc, checked, from)?;
     }
     Ok(())
 }
 
 /// That a node reaches all.
-fn judge_from(
-    alloc: Global,
-    before: &Plan,
-    checked: &Checked,
-    known: Known,
-    from: usize,
-) -> Result<(), Unfit>
-    requires near { AreNear checked.now.0 known.near.now }
-    requires turns { HaveTurns (LeadsAlready before.now) checked.now.0 known.turns.now }
-    ensures { OnOk result (ReachesAll before.now checked.now.0 from) }
+fn judge_from(alloc: Global, checked: &Checked, from: usize) -> Result<(), Unfit>
+    ensures { OnOk result (ReachesAll checked.now.0 from) }
 {
-    let least = least_in(alloc, checked, known.near, &[], from)?;
     for to in 0..checked.plan().nodes.len() {
-        judge_to(alloc, before, checked, known, &least, from, to)?;
+        judge_pair(alloc, checked, from, to)?;
     }
     Ok(())
-}
-
-fn judge_to(
-    alloc: Global,
-    before: &Plan,
-    checked: &Checked,
-    known: Known,
-    least: &[usize],
-    from: usize,
-    to: usize,
-) -> Result<(), Unfit>
-    requires near { AreNear checked.now.0 known.near.now }
-    requires turns { HaveTurns (LeadsAlready before.now) checked.now.0 known.turns.now }
-    requires within { to < length checked.now.0.nodes.items }
-    requires least { AreLeast [] checked.now.0 from least.now }
-    ensures { OnOk result (ReachesBy (LeadsAlready before.now) checked.now.0 from to) }
-{
-    match turns_at(known.turns, to) {
-        Some(turns) => judge_pair(alloc, checked, known.near, turns, least, from, to),
-        None => Err(Unfit::Unreached { from, to }),
-    }
 }

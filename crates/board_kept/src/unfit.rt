@@ -8,8 +8,6 @@ pub enum Unfit {
     NotKept,
     /// The one node is to reach the other, and it does not.
     Unreached { from: usize, to: usize },
-    /// The node reaches one that it is to reach by a longer way than the buses, the bridges and what is given allow.
-    Longer { from: usize },
     /// There is too little memory.
     OutOfMemory,
 }

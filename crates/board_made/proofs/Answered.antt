@@ -1,6 +1,6 @@
 -- What is answered for a board is answered to its text, and how lines are worded.
-use Rattle.std.proofs.Common.{◌≡◌, ◌≢◌, ℕ, List, ◌++◌, String, Global, Option, Some, None, Result, Ok, Err, subst, sym}
-use Rattle.std.specs.Prelude.{IfOk, IfSome, codes, string_bytes}
+use Rattle.std.proofs.Common.{◌≡◌, ◌≢◌, ℕ, List, ◌++◌, Some, Result, Ok, Err, subst, sym}
+use Rattle.std.specs.Prelude.{IfOk, codes}
 use Rattle.toml.specs.Data.{Data}
 use Rattle.plan_values.specs.declared.plan.Plan.{Plan}
 use Rattle.net_rules.specs.declared.certify_error.CertifyError.{CertifyError}
@@ -12,10 +12,8 @@ use Rattle.board_values.specs.Said.{IsTomlOf}
 use Rattle.board_values.specs.Lines.{IsNodeTold}
 use Rattle.board_made.specs.declared.answer.BoardAnswer.{BoardAnswer}
 use Rattle.board_made.specs.declared.answer.BoardAnswer.TheVariants.{Made, NoPlan, Unread}
-use Rattle.board_kept.specs.Rowed.{IsSameButRows, LeadsAlready}
-use Rattle.board_kept.specs.Ways.{HasNoWayBy}
 use Rattle.board_made.specs.Made.{IsUnreadLine, IsAnswerTo, IsAnswerFor}
-use Rattle.board_made.specs.Reasons.{TellsObstacle, IsRuledOut, IsCutToldOf, IsUnfound, IsWayTold, IsWayToldOf, reason_line, way_words}
+use Rattle.board_made.specs.Reasons.{TellsObstacle, IsRuledOut, IsUnfound, IsWayLine, IsWayTold, reason_line, way_words}
 
 pub answered : (files : List RecordFile) (text : List ℕ) (board : Data) (answer : BoardAnswer) → IsTomlOf text board → IsAnswerFor files board answer
     → IsAnswerTo files text answer
@@ -43,12 +41,10 @@ pub unread_worded : {A E : Type 0} (bytes : A → List ℕ) (words : List ℕ) (
 unread_worded bytes words (Ok t) written = (words, written)
 unread_worded bytes words (Err e) written = tt
 
--- so it is of a plan with rows
-pub cut_told_of : (before plan : Plan) (a b : ℕ) (found : Option (String Global)) → IsSameButRows before plan → HasNoWayBy (LeadsAlready before) plan a b
-    → IfSome found (λ line. IsWayToldOf plan a b (string_bytes line)) → IfSome found (λ line. IsCutToldOf before (string_bytes line))
-cut_told_of before plan a b None given cut told = tt
-cut_told_of before plan a b (Some line) given cut told =
-    record { plan = plan; one = a; other = b; given = given; cut = cut; told = told }
+pub way_worded : {A E : Type 0} (bytes : A → List ℕ) (one other : List ℕ) (r : Result A E) → IfOk r (λ t. bytes t ≡ reason_line (way_words one other))
+    → IfOk r (λ t. IsWayLine (bytes t))
+way_worded bytes one other (Ok t) written = (one, other, written)
+way_worded bytes one other (Err e) written = tt
 
 -- ---- obstacles
 

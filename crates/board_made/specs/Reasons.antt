@@ -10,11 +10,9 @@ use Rattle.board.specs.declared.board.RecordFile.{RecordFile}
 use Rattle.board.specs.declared.making.NoPlan.{NoPlan}
 use Rattle.board_values.specs.Lacks.{Lacks}
 use Rattle.board_values.specs.Lines.{IsNodeTold, IsWorded}
-use Rattle.net_tables.specs.Names.{name_of_node}
+use Rattle.board_values.specs.Ways.{IsCutOff}
 use Rattle.board_kept.specs.Kept.{Keeps}
-use Rattle.board_kept.specs.Made.{IsCutOff}
-use Rattle.board_kept.specs.Rowed.{IsSameButRows, LeadsAlready}
-use Rattle.board_kept.specs.Ways.{HasNoWayBy}
+use Rattle.board_kept.specs.Rowed.{IsSameButRows}
 
 -- The text tells this obstacle: its line, a place in the board or none, and an explanation.
 pub record TellsObstacle (plan : Plan) (obstacle : CertifyError) (text : List ℕ) : Type 0 where
@@ -48,14 +46,12 @@ abbrev pub IsWayTold : Data → ℕ → ℕ → List ℕ → Type 0
 IsWayTold board a b text = (one other : List ℕ) × IsNodeTold board a one × IsNodeTold board b other
     × (text ≡ reason_line (way_words one other))
 
--- The text says that no way leads from one node to another, for which the board asks; and so it is in a plan that has
--- all that the board gives.
-pub record IsCutTold (files : List RecordFile) (board : Data) (text : List ℕ) : Type 0 where
-  pub plan : Plan
+-- The text says that no way leads from one node to another, for which the board asks; and so it is, whatever is chosen of
+-- what the board leaves out.
+pub record IsCutTold (board : Data) (text : List ℕ) : Type 0 where
   pub one : ℕ
   pub other : ℕ
-  pub given : Keeps files board plan
-  pub cut : IsCutOff board plan one other
+  pub cut : IsCutOff board one other
   pub told : IsWayTold board one other text
 
 -- The text says that the board lacks something, and so it does.
@@ -73,28 +69,14 @@ IsUnfound text = (words : List ℕ) × (text ≡ codes "no plan: none was found:
 -- why no plan is made of a board
 abbrev pub IsReason : List RecordFile → Data → List ℕ → Type 0
 IsReason files board text =
-    IsRuledOut (Keeps files board) text ⊎ IsCutTold files board text ⊎ IsLackTold board text ⊎ IsUnfound text
+    IsRuledOut (Keeps files board) text ⊎ IsCutTold board text ⊎ IsLackTold board text ⊎ IsUnfound text
 
 -- ---- rows PLAN
 
--- a node of a plan by its name
-abbrev pub name_words : List ℕ → List ℕ
-name_words name = codes "node \"" ++ (name ++ codes "\"")
-
--- the text says of these nodes of a plan that no way leads from one to the other
-abbrev pub IsWayToldOf : Plan → ℕ → ℕ → List ℕ → Type 0
-IsWayToldOf plan a b text = (one other : List ℕ) × (name_of_node plan a ≡ Some one) × (name_of_node plan b ≡ Some other)
-    × (text ≡ reason_line (way_words (name_words one) (name_words other)))
-
--- The text says so, and so it is in a plan that is the given one but for its rows, with the rows of the given one.
-pub record IsCutToldOf (before : Plan) (text : List ℕ) : Type 0 where
-  pub plan : Plan
-  pub one : ℕ
-  pub other : ℕ
-  pub given : IsSameButRows before plan
-  pub cut : HasNoWayBy (LeadsAlready before) plan one other
-  pub told : IsWayToldOf plan one other text
+-- a line that says that no way leads from one node to another; that it is so is not promised
+abbrev pub IsWayLine : List ℕ → Type 0
+IsWayLine text = (one other : List ℕ) × (text ≡ reason_line (way_words one other))
 
 -- why no plan with rows is made
 abbrev pub IsRowsReason : Plan → List ℕ → Type 0
-IsRowsReason before text = IsRuledOut (IsSameButRows before) text ⊎ IsCutToldOf before text ⊎ IsUnfound text
+IsRowsReason before text = IsRuledOut (IsSameButRows before) text ⊎ IsWayLine text ⊎ IsUnfound text

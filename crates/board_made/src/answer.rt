@@ -125,7 +125,7 @@ fn answer_given(
     ensures { IfOk result (λ answer. IsAnswerFor files.now (view board.now) answer) }
 {
     match made_plan(alloc, given, files) {
-        Ok(made) => judged(alloc, text, files, board, made),
+        Ok(made) => judged(alloc, text, files, board, given, made),
         Err(why) => Ok(BoardAnswer::NoPlan(no_plan_line(alloc, text, files, board, given, why)?)),
     }
 }

@@ -13,61 +13,45 @@ ghost use Rattle.board_made.specs.Reasons.{IsCutTold, IsReason, IsUnfound};
 
 use crate::answer::{BoardAnswer, MadePlan};
 use crate::reasons::{lacking, obstacle_reason, unfit_line, unfound, way_line};
-use board::{Cut, Made, RecordFile};
-use board_kept::{is_cut_off, judge, keeps};
+use board::{Board, Cut, Made, RecordFile};
+use board_kept::{judge, keeps};
+use board_values::is_cut_off;
 use net_check::{CertifyError, CheckError, certify, check};
 use net_plan::{PlanError, plan_of_text, text_of_certificate};
 use plan_values::{Certificate, Plan};
 use std::alloc::{AllocError, Global};
 use toml::Value;
 
-/// The text of a plan, where it reads as one that is fit for a board, or why it isn't.
+/// The plan that was made of a board, where it is fit for it, or why there is none. `given` is what was read of the
+/// board.
 pub fn judged(
     alloc: Global,
     text: &str,
     files: &[RecordFile],
     board: &Value,
+    given: &Board,
     made: Made,
 ) -> Result<BoardAnswer, AllocError>
     ensures { IfOk result (λ answer. IsAnswerFor files.now (view board.now) answer) }
 {
-    match plan_of_text(alloc, made.text.as_str().as_bytes()) {
-        Ok(plan) => Ok(judged_plan(alloc, text, files, board, made, &plan)?),
-        Err(PlanError::OutOfMemory) => Err(AllocError),
-        Err(_) => Ok(BoardAnswer::NoPlan(unfound(alloc, "text that was made reads as a plan")?)),
-    }
-}
-
-fn judged_plan(
-    alloc: Global,
-    text: &str,
-    files: &[RecordFile],
-    board: &Value,
-    made: Made,
-    plan: &Plan,
-) -> Result<BoardAnswer, AllocError>
-    requires { IsJsonTextOf IsPlanOf (string_bytes made.text) (plan_value plan.now) }
-    ensures { IfOk result (λ answer. IsAnswerFor files.now (view board.now) answer) }
-{
-    match cut_reason(alloc, text, files, board, plan, made.cut)? {
+    match cut_reason(alloc, text, board, given, made.cut)? {
         Some(reason) => Ok(BoardAnswer::NoPlan(reason)),
-        None => judged_text(alloc, text, files, board, made.text, plan),
+        None => judged_text(alloc, text, files, board, made.text),
     }
 }
 
-/// Why no plan is made where no way leads from a node to another, if that is so.
+/// Why no plan is made where no way leads from a node to another, if that is so whatever is chosen.
 fn cut_reason(
     alloc: Global,
     text: &str,
-    files: &[RecordFile],
     board: &Value,
-    plan: &Plan,
+    given: &Board,
     cut: Option<Cut>,
 ) -> Result<Option<String>, AllocError>
-    ensures { IfOk result (λ found. IfSome found (λ reason. IsCutTold files.now (view board.now) (string_bytes reason))) }
+    ensures { IfOk result (λ found. IfSome found (λ reason. IsCutTold (view board.now) (string_bytes reason))) }
 {
     match cut {
-        Some(cut) => reason_if_cut(alloc, text, files, board, plan, cut),
+        Some(cut) => reason_if_cut(alloc, text, board, given, cut),
         None => Ok(None),
     }
 }
@@ -75,20 +59,36 @@ fn cut_reason(
 fn reason_if_cut(
     alloc: Global,
     text: &str,
-    files: &[RecordFile],
     board: &Value,
-    plan: &Plan,
+    given: &Board,
     cut: Cut,
 ) -> Result<Option<String>, AllocError>
-    ensures { IfOk result (λ found. IfSome found (λ reason. IsCutTold files.now (view board.now) (string_bytes reason))) }
+    ensures { IfOk result (λ found. IfSome found (λ reason. IsCutTold (view board.now) (string_bytes reason))) }
 {
-    if !keeps(alloc, files, board, plan)? || !is_cut_off(alloc, board, plan, cut.from, cut.to)? {
+    if !is_cut_off(alloc, board, given, cut.from, cut.to)? {
         return Ok(None);
     }
     Ok(Some(way_line(alloc, text, board, cut.from, cut.to)?))
 }
 
+/// The text of a plan, where it reads as one that is fit for a board, or why it isn't.
 fn judged_text(
+    alloc: Global,
+    text: &str,
+    files: &[RecordFile],
+    board: &Value,
+    made: String,
+) -> Result<BoardAnswer, AllocError>
+    ensures { IfOk result (λ answer. IsAnswerFor files.now (view board.now) answer) }
+{
+    match plan_of_text(alloc, made.as_str().as_bytes()) {
+        Ok(plan) => Ok(judged_plan(alloc, text, files, board, made, &plan)?),
+        Err(PlanError::OutOfMemory) => Err(AllocError),
+        Err(_) => Ok(BoardAnswer::NoPlan(unfound(alloc, "text that was made reads as a plan")?)),
+    }
+}
+
+fn judged_plan(
     alloc: Global,
     text: &str,
     files: &[RecordFile],

@@ -1,12 +1,12 @@
 //! The lines that say why a board can't be read, or why no plan is made of it.
-ghost use Rattle.std.specs.Prelude.{◌≡◌, IfOk, IfSome, string_bytes};
+ghost use Rattle.std.specs.Prelude.{◌≡◌, IfOk, string_bytes};
 ghost use Rattle.toml.specs.View.{view};
 ghost use Rattle.net_rules.specs.Certificates.{NamesObstacle};
 ghost use Rattle.board_made.specs.Made.{IsUnreadLine};
-ghost use Rattle.board_made.specs.Reasons.{reason_line, way_words, name_words, IsReason, IsUnfound, IsWayTold, IsWayToldOf, TellsObstacle};
+ghost use Rattle.board_made.specs.Reasons.{reason_line, way_words, IsReason, IsUnfound, IsWayLine, IsWayTold, TellsObstacle};
 
 use board::{Board, NoPlan, RecordFile};
-use board_kept::{Unfit, node_name};
+use board_kept::Unfit;
 use board_values::{lacking_words, lacks, node_text as told_node};
 use explanation_texts::obstacle_lines;
 use net_check::CertifyError;
@@ -147,33 +147,13 @@ fn way_reason(alloc: Global, one: &str, other: &str) -> Result<String, AllocErro
     )
 }
 
-/// Says that no way leads from a node of a plan to another.
-pub fn way_line_of(
-    alloc: Global,
-    plan: &Plan,
-    from: usize,
-    to: usize,
-) -> Result<Option<String>, AllocError>
-    ensures { IfOk result (λ found. IfSome found (λ line. IsWayToldOf plan.now from to (string_bytes line))) }
+/// Says that no way leads from a node of a plan to another. That it is so is not promised here.
+pub fn way_line_of(alloc: Global, plan: &Plan, from: usize, to: usize) -> Result<String, AllocError>
+    ensures { IfOk result (λ line. IsWayLine (string_bytes line)) }
 {
-    match (node_name(plan, from), node_name(plan, to)) {
-        (Some(one), Some(other)) => Ok(Some(named_way(alloc, one, other)?)),
-        _ => Ok(None),
-    }
-}
-
-fn named_way(alloc: Global, one: &str, other: &str) -> Result<String, AllocError>
-    ensures { IfOk result (λ line. string_bytes line ≡ reason_line (way_words (name_words one.now) (name_words other.now))) }
-{
-    let one = named(alloc, one)?;
-    let other = named(alloc, other)?;
+    let one = node_of_plan(alloc, None, plan, from)?;
+    let other = node_of_plan(alloc, None, plan, to)?;
     way_reason(alloc, &one, &other)
-}
-
-fn named(alloc: Global, name: &str) -> Result<String, AllocError>
-    ensures { IfOk result (λ words. string_bytes words ≡ name_words name.now) }
-{
-    format!(in alloc; "node \"{name}\"")
 }
 
 /// What rules certificates of the made plan out, with the node's line of the board, if there is one, and the
@@ -238,12 +218,6 @@ fn unfit_text(
             let from = node_of_plan(alloc, text, plan, from)?;
             let to = node_of_plan(alloc, text, plan, to)?;
             format!(in alloc; "packet of {from} comes to {to} by the rows that were found")
-        }
-        Unfit::Longer { from } => {
-            let from = node_of_plan(alloc, text, plan, from)?;
-            format!(in alloc;
-                "rows were found that lead from {from} in as few hops as the buses, the bridges and given rows allow"
-            )
         }
         Unfit::OutOfMemory => Err(AllocError),
     }

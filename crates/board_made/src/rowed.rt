@@ -5,12 +5,12 @@ ghost use Rattle.net_plan.specs.PlanText.{IsPlanOf};
 ghost use Rattle.net_plan.specs.Texts.{IsJsonTextOf};
 ghost use Rattle.net_rules.specs.Certificates.{NamesObstacle, RulesOutCertificates};
 ghost use Rattle.board_kept.specs.Rowed.{IsRowedFrom};
-ghost use Rattle.board_made.specs.Reasons.{IsCutToldOf, IsRowsReason, IsUnfound};
+ghost use Rattle.board_made.specs.Reasons.{IsRowsReason, IsUnfound};
 ghost use Rattle.board_made.specs.Rowed.{IsRowsAnswer};
 
 use crate::reasons::{lacking, no_rows_line, obstacle_reason, unfit_line, unfound, way_line_of};
-use board::{Cut, Made, board_of_plan, made_plan};
-use board_kept::{is_cut_off_with, is_same_but_rows, judge_rows};
+use board::{Made, board_of_plan, made_plan};
+use board_kept::{is_same_but_rows, judge_rows};
 use net_check::{CertifyError, CheckError, certify, check};
 use net_plan::{PlanError, plan_of_text};
 use plan_values::{Certificate, Plan};
@@ -31,63 +31,29 @@ pub fn answer_rows(alloc: Global, before: &Plan) -> Result<RowsAnswer, AllocErro
 {
     let board = board_of_plan(alloc, before)?;
     match made_plan(alloc, &board, &[]) {
-        Ok(made) => judged(alloc, before, made),
+        Ok(made) => answer_made(alloc, before, made),
         Err(why) => Ok(RowsAnswer::NoPlan(no_rows_line(alloc, before, why)?)),
     }
 }
 
-fn judged(alloc: Global, before: &Plan, made: Made) -> Result<RowsAnswer, AllocError>
+/// Where no way leads from a node to another, that is told.
+fn answer_made(alloc: Global, before: &Plan, made: Made) -> Result<RowsAnswer, AllocError>
     ensures { IfOk result (λ answer. IsRowsAnswer before.now answer) }
 {
-    match plan_of_text(alloc, made.text.as_str().as_bytes()) {
-        Ok(plan) => Ok(judged_plan(alloc, before, made, &plan)?),
+    match made.cut {
+        Some(cut) => Ok(RowsAnswer::NoPlan(way_line_of(alloc, before, cut.from, cut.to)?)),
+        None => judged(alloc, before, made.text),
+    }
+}
+
+fn judged(alloc: Global, before: &Plan, made: String) -> Result<RowsAnswer, AllocError>
+    ensures { IfOk result (λ answer. IsRowsAnswer before.now answer) }
+{
+    match plan_of_text(alloc, made.as_str().as_bytes()) {
+        Ok(plan) => Ok(judged_text(alloc, before, made, &plan)?),
         Err(PlanError::OutOfMemory) => Err(AllocError),
         Err(_) => Ok(RowsAnswer::NoPlan(unfound(alloc, "text that was made reads as a plan")?)),
     }
-}
-
-fn judged_plan(
-    alloc: Global,
-    before: &Plan,
-    made: Made,
-    plan: &Plan,
-) -> Result<RowsAnswer, AllocError>
-    requires { IsJsonTextOf IsPlanOf (string_bytes made.text) (plan_value plan.now) }
-    ensures { IfOk result (λ answer. IsRowsAnswer before.now answer) }
-{
-    match cut_reason(alloc, before, plan, made.cut)? {
-        Some(reason) => Ok(RowsAnswer::NoPlan(reason)),
-        None => judged_text(alloc, before, made.text, plan),
-    }
-}
-
-/// Why no rows are made where no way leads from a node to another, if that is so.
-fn cut_reason(
-    alloc: Global,
-    before: &Plan,
-    plan: &Plan,
-    cut: Option<Cut>,
-) -> Result<Option<String>, AllocError>
-    ensures { IfOk result (λ found. IfSome found (λ reason. IsCutToldOf before.now (string_bytes reason))) }
-{
-    match cut {
-        Some(cut) => reason_if_cut(alloc, before, plan, cut),
-        None => Ok(None),
-    }
-}
-
-fn reason_if_cut(
-    alloc: Global,
-    before: &Plan,
-    plan: &Plan,
-    cut: Cut,
-) -> Result<Option<String>, AllocError>
-    ensures { IfOk result (λ found. IfSome found (λ reason. IsCutToldOf before.now (string_bytes reason))) }
-{
-    if !is_same_but_rows(before, plan) || !is_cut_off_with(alloc, before, plan, cut.from, cut.to)? {
-        return Ok(None);
-    }
-    Ok(way_line_of(alloc, plan, cut.from, cut.to)?)
 }
 
 fn judged_text(

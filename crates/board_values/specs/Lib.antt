@@ -3,3 +3,4 @@ pub mod Eids
 pub mod Owners
 pub mod Lacks
 pub mod Lines
+pub mod Ways

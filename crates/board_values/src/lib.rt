@@ -1,13 +1,16 @@
 //! What the values of a board say, and whether it lacks what a plan needs.
 #![tactic(auto)]
 
+mod cut;
 mod eids;
 mod lacking;
 mod lines;
 mod owners;
 mod said;
 mod shares;
+mod ways;
 
+pub use cut::is_cut_off;
 pub use eids::eids_text;
 pub use lacking::lacks;
 pub use lines::{lacking_words, node_text};

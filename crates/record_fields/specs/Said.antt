@@ -1,6 +1,9 @@
 -- What words say of a record's fields.
-use Rattle.std.specs.Prelude.{◌≡◌, ◌⊎◌, ℕ, List, ◌++◌, map, codes, All, Contains}
+use Rattle.std.specs.Prelude.{◌≡◌, ◌⊎◌, ℕ, List, ◌++◌, map, codes, All, Contains, Some, Float, to_bits}
 use Rattle.std.specs.Char.{to_ascii_lowercase}
+use Rattle.std.specs.Float.{binary32}
+use Rattle.std.specs.Float.Parse.{parse_float}
+use Rattle.std.specs.Str.Parse.{digits_value, without_leading_plus}
 use Rattle.pdr_record.specs.Records.{RecordValue, Spelled, type_of}
 use Rattle.record_fields.specs.Named.{Number, Sized, Named, named_fields}
 use Rattle.record_fields.specs.Texts.{field_text, hexadecimal}
@@ -18,14 +21,27 @@ abbrev pub SaysHexadecimal : List ℕ → Named → Type 0
 SaysHexadecimal word field = (n : ℕ) × (field.held ≡ Number n)
     × IsOneWord word (field.name ++ (codes "=" ++ hexadecimal n))
 
--- the field holds a real number, and the word is its name, a sign of equality and some text
-abbrev pub NamesReal : List ℕ → Named → Type 0
-NamesReal word field = (n : ℕ) × (text : List ℕ) × (field.held ≡ Sized 6 n)
-    × IsOneWord word (field.name ++ (codes "=" ++ text))
+-- n has the bits (IEEE 754) of the number of 32 bits that is nearest to the decimal number that the text writes
+abbrev pub IsDecimalReal : List ℕ → ℕ → Type 0
+IsDecimalReal text n = (x : Float) × (parse_float binary32 text ≡ Some x) × (n ≡ to_bits binary32 x)
 
--- the word says what the field holds; of a real number only that it is the field's word
+-- the text writes n in hexadecimal digits behind 0x, with zeros before them or without
+abbrev pub IsHexadecimalReal : List ℕ → ℕ → Type 0
+IsHexadecimalReal text n =
+    (digits : List ℕ) × (text ≡ codes "0x" ++ digits) × (n ≡ digits_value 16 (without_leading_plus digits))
+
+-- the text writes the real number of 32 bits whose bits n has: in decimal digits, or its bits
+abbrev pub IsReal : List ℕ → ℕ → Type 0
+IsReal text n = IsDecimalReal text n ⊎ IsHexadecimalReal text n
+
+-- the field holds a real number, and the word is its name, a sign of equality and a text that writes this number
+abbrev pub SaysReal : List ℕ → Named → Type 0
+SaysReal word field = (n : ℕ) × (text : List ℕ) × (field.held ≡ Sized 6 n)
+    × IsOneWord word (field.name ++ (codes "=" ++ text)) × IsReal text n
+
+-- the word says what the field holds
 abbrev pub Says : List ℕ → Named → Type 0
-Says word field = SaysField word field ⊎ SaysHexadecimal word field ⊎ NamesReal word field
+Says word field = SaysField word field ⊎ SaysHexadecimal word field ⊎ SaysReal word field
 
 -- the word says what one of the fields holds
 abbrev pub IsSaidOf : List Named → List ℕ → Type 0

@@ -4,7 +4,7 @@ ghost use Rattle.pdr_record.specs.RecordValues.{record_value};
 ghost use Rattle.pdr_record.specs.Records.{type_of};
 ghost use Rattle.record_fields.specs.Meanings.{named_of};
 ghost use Rattle.record_fields.specs.Named.{named_fields, number, real};
-ghost use Rattle.record_fields.specs.Said.{IsRecordOfWords, IsSaidOf, Says, SaysHexadecimal, NamesReal, IsTypeWord};
+ghost use Rattle.record_fields.specs.Said.{IsRecordOfWords, IsSaidOf, Says, SaysHexadecimal, SaysReal, IsReal, IsTypeWord};
 
 use crate::fields::named_fields;
 use crate::held::{Held, NamedField};
@@ -99,13 +99,23 @@ fn says_hexadecimal(
     Ok(word.eq_ignore_ascii_case(&said))
 }
 
-/// Whether the word says in decimal digits which real number of 32 bits a field of the name holds.
+/// Whether the word says which real number of 32 bits a field of the name holds.
 fn says_real(alloc: Global, word: &str, name: &'static str, value: u64) -> Result<bool, AllocError>
-    ensures { IfOk result (λ answer. IsTrue answer → NamesReal word.now (real name.now value)) }
+    ensures { IfOk result (λ answer. IsTrue answer → SaysReal word.now (real name.now value)) }
 {
     let Some((_, text)) = word.split_once('=') else {
         return Ok(false);
     };
     let said = format!(in alloc; "{name}={text}")?;
-    Ok(word.eq_ignore_ascii_case(&said) && real_in(text) == Some(value))
+    Ok(word.eq_ignore_ascii_case(&said) && is_real(text, value))
+}
+
+/// Whether a text writes a real number of 32 bits that has these bits.
+fn is_real(text: &str, bits: u64) -> bool
+    ensures { IsTrue result → IsReal text.now bits }
+{
+    match real_in(text) {
+        Some(own) => own == bits,
+        None => false,
+    }
 }

@@ -1,6 +1,7 @@
 //! Choosing endpoint IDs and pools.
-use super::pools::choose_pool;
-use super::{Chosen, MadePool, NoPlan, covers, kind_of};
+use super::pools::{Runs, choose_pool};
+use super::ways::{Net, is_reached};
+use super::{Chosen, MadePool, NoPlan, covers, is_given, kind_of};
 use crate::board::{Board, BoardNode, BoardPool};
 use std::alloc::Global;
 
@@ -20,13 +21,18 @@ pub struct Known {
 
 /// The kind, the endpoint ID and the pool of each node: what is given, and what is free for the rest, owners before the
 /// nodes that they own.
-pub fn choose_eids(alloc: Global, board: &Board) -> Result<Vec<Chosen>, NoPlan> {
+pub fn choose_eids(
+    alloc: Global,
+    board: &Board,
+    net: &Net,
+    runs: Runs,
+) -> Result<Vec<Chosen>, NoPlan> {
     let mut known = Vec::new(alloc);
     for (index, node) in board.nodes.iter().enumerate() {
         known.push(given_of(board, index, node))?;
     }
     for level in 0..board.nodes.len() {
-        choose_level(board, &mut known, level)?;
+        choose_level(alloc, board, net, &mut known, level, runs)?;
     }
     if let Some(node) = first_unchosen(board, &known) {
         return Err(NoPlan::OwnerLoop { node });
@@ -100,41 +106,87 @@ fn level_of(board: &Board, index: usize) -> usize {
 }
 
 /// Chooses for the nodes of a level: first endpoint IDs, then pools.
-fn choose_level(board: &Board, known: &mut Vec<Known>, level: usize) -> Result<(), NoPlan> {
+fn choose_level(
+    alloc: Global,
+    board: &Board,
+    net: &Net,
+    known: &mut Vec<Known>,
+    level: usize,
+    runs: Runs,
+) -> Result<(), NoPlan> {
     for index in 0..board.nodes.len() {
         if known_at(known, index).level == level {
-            choose_eid(board, known, index)?;
+            choose_eid(alloc, board, net, known, index)?;
         }
     }
     for (index, node) in board.nodes.iter().enumerate() {
         if known_at(known, index).level == level {
-            choose_pool(board, known, index, node.pool)?;
+            choose_pool(board, known, index, node.pool, runs)?;
         }
     }
     Ok(())
 }
 
 /// Chooses a node's endpoint ID, where none is given.
-fn choose_eid(board: &Board, known: &mut Vec<Known>, index: usize) -> Result<(), NoPlan> {
+fn choose_eid(
+    alloc: Global,
+    board: &Board,
+    net: &Net,
+    known: &mut Vec<Known>,
+    index: usize,
+) -> Result<(), NoPlan> {
     if known_at(known, index).eid.is_some() {
         return Ok(());
     }
-    let eid = free_eid(board, known, index)?;
+    let eid = free_eid(alloc, board, net, known, index)?;
     if index < known.len() {
         known[index].eid = Some(eid);
     }
     Ok(())
 }
 
-fn free_eid(board: &Board, known: &[Known], index: usize) -> Result<u8, NoPlan> {
+/// The least free endpoint ID that no given row keeps from those that are to reach the node; the least free one where
+/// there is none such.
+fn free_eid(
+    alloc: Global,
+    board: &Board,
+    net: &Net,
+    known: &[Known],
+    index: usize,
+) -> Result<u8, NoPlan> {
     let owner = owner_of(board, index);
     let (first, last) = owned_range(known, index, owner)?;
+    let mut least = None;
+    // whether rows are given for other endpoint IDs than where it was tried last.
+    let mut is_other = true;
     for eid in first..=last {
-        if !is_held(known, eid) && !is_in_pool_beside(board, known, owner, eid) {
+        is_other = is_other || begins_or_ends(board, eid);
+        if is_held(known, eid) || is_in_pool_beside(board, known, owner, eid) {
+            continue;
+        }
+        if !is_given(board, eid) || (is_other && is_reached(alloc, board, net, index, eid)?) {
             return Ok(eid);
         }
+        is_other = false;
+        least = least.or(Some(eid));
     }
-    Err(NoPlan::NoEid { node: index, owner })
+    match least {
+        Some(eid) => Ok(eid),
+        None => Err(NoPlan::NoEid { node: index, owner }),
+    }
+}
+
+/// Whether a row that the board gives begins at an endpoint ID, or ends before it.
+fn begins_or_ends(board: &Board, eid: u8) -> bool {
+    for node in &board.nodes {
+        for row in &node.rows {
+            let end = u16::from(row.first) + u16::from(row.size);
+            if row.first == eid || end == u16::from(eid) {
+                return true;
+            }
+        }
+    }
+    false
 }
 
 /// The endpoint IDs that an owner gives to a node, from the first to the last.

@@ -3,17 +3,27 @@ use super::eids::{Known, known_at, last_of, owned_range, owner_of};
 use super::{MadePool, NoPlan, covers};
 use crate::board::{Board, BoardPool};
 
+/// Of which runs a pool is chosen.
+#[derive(Clone, Copy)]
+pub enum Runs {
+    /// Of all that are free.
+    Free,
+    /// Of these, where there are such, of those for which the board gives no row.
+    Unrouted,
+}
+
 /// Chooses a node's pool, where the board gives its size alone.
 pub fn choose_pool(
     board: &Board,
     known: &mut Vec<Known>,
     index: usize,
     given: Option<BoardPool>,
+    runs: Runs,
 ) -> Result<(), NoPlan> {
     let Some(BoardPool::Size(size)) = given else {
         return Ok(());
     };
-    let pool = free_run(board, known, index, size)?;
+    let pool = free_run(board, known, index, size, runs)?;
     if index < known.len() {
         known[index].pool = Some(pool);
     }
@@ -22,22 +32,58 @@ pub fn choose_pool(
 
 /// The first run of so many endpoint IDs of the owner's pool that no other node holds or hands on, and that has all
 /// that are given below the node.
-fn free_run(board: &Board, known: &[Known], index: usize, size: u8) -> Result<MadePool, NoPlan> {
+fn free_run(
+    board: &Board,
+    known: &[Known],
+    index: usize,
+    size: u8,
+    runs: Runs,
+) -> Result<MadePool, NoPlan> {
     let owner = owner_of(board, index);
     let (first, last) = owned_range(known, index, owner)?;
+    let mut found = None;
     for start in first..=last {
         let run = MadePool { first: start, size };
         if u16::from(start) + u16::from(size) <= u16::from(last) + 1
             && is_free(board, known, index, run)
         {
-            return Ok(run);
+            if is_wanted(board, run, runs) {
+                return Ok(run);
+            }
+            found = found.or(Some(run));
         }
     }
-    Err(NoPlan::NoRun {
-        node: index,
-        size,
-        owner,
-    })
+    match found {
+        Some(run) => Ok(run),
+        None => Err(NoPlan::NoRun {
+            node: index,
+            size,
+            owner,
+        }),
+    }
+}
+
+fn is_wanted(board: &Board, run: MadePool, runs: Runs) -> bool {
+    match runs {
+        Runs::Free => true,
+        Runs::Unrouted => !is_routed(board, run),
+    }
+}
+
+/// Whether the board gives a row for an endpoint ID of a run.
+fn is_routed(board: &Board, run: MadePool) -> bool {
+    for node in &board.nodes {
+        for row in &node.rows {
+            let routed = MadePool {
+                first: row.first,
+                size: row.size,
+            };
+            if overlap(run, routed) {
+                return true;
+            }
+        }
+    }
+    false
 }
 
 fn is_free(board: &Board, known: &[Known], index: usize, run: MadePool) -> bool {

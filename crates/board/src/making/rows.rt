@@ -1,7 +1,7 @@
 //! Making rows along ways of the fewest hops.
 use super::eids::{FIRST, LAST, is_in};
-use super::ways::{Link, Step, is_bridge, links_of_all, steps_to};
-use super::{Chosen, Cut, NoPlan, given_row};
+use super::ways::{Link, Net, Step, is_bridge, is_to_reach, steps_to};
+use super::{Chosen, Cut, NoPlan, given_row, is_given};
 use crate::board::{Board, BoardNode, BoardRow};
 use std::alloc::{AllocError, Global};
 
@@ -16,15 +16,19 @@ pub struct MadeRows {
 }
 
 /// The rows of each node: those that the board gives, and those that lead to the nodes that it is to reach.
-pub fn make_rows(alloc: Global, board: &Board, chosen: &[Chosen]) -> Result<MadeRows, NoPlan> {
-    let links = links_of_all(alloc, board)?;
+pub fn make_rows(
+    alloc: Global,
+    board: &Board,
+    net: &Net,
+    chosen: &[Chosen],
+) -> Result<MadeRows, NoPlan> {
     let mut rows = given_rows(alloc, board)?;
     let mut last = None;
     let mut cut = None;
     for eid in FIRST..=LAST {
         if let Some(target) = target_of(board, chosen, eid) {
-            let ways = ways_to(alloc, board, chosen, &links, target, last.take())?;
-            let from = add_rows(alloc, board, chosen, &ways, &mut rows)?;
+            let ways = ways_to(alloc, board, net, target, last.take())?;
+            let from = add_rows(alloc, board, net, &ways, &mut rows)?;
             cut = cut.or(from.map(|from| Cut {
                 from,
                 to: target.node,
@@ -83,15 +87,6 @@ fn target_of(board: &Board, chosen: &[Chosen], eid: u8) -> Option<Target> {
     })
 }
 
-fn is_given(board: &Board, eid: u8) -> bool {
-    for node in &board.nodes {
-        if given_row(node, eid).is_some() {
-            return true;
-        }
-    }
-    false
-}
-
 fn holder_of(chosen: &[Chosen], eid: u8) -> Option<usize> {
     for (index, own) in chosen.iter().enumerate() {
         if own.eid == eid {
@@ -120,8 +115,7 @@ fn innermost_of(chosen: &[Chosen], eid: u8) -> Option<usize> {
 fn ways_to(
     alloc: Global,
     board: &Board,
-    chosen: &[Chosen],
-    links: &[Vec<Link>],
+    net: &Net,
     target: Target,
     last: Option<Ways>,
 ) -> Result<Ways, AllocError> {
@@ -136,7 +130,7 @@ fn ways_to(
     }
     Ok(Ways {
         target,
-        steps: steps_to(alloc, board, chosen, links, target.node, target.eid)?,
+        steps: steps_to(alloc, board, net, target.node, target.eid)?,
     })
 }
 
@@ -145,7 +139,7 @@ fn ways_to(
 fn add_rows(
     alloc: Global,
     board: &Board,
-    chosen: &[Chosen],
+    net: &Net,
     ways: &Ways,
     rows: &mut Vec<Vec<BoardRow>>,
 ) -> Result<Option<usize>, AllocError> {
@@ -153,7 +147,7 @@ fn add_rows(
     let cut = mark_all(board, ways, &mut marked);
     for (index, node) in board.nodes.iter().enumerate() {
         if is_set(&marked, index) && given_row(node, ways.target.eid).is_none() {
-            add_row(chosen, ways, node, index, rows)?;
+            add_row(net, ways, node, index, rows)?;
         }
     }
     Ok(cut)
@@ -173,14 +167,13 @@ fn mark_all(board: &Board, ways: &Ways, marked: &mut Vec<bool>) -> Option<usize>
     cut
 }
 
-/// Whether a target is to be reached from a node: the board asks for it, or gives a row for it there.
+/// Whether a target is to be reached from a node. Where the board names whom it is to reach, nobody is to come to an
+/// endpoint ID that no node holds.
 fn asks(node: &BoardNode, target: Target) -> bool {
-    match &node.reaches {
-        None => true,
-        Some(nodes) => {
-            let is_asked = nodes.contains(&target.node);
-            target.is_held && (is_asked || given_row(node, target.eid).is_some())
-        }
+    if target.is_held {
+        is_to_reach(node, target.node, target.eid)
+    } else {
+        node.reaches.is_none()
     }
 }
 
@@ -208,7 +201,7 @@ fn is_set(marked: &[bool], index: usize) -> bool {
 
 /// Adds a row at a node for a target, or makes a row longer that was made for the endpoint ID before.
 fn add_row(
-    chosen: &[Chosen],
+    net: &Net,
     ways: &Ways,
     node: &BoardNode,
     index: usize,
@@ -222,7 +215,7 @@ fn add_row(
     }
     let link = step.link;
     let own = &mut rows[index];
-    if is_bridge(chosen, link.next) && lengthen(own, node.rows.len(), link, ways.target.eid) {
+    if is_bridge(net, link.next) && lengthen(own, node.rows.len(), link, ways.target.eid) {
         return Ok(());
     }
     own.push(BoardRow {

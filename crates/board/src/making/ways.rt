@@ -1,5 +1,5 @@
 //! Ways of the fewest hops over buses and bridges.
-use super::{Chosen, given_row};
+use super::{given_row, kind_of};
 use crate::board::{Board, BoardNode};
 use plan_values::Kind;
 use std::alloc::{AllocError, Global};
@@ -11,13 +11,24 @@ pub struct Link {
     pub port: usize,
 }
 
-/// For each node, to whom it can send: in the order of the nodes, then of its ports.
-pub fn links_of_all(alloc: Global, board: &Board) -> Result<Vec<Vec<Link>>, AllocError> {
-    let mut all = Vec::new(alloc);
+/// What ways go over, whatever endpoint IDs are chosen.
+#[derive(Drop)]
+pub struct Net {
+    /// For each node, to whom it can send: in the order of the nodes, then of its ports.
+    links: Vec<Vec<Link>>,
+    /// For each node, whether it is a bridge.
+    bridges: Vec<bool>,
+}
+
+/// What the ways of a board go over.
+pub fn net_of(alloc: Global, board: &Board) -> Result<Net, AllocError> {
+    let mut links = Vec::new(alloc);
+    let mut bridges = Vec::new(alloc);
     for (index, node) in board.nodes.iter().enumerate() {
-        all.push(links_of(alloc, board, index, node)?)?;
+        links.push(links_of(alloc, board, index, node)?)?;
+        bridges.push(kind_of(board, index, node) == Kind::Bridge)?;
     }
-    Ok(all)
+    Ok(Net { links, bridges })
 }
 
 fn links_of(
@@ -70,8 +81,7 @@ pub struct Step {
 pub fn steps_to(
     alloc: Global,
     board: &Board,
-    chosen: &[Chosen],
-    links: &[Vec<Link>],
+    net: &Net,
     destination: usize,
     eid: u8,
 ) -> Result<Vec<Option<Step>>, AllocError> {
@@ -80,7 +90,7 @@ pub fn steps_to(
         steps.push(first_step(node, destination))?;
     }
     for hops in 0..board.nodes.len() {
-        if !add_steps(board, chosen, links, destination, eid, hops, &mut steps) {
+        if !add_steps(board, net, destination, eid, hops, &mut steps) {
             return Ok(steps);
         }
     }
@@ -103,8 +113,7 @@ fn first_step(node: usize, destination: usize) -> Option<Step> {
 /// Adds the nodes that are one hop further, and tells whether there are any.
 fn add_steps(
     board: &Board,
-    chosen: &[Chosen],
-    links: &[Vec<Link>],
+    net: &Net,
     destination: usize,
     eid: u8,
     hops: usize,
@@ -113,7 +122,7 @@ fn add_steps(
     let mut are_some = false;
     for (index, node) in board.nodes.iter().enumerate() {
         if is_open(steps, index) {
-            let link = link_on(chosen, links, node, index, destination, eid, hops, steps);
+            let link = link_on(net, node, index, destination, eid, hops, steps);
             if let Some(link) = link {
                 set_step(steps, index, hops, link);
                 are_some = true;
@@ -141,8 +150,7 @@ fn set_step(steps: &mut Vec<Option<Step>>, node: usize, hops: usize, link: Link)
 
 /// By which link a node comes to one that is so many hops away and sends on.
 fn link_on(
-    chosen: &[Chosen],
-    links: &[Vec<Link>],
+    net: &Net,
     node: &BoardNode,
     index: usize,
     destination: usize,
@@ -155,14 +163,14 @@ fn link_on(
             next: row.next,
             port: row.port,
         };
-        return if leads(chosen, link, destination, hops, steps) {
+        return if leads(net, link, destination, hops, steps) {
             Some(link)
         } else {
             None
         };
     }
-    for link in links.get(index)? {
-        if leads(chosen, *link, destination, hops, steps) {
+    for link in net.links.get(index)? {
+        if leads(net, *link, destination, hops, steps) {
             return Some(*link);
         }
     }
@@ -170,24 +178,41 @@ fn link_on(
 }
 
 /// Whether the link leads to a node that is so many hops away, and sends on.
-fn leads(
-    chosen: &[Chosen],
-    link: Link,
-    destination: usize,
-    hops: usize,
-    steps: &[Option<Step>],
-) -> bool {
+fn leads(net: &Net, link: Link, destination: usize, hops: usize, steps: &[Option<Step>]) -> bool {
     let is_there = match steps.get(link.next) {
         Some(Some(step)) => step.hops == hops,
         _ => false,
     };
-    is_there && (link.next == destination || is_bridge(chosen, link.next))
+    is_there && (link.next == destination || is_bridge(net, link.next))
 }
 
 /// Whether a node is a bridge.
-pub fn is_bridge(chosen: &[Chosen], node: usize) -> bool {
-    match chosen.get(node) {
-        Some(own) => own.kind == Kind::Bridge,
-        None => false,
+pub fn is_bridge(net: &Net, node: usize) -> bool {
+    net.bridges.get(node).copied() == Some(true)
+}
+
+/// Whether all nodes that are to reach another have a way there, along the rows that the board gives for an endpoint
+/// ID of it.
+pub fn is_reached(
+    alloc: Global,
+    board: &Board,
+    net: &Net,
+    destination: usize,
+    eid: u8,
+) -> Result<bool, AllocError> {
+    let steps = steps_to(alloc, board, net, destination, eid)?;
+    for (index, node) in board.nodes.iter().enumerate() {
+        if is_open(&steps, index) && is_to_reach(node, destination, eid) {
+            return Ok(false);
+        }
+    }
+    Ok(true)
+}
+
+/// Whether a node is to reach another of this endpoint ID: the board asks for it, or gives a row for it there.
+pub fn is_to_reach(node: &BoardNode, other: usize, eid: u8) -> bool {
+    match &node.reaches {
+        None => true,
+        Some(nodes) => nodes.contains(&other) || given_row(node, eid).is_some(),
     }
 }

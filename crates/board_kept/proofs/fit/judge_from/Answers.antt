@@ -1,5 +1,6 @@
 use Rattle.toml.specs.View.{view}
-use Rattle.board_kept.specs.Made.{AsksFor, ReachesWell}
+use Rattle.net_reached.specs.Wishes.{ReachesNode}
+use Rattle.board_kept.specs.Made.{AsksFor}
 use Rattle.board_kept.proofs.More.{one_more}
 use Rattle.board_kept.proofs.fit.judge_from.Goals as goal
 
@@ -8,4 +9,4 @@ loop-to-preserved c =
     let board = view c.args.board.now in
     let plan = c.args.checked.now.0 in
     let from = c.args.from in
-    one_more (λ b. AsksFor board plan from b → ReachesWell board plan from b) c.loop-to.to c.loop-to.invariant c.in_ok-judge_asked.ensures
+    one_more (λ b. AsksFor board plan from b → ReachesNode plan from b) c.loop-to.to c.loop-to.invariant c.in_ok-judge_asked.ensures

@@ -3,5 +3,4 @@ use Rattle.board_kept.proofs.More.{one_more}
 use Rattle.board_kept.proofs.rowed.judge_all.Goals as goal
 
 pub loop-from-preserved : goal.loop-from-preserved
-loop-from-preserved c = one_more (λ a. ReachesAll c.args.before.now c.args.checked.now.0 a) c.loop-from.from c.loop-from.invariant
-    c.in_ok-judge_from.ensures
+loop-from-preserved c = one_more (λ a. ReachesAll c.args.checked.now.0 a) c.loop-from.from c.loop-from.invariant c.in_ok-judge_from.ensures

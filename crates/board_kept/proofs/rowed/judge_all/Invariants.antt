@@ -3,4 +3,4 @@ use Rattle.board_kept.specs.Rowed.{ReachesAll}
 use Rattle.board_kept.proofs.rowed.judge_all.Given as goal
 
 abbrev pub invariant-loop-from : goal.invariant-loop-from
-invariant-loop-from l = (a : ℕ) → a < l.from → ReachesAll l.before l.checked.0 a
+invariant-loop-from l = (a : ℕ) → a < l.from → ReachesAll l.checked.0 a

@@ -1,7 +1,0 @@
-use Rattle.std.proofs.Common.{◌≡◌, ℕ, ◌<◌, Some, true}
-use Rattle.std.specs.Prelude.{slice_get}
-use Rattle.board_kept.specs.Ways.{IsStepIn}
-use Rattle.board_kept.proofs.cut.is_closed_at.Given as goal
-
-abbrev pub invariant-loop-other : goal.invariant-loop-other
-invariant-loop-other l = (n : ℕ) → n < l.other → IsStepIn l.near l.turns l.node n → slice_get l.reached n ≡ Some true
