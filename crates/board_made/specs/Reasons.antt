@@ -46,8 +46,8 @@ abbrev pub IsWayTold : Data → ℕ → ℕ → List ℕ → Type 0
 IsWayTold board a b text = (one other : List ℕ) × IsNodeTold board a one × IsNodeTold board b other
     × (text ≡ reason_line (way_words one other))
 
--- The text says that no way leads from one node to another, for which the board asks; and so it is, whatever is chosen of
--- what the board leaves out.
+-- The text says that no way leads from one node to another, for which the board asks; and so it is, whatever is chosen
+-- of what the board leaves out.
 pub record IsCutTold (board : Data) (text : List ℕ) : Type 0 where
   pub one : ℕ
   pub other : ℕ

@@ -1,5 +1,5 @@
 -- The order of what rules certificates of a plan out, and what an edit leaves of it.
-use Rattle.std.specs.Prelude.{◌≡◌, ◌⊎◌, ℕ, List, [], ◌∷◌, Option, Some, None}
+use Rattle.std.specs.Prelude.{◌≡◌, ◌≢◌, ◌⊎◌, ℕ, List, [], ◌∷◌, Option, Some, None, All}
 use Rattle.plan_values.specs.declared.certificate.Certificate.{Certificate}
 use Rattle.plan_values.specs.declared.plan.Plan.{Plan}
 use Rattle.plan_values.specs.PlanValues.{PlanValue, plan_value}
@@ -41,6 +41,10 @@ pub record IsTried (before : PlanValue) (obstacle : CertifyError) (tried : Tried
   pub after : Plan
   pub by_edit : IsEdited before tried.edit (plan_value after)
   pub left : IsLeft obstacle after tried.left
+
+-- each of the edits leaves a plan that has a certificate, or none does
+abbrev pub AreAlike : List Tried → Type 0
+AreAlike tried = All (λ (t : Tried). t.left ≡ None) tried ⊎ All (λ (t : Tried). t.left ≢ None) tried
 
 -- ---- laws
 

@@ -4,7 +4,7 @@ ghost use Rattle.std.specs.List.{All};
 ghost use Rattle.net_plan.specs.PlanText.{IsPlanOf};
 ghost use Rattle.plan_values.specs.PlanValues.{plan_value};
 ghost use Rattle.net_plan.specs.Texts.{IsJsonTextOf};
-ghost use Rattle.net_explained.specs.Obstacles.{IsTried};
+ghost use Rattle.net_explained.specs.Obstacles.{AreAlike, IsTried};
 
 use crate::candidates::candidates;
 use crate::edit::{Edit, edited};
@@ -35,6 +35,7 @@ pub fn tried_edits(
     requires { IsJsonTextOf IsPlanOf text.now (plan_value plan.now) }
     ensures all { IfOk result (λ tried. All (IsTried (plan_value plan.now) obstacle.now) tried.items) }
     ensures few { IfOk result (λ tried. length tried.items ≤ 3) }
+    ensures alike { IfOk result (λ tried. AreAlike tried.items) }
 {
     let mut whole = Vec::new(alloc);
     let mut partial = Vec::new(alloc);
@@ -50,7 +51,10 @@ pub fn tried_edits(
             }
         }
     }
-    Ok(if whole.is_empty() { partial } else { whole })
+    if whole.is_empty() {
+        return Ok(partial);
+    }
+    Ok(whole)
 }
 
 /// Makes an edit in the plan of a text, and sees what rules certificates out then: nothing, or an obstacle that comes

@@ -319,7 +319,8 @@ sim is printed that tells why. A list has at most 100,000 events; where that is 
 of the last one is printed.
 
 Status 0: the events.
-Status 1: where the walk doesn't go on; or a fault of the plan or the certificate.
+Status 1: where the walk doesn't go on; or a fault of the plan or the certificate. (Where what was
+made doesn't read back, a line says so, which would be a fault of the program.)
 
   $ mctpplan script examples/riser/plan.json examples/riser/certificate.json walk host 17 64 \
       --lose 1 > events.json

@@ -13,7 +13,8 @@ loop-edit-preserved-in_ok-push c =
     let so : P c.in-Some-2.tried = rw c.in-Some-2.is at c.in_ok-tried.ensures in
     let items : c.push.new.self.items ≡ c.loop-edit.whole.items ++ c.in-Some-2.tried ∷ [] = c.in_ok-push.ensures.items in
     let short : length c.push.new.self.items ≤ 3 = search rules in
-    (subst (All P) (sym items) (All-push P c.loop-edit.whole.items c.in-Some-2.tried inv.0 so), inv.1, short, inv.3)
+    (subst (All P) (sym items) (All-push P c.loop-edit.whole.items c.in-Some-2.tried inv.0 so), inv.1, short, inv.3.0,
+      subst (All Leaves) (sym items) (All-push Leaves c.loop-edit.whole.items c.in-Some-2.tried inv.3.1.0 none), inv.3.1.1)
 
 pub loop-edit-preserved-in_ok-push-2 : goal.loop-edit-preserved-in_ok-push-2
 loop-edit-preserved-in_ok-push-2 c =
@@ -22,4 +23,5 @@ loop-edit-preserved-in_ok-push-2 c =
     let so : P c.in-Some-2.tried = rw c.in-Some-2.is at c.in_ok-tried.ensures in
     let items : c.push-then-len-lt-MOST_EDITS.new.self.items ≡ c.loop-edit.partial.items ++ c.in-Some-2.tried ∷ [] = c.in_ok-push-2.ensures.items in
     let short : length c.push-then-len-lt-MOST_EDITS.new.self.items ≤ 3 = search rules in
-    (inv.0, subst (All P) (sym items) (All-push P c.loop-edit.partial.items c.in-Some-2.tried inv.1 so), inv.2, short)
+    (inv.0, subst (All P) (sym items) (All-push P c.loop-edit.partial.items c.in-Some-2.tried inv.1 so), inv.2, short, inv.3.1.0,
+      subst (All Leaves) (sym items) (All-push Leaves c.loop-edit.partial.items c.in-Some-2.tried inv.3.1.1 some))
