@@ -1,27 +1,48 @@
-use Rattle.std.proofs.Common.{◌≡◌, ◌≤◌, ◌++◌, ◌∷◌, [], length, subst, sym, rules}
+use Rattle.std.proofs.Common.{◌≡◌, ◌≢◌, ◌≤◌, ◌++◌, ◌∷◌, [], Bool, true, false, not, Option, Some, None, is_some, refl, length, subst, sym, rules}
 use Rattle.std.proofs.lemmas.List.Elements.{All-push}
 use Rattle.std.specs.List.{All}
 use Rattle.plan_values.specs.PlanValues.{plan_value}
+use Rattle.net_rules.specs.declared.certify_error.CertifyError.{CertifyError}
 use Rattle.net_explained.specs.Obstacles.{IsTried}
 use Rattle.net_explained.specs.declared.trial.Tried.{Tried}
 use Rattle.net_explained.proofs.trial.tried_edits.Goals as goal
+
+none_left : (o : Option CertifyError) (b : Bool) → is_some o ≡ not b → b ≡ true → o ≡ None
+none_left None b is so = refl
+none_left (Some e) b is so = absurd (cc (is, so))
+
+some_left : (o : Option CertifyError) (b : Bool) → is_some o ≡ not b → b ≡ false → o ≢ None
+some_left None b is so none = absurd (cc (is, so))
+some_left (Some e) b is so none = absurd (cc none)
 
 pub loop-edit-preserved-in_ok-push : goal.loop-edit-preserved-in_ok-push
 loop-edit-preserved-in_ok-push c =
     let P : Tried → Type 0 = IsTried (plan_value c.args.plan.now) c.args.obstacle.now in
     let inv = c.loop-edit.invariant in
+    let Leaves : Tried → Type 0 = λ t. t.left ≡ None in
     let so : P c.in-Some-2.tried = rw c.in-Some-2.is at c.in_ok-tried.ensures in
     let items : c.push.new.self.items ≡ c.loop-edit.whole.items ++ c.in-Some-2.tried ∷ [] = c.in_ok-push.ensures.items in
-    let short : length c.push.new.self.items ≤ 3 = search rules in
-    (subst (All P) (sym items) (All-push P c.loop-edit.whole.items c.in-Some-2.tried inv.0 so), inv.1, short, inv.3.0,
-      subst (All Leaves) (sym items) (All-push Leaves c.loop-edit.whole.items c.in-Some-2.tried inv.3.1.0 none), inv.3.1.1)
+    let short : length c.push.new.self.items ≤ 3 = search rules in (
+      subst (All P) (sym items) (All-push P c.loop-edit.whole.items c.in-Some-2.tried inv.0 so),
+      inv.1,
+      short,
+      inv.3.0,
+      subst (All Leaves) (sym items) (All-push Leaves c.loop-edit.whole.items c.in-Some-2.tried inv.3.1.0 (none_left _ _ c.is_none.ensures c.if-is_none.true)),
+      inv.3.1.1,
+    )
 
 pub loop-edit-preserved-in_ok-push-2 : goal.loop-edit-preserved-in_ok-push-2
 loop-edit-preserved-in_ok-push-2 c =
     let P : Tried → Type 0 = IsTried (plan_value c.args.plan.now) c.args.obstacle.now in
     let inv = c.loop-edit.invariant in
+    let Leaves : Tried → Type 0 = λ t. t.left ≢ None in
     let so : P c.in-Some-2.tried = rw c.in-Some-2.is at c.in_ok-tried.ensures in
     let items : c.push-then-len-lt-MOST_EDITS.new.self.items ≡ c.loop-edit.partial.items ++ c.in-Some-2.tried ∷ [] = c.in_ok-push-2.ensures.items in
-    let short : length c.push-then-len-lt-MOST_EDITS.new.self.items ≤ 3 = search rules in
-    (inv.0, subst (All P) (sym items) (All-push P c.loop-edit.partial.items c.in-Some-2.tried inv.1 so), inv.2, short, inv.3.1.0,
-      subst (All Leaves) (sym items) (All-push Leaves c.loop-edit.partial.items c.in-Some-2.tried inv.3.1.1 some))
+    let short : length c.push-then-len-lt-MOST_EDITS.new.self.items ≤ 3 = search rules in (
+      inv.0,
+      subst (All P) (sym items) (All-push P c.loop-edit.partial.items c.in-Some-2.tried inv.1 so),
+      inv.2,
+      short,
+      inv.3.1.0,
+      subst (All Leaves) (sym items) (All-push Leaves c.loop-edit.partial.items c.in-Some-2.tried inv.3.1.1 (some_left _ _ c.is_none.ensures c.if-is_none.false)),
+    )
