@@ -1,5 +1,5 @@
 //! The command `draw`: a planned network in Graphviz' DOT language.
-ghost use Rattle.std.specs.Prelude.{◌≡◌, IfOk, option_map};
+ghost use Rattle.std.specs.Prelude.{◌≡◌, IfOk};
 ghost use Rattle.command_answers.specs.declared.status.Status.TheVariants.{Yes};
 ghost use Rattle.plan_texts.specs.Drawings.{IsFirstObstacle};
 
@@ -48,7 +48,7 @@ fn plan_drawing(alloc: Global, plan: &Plan, rows: DrawnRows) -> Result<String, A
 
 /// What rules certificates of a plan out first; none where it has one.
 fn first_obstacle(alloc: Global, plan: &Plan) -> Result<Option<CertifyError>, AllocError>
-    ensures { IfOk result (λ obstacle. IsFirstObstacle plan.now (option_map (λ it. it.now) obstacle)) }
+    ensures { IfOk result (IsFirstObstacle plan.now) }
 {
     match certify(alloc, plan) {
         Ok(_certificate) => Ok(None),

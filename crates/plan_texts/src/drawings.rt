@@ -29,7 +29,7 @@ pub fn drawing(
     obstacle: Option<&CertifyError>,
     certificate: Option<&Certificate>,
 ) -> Result<String, AllocError>
-    requires first { IsFirstObstacle plan.now (option_map (λ it. it.now) obstacle.entry) }
+    requires first { IsFirstObstacle plan.now (option_map (λ it. it.now) obstacle) }
 {
     let mut lines = FIRST_LINE.to_string(alloc)?;
     push_buses(&mut lines, &plan.buses)?;

@@ -184,7 +184,9 @@ fn error_text(
     ensures { IfOk result (λ text. IsMoveErrorTold (file_of name.now before.now) (file_of new_name.now after.now) error.now (string_bytes text)) }
 {
     match error {
-        MoveError::Differ(node) => difference_text(alloc, name, new_name, before, after, *node),
+        MoveError::Differ(node) => {
+            Ok(difference_text(alloc, name, new_name, before, after, *node)?)
+        }
         MoveError::Old(fault) => {
             way_on_text(alloc, name, new_name, before, after, Side::Old, fault)
         }

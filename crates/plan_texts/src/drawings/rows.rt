@@ -82,7 +82,7 @@ pub fn bundle_drawing(
     obstacle: Option<&CertifyError>,
     certificate: Option<&Certificate>,
 ) -> Result<String, AllocError>
-    requires first { IsFirstObstacle plan.now (option_map (λ it. it.now) obstacle.entry) }
+    requires first { IsFirstObstacle plan.now (option_map (λ it. it.now) obstacle) }
 {
     let mut lines = FIRST_LINE.to_string(alloc)?;
     push_nodes(&mut lines, &plan.nodes, obstacle, certificate)?;
