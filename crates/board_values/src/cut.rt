@@ -24,7 +24,15 @@ pub fn is_cut_off(
 {
     let turns = turns_to(alloc, board, given, to)?;
     let reached = all_reached(alloc, board, given, &turns, from)?;
-    Ok(asks_for(board, from, to) && is_apart(board, &turns, &reached, from, to))
+    Ok(is_told(board, &turns, &reached, from, to))
+}
+
+/// Whether the board asks that a node reaches another, and the nodes that are reached show that it can't.
+fn is_told(board: &Value, turns: &[Option<usize>], reached: &[bool], from: usize, to: usize) -> bool
+    requires { AreTurns (view board.now) to turns.now }
+    ensures { IsTrue result → IsCutOff (view board.now) from to }
+{
+    asks_for(board, from, to) && is_apart(board, turns, reached, from, to)
 }
 
 /// Whether the board asks that a node reaches another.
