@@ -1,5 +1,5 @@
 //! Edits that are tried before they are proposed.
-ghost use Rattle.std.specs.Prelude.{◌≤◌, IfOk, IfSome, length};
+ghost use Rattle.std.specs.Prelude.{◌≡◌, ◌⊎◌, ◌≤◌, IfOk, IfSome, length};
 ghost use Rattle.std.specs.List.{All};
 ghost use Rattle.net_plan.specs.PlanText.{IsPlanOf};
 ghost use Rattle.plan_values.specs.PlanValues.{plan_value};
@@ -51,10 +51,14 @@ pub fn tried_edits(
             }
         }
     }
-    if whole.is_empty() {
-        return Ok(partial);
-    }
-    Ok(whole)
+    Ok(best_of(whole, partial))
+}
+
+/// The edits that leave a plan with a certificate, where there are some, and otherwise the others.
+fn best_of(whole: Vec<Tried>, partial: Vec<Tried>) -> Vec<Tried>
+    ensures { (result.items ≡ whole.items) ⊎ ((length whole.items ≡ 0) × (result.items ≡ partial.items)) }
+{
+    if whole.is_empty() { partial } else { whole }
 }
 
 /// Makes an edit in the plan of a text, and sees what rules certificates out then: nothing, or an obstacle that comes

@@ -90,12 +90,14 @@ fn dots_after(characters: &[char], count: usize) -> &'static str {
 
 /// A key as it is shown: its beginning, and three dots where more follows.
 pub fn shown_key(alloc: Global, key: &str) -> Result<String, AllocError> {
-    let characters = first_characters(alloc, key)?;
-    let characters = characters.as_slice();
-    if MOST_SHOWN < characters.len() {
-        return shown(alloc, &characters[..MOST_SHOWN], "...");
-    }
-    shown(alloc, characters, "")
+    let mut characters = first_characters(alloc, key)?;
+    let dots = if MOST_SHOWN < characters.len() {
+        "..."
+    } else {
+        ""
+    };
+    characters.truncate(MOST_SHOWN);
+    shown(alloc, &characters, dots)
 }
 
 /// Characters as they are shown, and what stands behind them.

@@ -1,4 +1,4 @@
-use Rattle.std.proofs.Common.{◌≡◌, ◌≢◌, ◌≤◌, ◌++◌, ◌∷◌, [], Bool, true, false, not, Option, Some, None, is_some, refl, length, subst, sym, rules}
+use Rattle.std.proofs.Common.{◌≡◌, ◌≢◌, ◌⊎◌, ◌≤◌, ◌++◌, ◌∷◌, [], List, inl, inr, Bool, true, false, not, Option, Some, None, is_some, refl, length, subst, sym, rules}
 use Rattle.std.proofs.lemmas.List.Elements.{All-push}
 use Rattle.std.specs.List.{All}
 use Rattle.plan_values.specs.PlanValues.{plan_value}
@@ -15,8 +15,17 @@ some_left : (o : Option CertifyError) (b : Bool) → is_some o ≡ not b → b �
 some_left None b is so none = absurd (cc (is, so))
 some_left (Some e) b is so none = absurd (cc none)
 
-pub loop-edit-preserved-in_ok-push : goal.loop-edit-preserved-in_ok-push
-loop-edit-preserved-in_ok-push c =
+either : (Q : List Tried → Type 0) (told whole partial : List Tried) → (told ≡ whole) ⊎ ((length whole ≡ 0) × (told ≡ partial)) → Q whole → Q partial → Q told
+either Q told whole partial (inl is) one other = subst Q (sym is) one
+either Q told whole partial (inr (none, is)) one other = subst Q (sym is) other
+
+pub returns-clause-all : goal.returns-clause-all
+returns-clause-all c =
+    let P : Tried → Type 0 = IsTried (plan_value c.args.plan.now) c.args.obstacle.now in
+    either (All P) _ _ _ c.best_of.ensures c.loop-edit.invariant.0 c.loop-edit.invariant.1
+
+pub loop-edit-preserved-in-Continue-branch-4 : goal.loop-edit-preserved-in-Continue-branch-4
+loop-edit-preserved-in-Continue-branch-4 c =
     let P : Tried → Type 0 = IsTried (plan_value c.args.plan.now) c.args.obstacle.now in
     let inv = c.loop-edit.invariant in
     let Leaves : Tried → Type 0 = λ t. t.left ≡ None in
@@ -26,13 +35,13 @@ loop-edit-preserved-in_ok-push c =
       subst (All P) (sym items) (All-push P c.loop-edit.whole.items c.in-Some-2.tried inv.0 so),
       inv.1,
       short,
-      inv.3.0,
-      subst (All Leaves) (sym items) (All-push Leaves c.loop-edit.whole.items c.in-Some-2.tried inv.3.1.0 (none_left _ _ c.is_none.ensures c.if-is_none.true)),
-      inv.3.1.1,
+      inv.3,
+      subst (All Leaves) (sym items) (All-push Leaves c.loop-edit.whole.items c.in-Some-2.tried inv.4 (none_left _ _ c.is_none.ensures c.if-is_none.true)),
+      inv.5,
     )
 
-pub loop-edit-preserved-in_ok-push-2 : goal.loop-edit-preserved-in_ok-push-2
-loop-edit-preserved-in_ok-push-2 c =
+pub loop-edit-preserved-in-Continue-branch-5 : goal.loop-edit-preserved-in-Continue-branch-5
+loop-edit-preserved-in-Continue-branch-5 c =
     let P : Tried → Type 0 = IsTried (plan_value c.args.plan.now) c.args.obstacle.now in
     let inv = c.loop-edit.invariant in
     let Leaves : Tried → Type 0 = λ t. t.left ≢ None in
@@ -43,6 +52,6 @@ loop-edit-preserved-in_ok-push-2 c =
       subst (All P) (sym items) (All-push P c.loop-edit.partial.items c.in-Some-2.tried inv.1 so),
       inv.2,
       short,
-      inv.3.1.0,
-      subst (All Leaves) (sym items) (All-push Leaves c.loop-edit.partial.items c.in-Some-2.tried inv.3.1.1 (some_left _ _ c.is_none.ensures c.if-is_none.false)),
+      inv.4,
+      subst (All Leaves) (sym items) (All-push Leaves c.loop-edit.partial.items c.in-Some-2.tried inv.5 (some_left _ _ c.is_none.ensures c.if-is_none.false)),
     )
