@@ -9,8 +9,8 @@ use Rattle.net_plan.specs.Finding.{Step}
 use Rattle.net_pointers.specs.Offsets.{LeadsTo, LeadsToKey}
 use Rattle.net_pointers.specs.declared.doubled.DoubledKey.{DoubledKey}
 use Rattle.net_pointers.specs.declared.ranges.Overlap.{Overlap}
-use Rattle.reading_texts.specs.ReadingLines.{Begins, pointer_text}
-use Rattle.reading_texts.specs.TroubleLines.{keys_in, two_lines, IsDoubledKeyTold, IsOverlapTold, key_at, object_text, path_text, range_pointer}
+use Rattle.reading_texts.specs.ReadingLines.{Begins, place_text, pointer_text}
+use Rattle.reading_texts.specs.TroubleLines.{keys_in, two_lines, IsDoubledKeyTold, IsOverlapTold, IsValueTold, key_at, object_text, path_text, range_pointer}
 
 -- ---- by index
 
@@ -63,6 +63,15 @@ overlap_told bytes text o here there one other at again (Ok t) is_one is_other l
   (one, other, subst (λ p. Begins (pointer_text p) one) is_one first, subst (λ p. Begins (pointer_text p) other) is_other second, is),
 )
 overlap_told bytes text o here there one other at again (Err e) is_one is_other leads leads_again first second is = tt
+
+-- ---- a value
+
+pub value_told : {A E : Type 0} (bytes : A → List ℕ) (text : List ℕ) (pointer steps : List Step) (place : List ℕ) (offset : ℕ) (r : Result A E)
+    → steps ≡ pointer → LeadsTo text steps offset → place ≡ place_text text offset steps
+    → IfOk r (λ t. Begins place (bytes t)) → IfOk r (λ t. IsValueTold text pointer (bytes t))
+value_told bytes text pointer steps place offset (Ok t) same leads is begins =
+    (offset, subst (λ p. LeadsTo text p offset) same leads, subst (λ p. Begins p (bytes t)) (is ∙ ap (place_text text offset) same) begins)
+value_told bytes text pointer steps place offset (Err e) same leads is begins = tt
 
 -- ---- places
 
