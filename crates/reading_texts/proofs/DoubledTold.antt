@@ -1,14 +1,15 @@
 -- What stands twice, as it is told: keys by index, and where the lines say that both stand.
-use Rattle.std.proofs.Common.{◌≡◌, ◌≤◌, ◌<◌, ◌++◌, ℕ, zero, suc, List, [], ◌∷◌, length, get_or, append-nil, Option, Some, None, Result, Ok, Err, Bor, refl, sym, ◌∙◌, ap, subst, arith}
+use Rattle.std.proofs.Common.{◌≡◌, ◌≤◌, ◌<◌, ◌+◌, ◌++◌, ℕ, zero, suc, List, [], ◌∷◌, length, get_or, append-nil, Option, Some, None, Result, Ok, Err, Bor, refl, sym, ◌∙◌, ap, subst, arith}
 use Rattle.std.specs.Prelude.{IfOk}
 use Rattle.json.specs.Json.{Json}
 use Rattle.json.specs.Value.{members_view}
 use Rattle.net_plan.specs.Trees.{Tree}
 use Rattle.net_pointers.specs.Doubles.{HasDoubledKey, part_at}
-use Rattle.net_pointers.specs.Offsets.{LeadsToKey}
+use Rattle.net_pointers.specs.Offsets.{LeadsTo, LeadsToKey}
 use Rattle.net_pointers.specs.declared.doubled.DoubledKey.{DoubledKey}
-use Rattle.reading_texts.specs.ReadingLines.{Begins}
-use Rattle.reading_texts.specs.TroubleLines.{keys_in, two_lines, IsDoubledKeyTold, key_at, object_text, path_text}
+use Rattle.net_pointers.specs.declared.ranges.Overlap.{Overlap}
+use Rattle.reading_texts.specs.ReadingLines.{Begins, pointer_text}
+use Rattle.reading_texts.specs.TroubleLines.{keys_in, two_lines, IsDoubledKeyTold, IsOverlapTold, key_at, object_text, path_text, range_pointer}
 
 -- ---- by index
 
@@ -38,8 +39,19 @@ pub key_told : {A E : Type 0} (bytes : A → List ℕ) (text : List ℕ) (j : Js
     → whole ≡ object_text k.path.items j → Begins whole one → Begins whole other → LeadsToKey text k.path.items k.members.first at → LeadsToKey text k.path.items k.members.second again
     → IfOk r (λ t. bytes t ≡ two_lines text (Some at) (Some again) one other) → IfOk r (λ t. IsDoubledKeyTold text j k (bytes t))
 key_told bytes text j k whole one other at again (Ok t) the_object first second leads leads_again is =
-    (at, again, leads, leads_again, one, other, subst (λ w. Begins w one) the_object first, subst (λ w. Begins w other) the_object second, is)
+    (at, again, leads, leads_again, (one, other, subst (λ w. Begins w one) the_object first, subst (λ w. Begins w other) the_object second, is))
 key_told bytes text j k whole one other at again (Err e) the_object first second leads leads_again is = tt
+
+-- ---- the lines of two ranges
+
+pub overlap_told : {A E : Type 0} (bytes : A → List ℕ) (text : List ℕ) (o : Overlap) (here there : List ℕ) (first second : ℕ) (r : Result A E)
+    → LeadsTo text (range_pointer o.entry o.range) first → LeadsTo text (range_pointer o.entry (o.range + 1)) second
+    → Begins (pointer_text (range_pointer o.entry o.range)) here → Begins (pointer_text (range_pointer o.entry (o.range + 1))) there
+    → IfOk r (λ t. bytes t ≡ two_lines text (Some first) (Some second) here there) → IfOk r (λ t. IsOverlapTold text o (bytes t))
+overlap_told bytes text o here there first second (Ok t) leads leads_next one other is = (first, second, leads, leads_next, (here, there, one, other, is))
+overlap_told bytes text o here there first second (Err e) leads leads_next one other is = tt
+
+-- ---- members
 
 -- a doubled key is that of two members of the object
 pub members_there : (j : Json) (k : DoubledKey) → HasDoubledKey j k → (k.members.first < length (keys_in (part_at k.path.items j))) × (k.members.second < length (keys_in (part_at k.path.items j)))
