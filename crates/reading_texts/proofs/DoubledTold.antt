@@ -5,11 +5,12 @@ use Rattle.json.specs.Json.{Json}
 use Rattle.json.specs.Value.{members_view}
 use Rattle.net_plan.specs.Trees.{Tree}
 use Rattle.net_pointers.specs.Doubles.{HasDoubledKey, part_at}
+use Rattle.net_plan.specs.Finding.{Step}
 use Rattle.net_pointers.specs.Offsets.{LeadsTo, LeadsToKey}
 use Rattle.net_pointers.specs.declared.doubled.DoubledKey.{DoubledKey}
 use Rattle.net_pointers.specs.declared.ranges.Overlap.{Overlap}
-use Rattle.reading_texts.specs.ReadingLines.{Begins, pointer_text}
-use Rattle.reading_texts.specs.TroubleLines.{keys_in, two_lines, IsDoubledKeyTold, IsOverlapTold, key_at, object_text, path_text, range_pointer}
+use Rattle.reading_texts.specs.ReadingLines.{Begins, place_text, pointer_text}
+use Rattle.reading_texts.specs.TroubleLines.{keys_in, two_lines, IsDoubledKeyTold, IsOverlapTold, IsValueTold, key_at, object_text, path_text, range_pointer}
 
 -- ---- by index
 
@@ -42,19 +43,37 @@ key_told bytes text j k whole one other at again (Ok t) the_object first second 
     (at, again, leads, leads_again, (one, other, subst (λ w. Begins w one) the_object first, subst (λ w. Begins w other) the_object second, is))
 key_told bytes text j k whole one other at again (Err e) the_object first second leads leads_again is = tt
 
--- ---- the lines of two ranges
-
-pub overlap_told : {A E : Type 0} (bytes : A → List ℕ) (text : List ℕ) (o : Overlap) (here there : List ℕ) (first second : ℕ) (r : Result A E)
-    → LeadsTo text (range_pointer o.entry o.range) first → LeadsTo text (range_pointer o.entry (o.range + 1)) second
-    → Begins (pointer_text (range_pointer o.entry o.range)) here → Begins (pointer_text (range_pointer o.entry (o.range + 1))) there
-    → IfOk r (λ t. bytes t ≡ two_lines text (Some first) (Some second) here there) → IfOk r (λ t. IsOverlapTold text o (bytes t))
-overlap_told bytes text o here there first second (Ok t) leads leads_next one other is = (first, second, leads, leads_next, (here, there, one, other, is))
-overlap_told bytes text o here there first second (Err e) leads leads_next one other is = tt
-
--- ---- members
-
 -- a doubled key is that of two members of the object
 pub members_there : (j : Json) (k : DoubledKey) → HasDoubledKey j k → (k.members.first < length (keys_in (part_at k.path.items j))) × (k.members.second < length (keys_in (part_at k.path.items j)))
 members_there j k (ms, at, is) =
     let same = ap (λ o. length (keys_in o)) at in
     (omega (arith, is.ascends, is.within, same), omega (arith, is.within, same))
+
+-- ---- two ranges
+
+pub overlap_told : {A E : Type 0} (bytes : A → List ℕ) (text : List ℕ) (o : Overlap) (here there : List Step) (one other : List ℕ) (at again : ℕ) (r : Result A E)
+    → here ≡ range_pointer o.entry o.range → there ≡ range_pointer o.entry (o.range + 1) → LeadsTo text here at → LeadsTo text there again
+    → Begins (pointer_text here) one → Begins (pointer_text there) other
+    → IfOk r (λ t. bytes t ≡ two_lines text (Some at) (Some again) one other) → IfOk r (λ t. IsOverlapTold text o (bytes t))
+overlap_told bytes text o here there one other at again (Ok t) is_one is_other leads leads_again first second is = (
+  at,
+  again,
+  subst (λ p. LeadsTo text p at) is_one leads,
+  subst (λ p. LeadsTo text p again) is_other leads_again,
+  (one, other, subst (λ p. Begins (pointer_text p) one) is_one first, subst (λ p. Begins (pointer_text p) other) is_other second, is),
+)
+overlap_told bytes text o here there one other at again (Err e) is_one is_other leads leads_again first second is = tt
+
+-- ---- places
+
+-- lines that begin with a place
+pub begins_there : {A E : Type 0} (bytes : A → List ℕ) (place position words : List ℕ) (r : Result A E) → position ≡ place
+    → IfOk r (λ t. bytes t ≡ position ++ words) → IfOk r (λ t. Begins place (bytes t))
+begins_there bytes place position words (Ok t) same is = (words, is ∙ ap (λ p. p ++ words) same)
+begins_there bytes place position words (Err e) same is = tt
+
+-- a line that begins with the place of a value
+pub value_told : {A E : Type 0} (bytes : A → List ℕ) (text : List ℕ) (pointer : List Step) (offset : ℕ) (place : List ℕ) (r : Result A E)
+    → LeadsTo text pointer offset → place ≡ place_text text offset pointer → IfOk r (λ t. Begins place (bytes t)) → IfOk r (λ t. IsValueTold text pointer (bytes t))
+value_told bytes text pointer offset place (Ok t) leads same begins = (offset, leads, subst (λ p. Begins p (bytes t)) same begins)
+value_told bytes text pointer offset place (Err e) leads same begins = tt

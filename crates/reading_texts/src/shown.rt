@@ -90,14 +90,14 @@ fn dots_after(characters: &[char], count: usize) -> &'static str {
 
 /// A key as it is shown: its beginning, and three dots where more follows.
 pub fn shown_key(alloc: Global, key: &str) -> Result<String, AllocError> {
-    let characters = first_characters(alloc, key)?;
-    let dots = if characters.len() > MOST_SHOWN {
+    let mut characters = first_characters(alloc, key)?;
+    let dots = if MOST_SHOWN < characters.len() {
         "..."
     } else {
         ""
     };
-    let beginning: Vec<char> = key.chars().take(MOST_SHOWN).collect(alloc)?;
-    shown(alloc, beginning.as_slice(), dots)
+    characters.truncate(MOST_SHOWN);
+    shown(alloc, &characters, dots)
 }
 
 /// Characters as they are shown, and what stands behind them.

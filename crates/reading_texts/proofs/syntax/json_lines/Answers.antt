@@ -1,15 +1,16 @@
-use Rattle.std.proofs.Common.{IfOk, Some, string_bytes, rules, sym, subst}
-use Rattle.net_pointers.specs.declared.syntax.JsonFault.{JsonFault}
-use Rattle.reading_texts.specs.ReadingLines.{Begins, position_text}
-use Rattle.reading_texts.specs.TroubleLines.{AreJsonLines}
+use Rattle.std.proofs.Common.{Some, string_bytes}
+use Rattle.reading_texts.specs.ReadingLines.{position_text}
+use Rattle.reading_texts.proofs.DoubledTold.{begins_there}
 use Rattle.reading_texts.proofs.syntax.json_lines.Goals as goal
 
 pub returns-in_ok-position-in-NotUtf8 : goal.returns-in_ok-position-in-NotUtf8
 returns-in_ok-position-in-NotUtf8 c =
-    let written : IfOk c.format.result (λ lines. Begins (position_text c.args.text.now (Some c.in-NotUtf8.offset)) (string_bytes lines)) = search rules in
-    subst (λ (f : JsonFault). IfOk c.format.result (λ lines. AreJsonLines c.args.text.now f (string_bytes lines))) (sym c.in-NotUtf8.is) written
+    let place = position_text c.args.text.now (Some c.in-NotUtf8.offset) in
+    let position = string_bytes c.in_ok-position-in-NotUtf8.position in
+    rw c.in-NotUtf8.is (begins_there string_bytes place position _ c.format.result c.in_ok-position-in-NotUtf8.ensures c.format.ensures.ok)
 
 pub returns-in_ok-expected-in-Unreadable : goal.returns-in_ok-expected-in-Unreadable
 returns-in_ok-expected-in-Unreadable c =
-    let written : IfOk c.format-in-Unreadable.result (λ lines. Begins (position_text c.args.text.now (Some c.in-Unreadable.offset)) (string_bytes lines)) = search rules in
-    subst (λ (f : JsonFault). IfOk c.format-in-Unreadable.result (λ lines. AreJsonLines c.args.text.now f (string_bytes lines))) (sym c.in-Unreadable.is) written
+    let place = position_text c.args.text.now (Some c.in-Unreadable.offset) in
+    let position = string_bytes c.in_ok-position-in-Unreadable.position in
+    rw c.in-Unreadable.is (begins_there string_bytes place position _ c.format-in-Unreadable.result c.in_ok-position-in-Unreadable.ensures c.format-in-Unreadable.ensures.ok)

@@ -1,5 +1,5 @@
-use Rattle.std.proofs.Common.{◌+◌, string_bytes, rules}
-use Rattle.net_pointers.specs.Offsets.{LeadsTo}
+use Rattle.std.proofs.Common.{◌≡◌, ◌∙◌, ◌+◌, ap, map, string_bytes, rules}
+use Rattle.net_plan.specs.Finding.{step_value}
 use Rattle.reading_texts.specs.ReadingLines.{Begins, pointer_text}
 use Rattle.reading_texts.specs.TroubleLines.{range_pointer}
 use Rattle.reading_texts.proofs.DoubledTold.{overlap_told}
@@ -7,12 +7,11 @@ use Rattle.reading_texts.proofs.twice.overlap_lines.Goals as goal
 
 pub returns : goal.returns
 returns c =
-    let text = c.args.text.now in
     let o = c.args.overlap in
-    let here = c.deref-2.result.now in
-    let there = c.deref-3.result.now in
-    let leads : LeadsTo text (range_pointer o.entry o.range) c.in_ok-first.first = search rules in
-    let leads_next : LeadsTo text (range_pointer o.entry (o.range + 1)) c.in_ok-second.second = search rules in
-    let one : Begins (pointer_text (range_pointer o.entry o.range)) here = search rules in
-    let other : Begins (pointer_text (range_pointer o.entry (o.range + 1))) there = search rules in
-    overlap_told string_bytes text o here there c.in_ok-first.first c.in_ok-second.second c.two_lines.result leads leads_next one other c.two_lines.ensures
+    let here = map step_value c.range_pointer-one.result in
+    let there = map step_value c.range_pointer-other.result in
+    let is_other : there ≡ range_pointer o.entry (o.range + 1) = c.range_pointer-other.ensures ∙ ap (range_pointer o.entry) c.in-Some.ensures.1 in
+    let one : Begins (pointer_text here) c.deref-2.result.now = search rules in
+    let other : Begins (pointer_text there) c.deref-3.result.now = search rules in
+    overlap_told string_bytes c.args.text.now o here there c.deref-2.result.now c.deref-3.result.now c.in_ok-first.first c.in_ok-second.second c.two_lines.result
+    c.range_pointer-one.ensures is_other c.in_ok-first.ensures c.in_ok-second.ensures one other c.two_lines.ensures
