@@ -21,14 +21,14 @@ at_that P said found answer is says d at holds = says (subst P (sym (same_Some s
 -- a node that is made a bridge, where a test denies that it has a pool
 pub made_otherwise : (board : Data) (n : ℕ) (d : Data) (has rest : Bool) → (get (codes "pool") d ≢ None → IsTrue has) → has ≡ false
     → (OwnsOrRoutes board n d → IsTrue rest) → IsMadeBridge board n d → IsTrue rest
-made_otherwise board n d has rest says no others (inl pool) = absurd (denied has says no pool)
-made_otherwise board n d has rest says no others (inr more) = others more
+made_otherwise board n d has rest says denies others (inl pool) = absurd (denied has says denies pool)
+made_otherwise board n d has rest says denies others (inr more) = others more
 
 -- and that it owns a node
 pub routes_then : (board : Data) (n : ℕ) (d : Data) (owns routes : Bool) → ((k : ℕ) → Owns board n k → IsTrue owns) → owns ≡ false
     → (routes ≡ false → item_at (codes "rows") 0 d ≡ None) → OwnsOrRoutes board n d → IsTrue routes
-routes_then board n d owns routes says no none (inl (k, own)) = absurd (denied owns (says k) no own)
-routes_then board n d owns routes says no none (inr (some, two)) = elim (cases_Bool routes) [
+routes_then board n d owns routes says denies none (inl (k, own)) = absurd (denied owns (says k) denies own)
+routes_then board n d owns routes says denies none (inr (some, two)) = elim (cases_Bool routes) [
   | inl is_so ↦ is_so
   | inr is_not ↦ absurd (some (none is_not))
 ]
