@@ -1,17 +1,37 @@
 -- What stands among the first of a list, or there are more.
-use Rattle.std.proofs.Common.{◌≡◌, ℕ, ◌<◌, List, [], ◌∷◌, ◌++◌, length, Bool, false, Option, Some, None, IsTrue, IfSome, option_and_then, option_map, refl, sym, subst, ◌∙◌, inl, inr, arith, codes}
+use Rattle.std.proofs.Common.{◌≡◌, ◌≢◌, ℕ, ◌<◌, List, [], ◌∷◌, ◌++◌, length, Bool, false, Option, Some, None, IsTrue, IfSome, option_and_then, option_map, refl, sym, subst, ◌∙◌, inl, inr, arith, codes}
 use Rattle.std.proofs.lemmas.Bool.{cases_lt, cases_Bool, false≢true}
-use Rattle.std.proofs.lemmas.Option.{none-some}
+use Rattle.std.proofs.lemmas.Option.{none-some, same_Some}
 use Rattle.mctp_transport.proofs.FirstIndexes.{get_cases}
 use Rattle.toml.specs.Data.{Data, as_str, get}
 use Rattle.board_values.specs.Said.{SaysText, item_at}
-use Rattle.board_values.specs.Owners.{at_node}
-use Rattle.board_values.specs.Ways.{bus_at, bus_name, TurnsIn}
+use Rattle.board_values.specs.Owners.{at_node, Owns}
+use Rattle.board_values.specs.Ways.{bus_at, bus_name, IsMadeBridge, OwnsOrRoutes, TurnsIn}
 use Rattle.board_values.proofs.Beyond.{item_beyond}
 
 -- what a test denies is not so
 pub denied : {P : Type 0} (answer : Bool) → (P → IsTrue answer) → answer ≡ false → ¬ P
 denied answer says is_not p = false≢true (sym is_not ∙ says p)
+
+-- what was found is what stands there, of which a test says so
+pub at_that : (P : Data → Type 0) (said : Data) (found : Option Data) (answer : Bool) → Some said ≡ found → (P said → IsTrue answer)
+    → (d : Data) → found ≡ Some d → P d → IsTrue answer
+at_that P said found answer is says d at holds = says (subst P (sym (same_Some said d (is ∙ at))) holds)
+
+-- a node that is made a bridge, where a test denies that it has a pool
+pub made_otherwise : (board : Data) (n : ℕ) (d : Data) (has rest : Bool) → (get (codes "pool") d ≢ None → IsTrue has) → has ≡ false
+    → (OwnsOrRoutes board n d → IsTrue rest) → IsMadeBridge board n d → IsTrue rest
+made_otherwise board n d has rest says denies others (inl pool) = absurd (denied has says denies pool)
+made_otherwise board n d has rest says denies others (inr more) = others more
+
+-- and that it owns a node
+pub routes_then : (board : Data) (n : ℕ) (d : Data) (owns routes : Bool) → ((k : ℕ) → Owns board n k → IsTrue owns) → owns ≡ false
+    → (routes ≡ false → item_at (codes "rows") 0 d ≡ None) → OwnsOrRoutes board n d → IsTrue routes
+routes_then board n d owns routes says denies none (inl (k, own)) = absurd (denied owns (says k) denies own)
+routes_then board n d owns routes says denies none (inr (some, two)) = elim (cases_Bool routes) [
+  | inl is_so ↦ is_so
+  | inr is_not ↦ absurd (some (none is_not))
+]
 
 -- a port of which this holds
 pub among_ports : (d : Data) (P : List ℕ → Type 0) (most : ℕ) (are_more : Bool)

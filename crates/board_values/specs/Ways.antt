@@ -37,10 +37,14 @@ AreNear board m n = (d e : Data) × (item_at (codes "node") m board ≡ Some d) 
 abbrev pub IsOnTwoBuses : Data → Type 0
 IsOnTwoBuses d = (one other : List ℕ) × IsOnBus d one × IsOnBus d other × (one ≢ other)
 
--- what stands of n makes it a bridge where no kind does: it has a pool, owns a node, or has rows and ports on two buses
+-- n owns a node, or what stands of it has rows, and ports on two buses
+abbrev pub OwnsOrRoutes : Data → ℕ → Data → Type 0
+OwnsOrRoutes board n d =
+    ((k : ℕ) × Owns board n k) ⊎ ((item_at (codes "rows") 0 d ≢ None) × IsOnTwoBuses d)
+
+-- so it is, or n has a pool: then it is a bridge where no kind says so
 abbrev pub IsMadeBridge : Data → ℕ → Data → Type 0
-IsMadeBridge board n d = (get (codes "pool") d ≢ None) ⊎ ((k : ℕ) × Owns board n k)
-    ⊎ ((item_at (codes "rows") 0 d ≢ None) × IsOnTwoBuses d)
+IsMadeBridge board n d = (get (codes "pool") d ≢ None) ⊎ OwnsOrRoutes board n d
 
 -- so it says, or it says no kind and is made a bridge
 abbrev pub IsSaidBridge : Data → ℕ → Data → Type 0

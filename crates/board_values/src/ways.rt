@@ -1,10 +1,10 @@
 //! Over which buses and bridges of a board ways lead, and where the rows lead that it gives.
-ghost use Rattle.std.specs.Prelude.{◌≡◌, ◌≢◌, ◌<◌, ◌≤◌, ◌+◌, ℕ, List, IfOk, IfSome, IsTrue, Some, codes, option_and_then, option_map, slice_get, string_bytes};
-ghost use Rattle.toml.specs.Data.{Data, as_str};
+ghost use Rattle.std.specs.Prelude.{◌≡◌, ◌≢◌, ◌<◌, ◌≤◌, ◌+◌, ℕ, List, IfOk, IfSome, IsTrue, None, Some, codes, option_and_then, option_map, slice_get, string_bytes};
+ghost use Rattle.toml.specs.Data.{Data, as_str, get};
 ghost use Rattle.toml.specs.View.{view};
 ghost use Rattle.board_values.specs.Said.{SaysNumber, SaysText, item_at};
 ghost use Rattle.board_values.specs.Owners.{at_node, Owns};
-ghost use Rattle.board_values.specs.Ways.{bus_name, bus_at, IsOnBus, ShareBus, AreNear, IsMadeBridge, IsSaidBridge, IsBridge, row_words, ListsText, ListsRow, GivesRow, TurnsTo, TurnsIn, AreTurns};
+ghost use Rattle.board_values.specs.Ways.{bus_name, bus_at, IsOnBus, ShareBus, AreNear, OwnsOrRoutes, IsMadeBridge, IsSaidBridge, IsBridge, row_words, ListsText, ListsRow, GivesRow, TurnsTo, TurnsIn, AreTurns};
 
 use crate::eids::eids_text;
 use crate::owners::{at_node, name_of};
@@ -130,7 +130,20 @@ fn may_be_said_bridge(board: &Value, node: usize, said: &Value) -> bool
 fn may_be_made_bridge(board: &Value, node: usize, said: &Value) -> bool
     ensures { IsMadeBridge (view board.now) node (view said.now) → IsTrue result }
 {
-    !is_left_out(said, "pool") || owns_some(board, node) || has_item(said, "rows", 0)
+    has_pool(said) || owns_or_routes(board, node, said)
+}
+
+fn has_pool(said: &Value) -> bool
+    ensures { get (codes "pool") (view said.now) ≢ None → IsTrue result }
+{
+    !is_left_out(said, "pool")
+}
+
+/// Whether a node owns another, or gives rows.
+fn owns_or_routes(board: &Value, node: usize, said: &Value) -> bool
+    ensures { OwnsOrRoutes (view board.now) node (view said.now) → IsTrue result }
+{
+    owns_some(board, node) || has_item(said, "rows", 0)
 }
 
 fn owns_some(board: &Value, node: usize) -> bool
@@ -276,10 +289,18 @@ fn lists_row(
     match name_of(board, row.next) {
         Some(next) => {
             let text = row_text(alloc, row, next)?;
-            Ok(is_for(row, eid) && lists_text(said, "rows", &text))
+            Ok(is_listed(said, eid, row, &text))
         }
         None => Ok(false),
     }
+}
+
+/// Whether a row is for an endpoint ID, and its text stands in the list at `rows`.
+fn is_listed(said: &Value, eid: u8, row: BoardRow, text: &str) -> bool
+    ensures within { IsTrue result → (row.first ≤ eid) × (eid < row.first + row.size) }
+    ensures listed { IsTrue result → ListsText (codes "rows") (view said.now) text.now }
+{
+    is_for(row, eid) && lists_text(said, "rows", text)
 }
 
 fn row_text(alloc: Global, row: BoardRow, next: &str) -> Result<String, AllocError>
@@ -303,7 +324,7 @@ pub fn lists_text(said: &Value, key: &str, text: &str) -> bool
 }
 
 fn is_text_at(said: &Value, key: &str, text: &str, index: usize) -> bool
-    ensures { IsTrue result → ListsText key.now (view said.now) text.now }
+    ensures { IsTrue result → SaysText (item_at key.now index (view said.now)) text.now }
 {
     match item(said, key, index) {
         Some(value) => is_text(value, text),

@@ -1,15 +1,16 @@
 //! Whether bytes are a record of which words tell.
 ghost use Rattle.std.specs.Prelude.{◌≡◌, IfOk, IsTrue, All, map, string_bytes};
+ghost use Rattle.std.specs.Str.Parse.{digits_value, without_leading_plus};
 ghost use Rattle.pdr_record.specs.RecordValues.{record_value};
 ghost use Rattle.pdr_record.specs.Records.{type_of};
 ghost use Rattle.record_fields.specs.Meanings.{named_of};
 ghost use Rattle.record_fields.specs.Named.{named_fields, number, real};
-ghost use Rattle.record_fields.specs.Said.{IsRecordOfWords, IsSaidOf, Says, SaysHexadecimal, SaysReal, IsReal, IsTypeWord};
+ghost use Rattle.record_fields.specs.Said.{IsRecordOfWords, IsSaidOf, Says, SaysHexadecimal, SaysReal, IsDecimalReal, IsHexadecimalReal, IsReal, IsTypeWord};
 
 use crate::fields::named_fields;
 use crate::held::{Held, NamedField};
 use crate::text::{field_text, hexadecimal};
-use crate::words::real_in;
+use crate::words::bits_in;
 use mctp_transport::Wire;
 use pdr_record::Record;
 use std::alloc::{AllocError, Global};
@@ -107,15 +108,45 @@ fn says_real(alloc: Global, word: &str, name: &'static str, value: u64) -> Resul
         return Ok(false);
     };
     let said = format!(in alloc; "{name}={text}")?;
-    Ok(word.eq_ignore_ascii_case(&said) && is_real(text, value))
+    let is_real = is_real(alloc, text, value)?;
+    Ok(word.eq_ignore_ascii_case(&said) && is_real)
 }
 
-/// Whether a text writes a real number of 32 bits that has these bits.
-fn is_real(text: &str, bits: u64) -> bool
-    ensures { IsTrue result → IsReal text.now bits }
+/// Whether a text writes the real number of 32 bits that has these bits.
+fn is_real(alloc: Global, text: &str, bits: u64) -> Result<bool, AllocError>
+    ensures { IfOk result (λ answer. IsTrue answer → IsReal text.now bits) }
 {
-    match real_in(text) {
+    if is_decimal(text, bits) {
+        return Ok(true);
+    }
+    is_hexadecimal(alloc, text, bits)
+}
+
+fn is_decimal(text: &str, bits: u64) -> bool
+    ensures { IsTrue result → IsDecimalReal text.now bits }
+{
+    match bits_in(text) {
         Some(own) => own == bits,
         None => false,
+    }
+}
+
+fn is_hexadecimal(alloc: Global, text: &str, bits: u64) -> Result<bool, AllocError>
+    ensures { IfOk result (λ answer. IsTrue answer → IsHexadecimalReal text.now bits) }
+{
+    let Some(digits) = text.strip_prefix("0x") else {
+        return Ok(false);
+    };
+    let said = format!(in alloc; "0x{digits}")?;
+    Ok(text == said.as_str() && spells(digits, bits))
+}
+
+/// Whether digits are the number in hexadecimal.
+fn spells(digits: &str, number: u64) -> bool
+    ensures { IsTrue result → number ≡ digits_value 16 (without_leading_plus digits.now) }
+{
+    match u64::from_str_radix(digits, 16) {
+        Ok(own) => own == number,
+        Err(_) => false,
     }
 }

@@ -1,6 +1,6 @@
 //! What words of the form NAME=VALUE give.
-ghost use Rattle.std.specs.Prelude.{◌≡◌, IfSome};
-ghost use Rattle.record_fields.specs.Said.{IsDecimalReal, IsReal};
+ghost use Rattle.std.specs.Prelude.{IfSome};
+ghost use Rattle.record_fields.specs.Said.{IsDecimalReal};
 
 use crate::made::MakeError;
 use std::alloc::Global;
@@ -69,9 +69,7 @@ pub fn number_in(text: &str, width: u32) -> Option<u64> {
 
 /// The bits of the real number of 32 bits that a text gives: in decimal digits, or the bits in hexadecimal digits
 /// behind 0x.
-pub fn real_in(text: &str) -> Option<u64>
-    ensures { IfSome result (λ bits. IsReal text.now bits) }
-{
+fn real_in(text: &str) -> Option<u64> {
     match text.strip_prefix("0x") {
         Some(digits) => u64::from_str_radix(digits, 16).ok(),
         None => bits_in(text),
@@ -79,11 +77,13 @@ pub fn real_in(text: &str) -> Option<u64>
 }
 
 /// The bits of the real number that is nearest to what a text is in decimal digits.
-fn bits_in(text: &str) -> Option<u64>
+pub fn bits_in(text: &str) -> Option<u64>
     ensures { IfSome result (λ bits. IsDecimalReal text.now bits) }
 {
-    let number: f32 = text.parse().ok()?;
-    Some(u64::from(f32_to_bits_with_nan(number)))
+    match text.parse::<f32>() {
+        Ok(number) => Some(u64::from(f32_to_bits_with_nan(number))),
+        Err(_) => None,
+    }
 }
 
 /// The two's complement of a number in so many bytes.
