@@ -9,7 +9,10 @@ use Rattle.plan_values.specs.declared.nodes.Node.{Node}
 use Rattle.mctp_control.specs.RouteEntries.{EntryValue}
 use Rattle.pdr_repository.specs.Records.{Entry}
 use Rattle.plan_exports.specs.TableAnswers.{AreEntriesOf}
-use Rattle.audited_captures.specs.Repositories.{TellsRecords}
+use Rattle.plan_values.specs.NodeValues.{name_bytes}
+use Rattle.audited_captures.specs.Asked.{unanswered}
+use Rattle.audited_captures.specs.RecordParts.{RecordPartValue, AreRecordParts}
+use Rattle.audited_captures.specs.Walks.{AreWalksLines}
 use Rattle.audited_captures.specs.Lines.{LineValue, line_value}
 use Rattle.audited_captures.specs.declared.lines.Line.{Line}
 use Rattle.audited_captures.specs.Exchanges.{AreExchanges}
@@ -29,16 +32,17 @@ joined a b c two all A B C later whole is_a is_b is_c =
     ∙ (ap (λ x. A ++ (x ++ map line_value c)) is_b ∙ ap (λ x. A ++ (B ++ x)) is_c))
 
 pub of_node : {T E : Type 0} (lines_of : T → List LineValue) (plan : Plan) (rs : List (List Entry)) (h : Heard) (n : ℕ) (node : Node) (planned : List EntryValue) (records : List Entry)
-    (told : List LineValue) (result : Result T E) → slice_get plan.nodes.items n ≡ Some node → AreEntriesOf plan n planned → slice_get rs n ≡ Some records
-    → TellsRecords node records h.words told → IfOk result (λ t. lines_of t ≡ lines_of_node node planned h.exchanges told) → IfOk result (λ t. AreNodeLines plan rs h n (lines_of t))
-of_node lines_of plan rs h n node planned records told (Ok t) at plans stored (parts, answered, (walks, walked, is)) tell = record {
+    (parts : List RecordPartValue) (told : List LineValue) (result : Result T E) → slice_get plan.nodes.items n ≡ Some node → AreEntriesOf plan n planned → slice_get rs n ≡ Some records
+    → AreRecordParts node.eid.value h.words parts → AreWalksLines (name_bytes node.name) records parts told
+    → IfOk result (λ t. lines_of t ≡ lines_of_node node planned h.exchanges (unanswered node.eid.value h.words h.exchanges parts) told) → IfOk result (λ t. AreNodeLines plan rs h n (lines_of t))
+of_node lines_of plan rs h n node planned records parts told (Ok t) at plans stored answered (walks, walked, is) tell = record {
   node = node;
   facts = record { planned = planned; records = records; parts = parts; walks = walks };
   at = at;
   are = record { plans = plans; stored = stored; answered = answered; walked = walked };
-  tell = tell ∙ ap (lines_of_node node planned h.exchanges) is;
+  tell = tell ∙ ap (lines_of_node node planned h.exchanges (unanswered node.eid.value h.words h.exchanges parts)) is;
 }
-of_node lines_of plan rs h n node planned records told (Err e) at plans stored tells tell = tt
+of_node lines_of plan rs h n node planned records parts told (Err e) at plans stored answered walked tell = tt
 
 pub next_node : (plan : Plan) (rs : List (List Entry)) (h : Heard) (n : ℕ) (old more new : List Line) → AreLines plan rs h n (map line_value old)
     → AreNodeLines plan rs h n (map line_value more) → new ≡ old ++ more → AreLines plan rs h (n + 1) (map line_value new)

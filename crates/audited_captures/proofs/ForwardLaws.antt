@@ -22,6 +22,7 @@ use Rattle.plan_exports.specs.TableAnswers.{AreEntriesOf}
 use Rattle.audited_captures.specs.AsPlanned.{IsAmong, IsLike, AreAsPlanned}
 use Rattle.audited_captures.specs.Forwarding.{IsFor, LeadsAs, ForwardsAs, TablesForward, AuditsForward}
 use Rattle.audited_captures.specs.Matching.{IsReadAsPlanned}
+use Rattle.audited_captures.specs.Readings.{ReadingValue, Read, Refused, Unended}
 use Rattle.audited_captures.proofs.Booleans.{both_left, both_right}
 use Rattle.audited_captures.proofs.PacketLaws.{among_left, among_right, among_split}
 use Rattle.audited_captures.proofs.PlannedReadings.{matches}
@@ -185,10 +186,11 @@ pub tables_forward : TablesForward
 tables_forward plan cert n name planned found accepted are none =
     forwards plan n planned found (accepted_apart plan cert accepted) are ((matches name planned found).0 none)
 
-read_so : (plan : Plan) (n : ℕ) (planned : List EntryValue) (r : Option (List EntryValue)) → RowsAreApart plan → AreEntriesOf plan n planned → IsReadAsPlanned planned r
-    → (found : List EntryValue) × (r ≡ Some found) × ForwardsAs plan n found
-read_so plan n planned None apart are is = absurd is
-read_so plan n planned (Some found) apart are is = (found, refl, forwards plan n planned found apart are is)
+read_so : (plan : Plan) (n : ℕ) (planned : List EntryValue) (r : ReadingValue) → RowsAreApart plan → AreEntriesOf plan n planned → IsReadAsPlanned planned r
+    → (found : List EntryValue) × (r ≡ Read found) × ForwardsAs plan n found
+read_so plan n planned Unended apart are is = absurd is
+read_so plan n planned Refused apart are is = absurd is
+read_so plan n planned (Read found) apart are is = (found, refl, forwards plan n planned found apart are is)
 
 pub audits_forward : AuditsForward
 audits_forward plan cert bus entries lines accepted are none n node at r among =

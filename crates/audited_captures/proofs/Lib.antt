@@ -9,6 +9,7 @@ pub mod RecordLaws
 pub mod AuditLaws
 pub mod CheckedPlans
 pub mod PlannedReadings
+pub mod FailureLaws
 pub mod MatchLaws
 pub mod ComparedLaws
 pub mod PacketLaws

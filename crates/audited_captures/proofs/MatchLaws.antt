@@ -1,6 +1,6 @@
 -- No line of a node tells a difference exactly where all that it said is planned.
 use Rattle.std.proofs.Common.{◌≡◌, ◌⊎◌, ℕ, ◌+◌, ◌==◌, ◌&&◌, ◌||◌, not, Bool, true, false, List, [], ◌∷◌, ◌++◌, length, refl, ap, sym, ◌∙◌, subst, inl, inr, arith}
-use Rattle.std.specs.Prelude.{Option, Some, None, find, codes, if◌then◌else◌}
+use Rattle.std.specs.Prelude.{Option, Some, None, IsTrue, find, codes, if◌then◌else◌}
 use Rattle.std.specs.Fmt.{decimal}
 use Rattle.std.specs.List.{flat_map, list_any, filter}
 use Rattle.std.proofs.Math.Nat.{suc-ne-zero}
@@ -8,24 +8,26 @@ use Rattle.std.proofs.lemmas.Bool.{cases_Bool, eqb-true, eq-eqb}
 use Rattle.std.proofs.lemmas.List.{nil_from_length, length-append}
 use Rattle.std.proofs.lemmas.List.Elements.{filter-append}
 use Rattle.mctp_control.specs.RouteEntries.{EntryValue}
-use Rattle.mctp_control.specs.Requests.{CommandValue, SetsEid, GetsEid, AllocatesEids, GetsEntries}
 use Rattle.mctp_control.specs.Responses.{AnswerValue, EidSet, EidTold, PoolTold, EntriesTold, Failed}
 use Rattle.plan_values.specs.NodeValues.{name_bytes}
 use Rattle.plan_values.specs.declared.nodes.Node.{Node}
 use Rattle.audited_captures.specs.AsPlanned.{IsAmong}
 use Rattle.pdr_repository.specs.Records.{Entry, handle_in}
-use Rattle.audited_captures.specs.Audits.{NodeFacts, difference_count, lines_of_node}
+use Rattle.audited_captures.specs.Audits.{NodeFacts, difference_count, said_lines, lines_or_quiet, lines_of_node}
 use Rattle.audited_captures.specs.Exchanges.{ExchangeValue}
-use Rattle.audited_captures.specs.Identities.{answered_by, kind_word, eid_line, kind_line, identity_lines, tells_eid, span_words, same_span, pool_lines_of, tells_pool, told_lines, eid_lines, pool_lines, answers_of, answer_if, first_of, size_of, kind_number}
-use Rattle.audited_captures.specs.Lines.{LineValue, difference, note, silence, differences_or, differs}
+use Rattle.audited_captures.specs.Failures.{fails, failures_of, failures_in, failed_lines}
+use Rattle.audited_captures.specs.declared.failures.Topic.TheVariants as topic
+use Rattle.audited_captures.specs.Identities.{kind_word, eid_line, kind_line, identity_lines, tells_eid, span_words, same_span, pool_lines_of, tells_pool, told_lines, eid_lines, pool_lines, answers_of, first_of, size_of, kind_number}
+use Rattle.audited_captures.specs.Lines.{LineValue, difference, note, differences_or, differs}
 use Rattle.audited_captures.specs.RecordLines.{unlike_from, line_if_unlike_at, line_of_found, found_lines, is_found, missing_lines, unlike_records, are_planned, records_match, order_line, open_line, stopped_line, walk_lines, walks_lines}
 use Rattle.audited_captures.specs.Walking.{Walked, Whole, Open, Stopped}
-use Rattle.audited_captures.specs.Matching.{IsReadAsPlanned, IsWalkedAsPlanned, HasPlannedEid, HasPlannedPool, SaysAsPlanned, NodesMatchWhereAsPlanned}
-use Rattle.audited_captures.specs.Readings.{part_asked, part_of, parts_of, readings}
-use Rattle.audited_captures.specs.Routes.{unlike, line_if_unlike, line_beside, planned_lines, extra_line, lines_if_extra, extra_lines, unlike_lines, match_line, reading_lines, routes_lines, has_range, same_range}
+use Rattle.audited_captures.specs.Matching.{IsReadAsPlanned, IsWalkedAsPlanned, HasPlannedEid, HasPlannedPool, SomeTellsEid, SomeTellsPool, SaysAsPlanned, NodesMatchWhereAsPlanned}
+use Rattle.audited_captures.specs.Readings.{PartValue, ReadingValue, Read, Refused, Unended, parts_of, readings}
+use Rattle.audited_captures.specs.Routes.{unlike, line_if_unlike, line_beside, planned_lines, extra_line, lines_if_extra, extra_lines, unlike_lines, match_line, reading_lines, readings_lines, routes_lines, has_range, same_range}
 use Rattle.audited_captures.proofs.RecordLaws.{planned_is, planned_of}
 use Rattle.audited_captures.proofs.Booleans.{both, both_left, both_right, not_both, either, or_right}
-use Rattle.audited_captures.proofs.PlannedReadings.{nil_left, nil_right, no_line, flat_nil, flat_none, any_of, as_planned, no_lines}
+use Rattle.audited_captures.proofs.PlannedReadings.{nil_left, nil_right, no_line, flat_nil, flat_none, any_is, any_of, as_planned, no_lines}
+use Rattle.audited_captures.proofs.FailureLaws.{none_fails, no_failures, remark_zero, failed_zero, zero_failed, refused_part}
 
 -- ---- counts of differences
 
@@ -95,13 +97,38 @@ module _ (name : List ℕ) where
       all_both (flat_map (planned_lines name found) planned) (extra_lines name planned found)
       (all_flat (planned_lines name found) (λ e. beside_all e (find (same_range e) found)) planned) (extra_all planned found)
 
-  reading_is : (planned : List EntryValue) (r : Option (List EntryValue)) → difference_count (reading_lines name planned r) ≡ 0 → IsReadAsPlanned planned r
-  reading_is planned None zero = absurd (cc)
-  reading_is planned (Some found) zero = as_planned name planned found (no_difference (match_line name found).text (unlike_lines name planned found) (unlike_all planned found) zero)
+  reading_is : (planned : List EntryValue) (r : ReadingValue) → (r ≡ Refused → ⊥) → difference_count (reading_lines name planned r) ≡ 0 → IsReadAsPlanned planned r
+  reading_is planned Unended sound zero = absurd (cc)
+  reading_is planned Refused sound zero = sound refl
+  reading_is planned (Read found) sound zero = as_planned name planned found (no_difference (match_line name found).text (unlike_lines name planned found) (unlike_all planned found) zero)
 
-  reading_of : (planned : List EntryValue) (r : Option (List EntryValue)) → IsReadAsPlanned planned r → difference_count (reading_lines name planned r) ≡ 0
-  reading_of planned None are = absurd are
-  reading_of planned (Some found) are = ap (λ ls. difference_count (differences_or (match_line name found) ls)) (no_lines name planned found are)
+  reading_of : (planned : List EntryValue) (r : ReadingValue) → IsReadAsPlanned planned r → difference_count (reading_lines name planned r) ≡ 0
+  reading_of planned Unended are = absurd are
+  reading_of planned Refused are = absurd are
+  reading_of planned (Read found) are = ap (λ ls. difference_count (differences_or (match_line name found) ls)) (no_lines name planned found are)
+
+  -- ---- a routing table
+
+  module _ (planned : List EntryValue) (parts : List PartValue) where
+    abbrev read : List LineValue
+    read = readings_lines name planned (readings parts)
+
+    abbrev refused : List LineValue
+    refused = failed_lines false (name ++ codes " routes") (failures_in parts)
+
+    routes_are : difference_count (routes_lines name planned parts) ≡ 0 → (p : PartValue) → IsAmong p parts → ¬ IsTrue (fails topic.Table p.answer)
+    routes_are zero = none_fails topic.Table (λ (p : PartValue). p.answer) parts (failed_zero (name ++ codes " routes") (failures_in parts) (zero_right read refused zero))
+
+    tables_are : difference_count (routes_lines name planned parts) ≡ 0 → (r : ReadingValue) → IsAmong r (readings parts) → IsReadAsPlanned planned r
+    tables_are zero r among =
+        reading_is planned r (λ is. (let bad = refused_part parts r among is in routes_are zero bad.0 bad.1 bad.2))
+        (zero_each (reading_lines name planned) (readings parts) (zero_left read refused zero) r among)
+
+    routes_of : ((r : ReadingValue) → IsAmong r (readings parts) → IsReadAsPlanned planned r)
+        → ((p : PartValue) → IsAmong p parts → ¬ IsTrue (fails topic.Table p.answer)) → difference_count (routes_lines name planned parts) ≡ 0
+    routes_of each sound =
+        zero_both read refused (zero_all (reading_lines name planned) (readings parts) (λ r among. reading_of planned r (each r among)))
+        (zero_failed false (name ++ codes " routes") (failures_in parts) (no_failures topic.Table (λ (p : PartValue). p.answer) parts sound))
 
   -- ---- endpoint IDs and pools
 
@@ -164,8 +191,23 @@ module _ (name : List ℕ) where
     untold_eid (EntriesTold next entries) untold = tt
     untold_eid (Failed command code) untold = tt
 
+    abbrev eids_told : List AnswerValue → List LineValue
+    eids_told answers = told_lines (list_any tells_eid answers) (note (name ++ (codes " eid match " ++ decimal eid))) (flat_map (identity_lines name eid type) answers)
+
+    abbrev eids_failed : List AnswerValue → Bool → List LineValue
+    eids_failed answers is_remark = failed_lines is_remark (name ++ codes " eid") (failures_of topic.Eid answers)
+
+    eid_told_are : (answers : List AnswerValue) → difference_count (eid_lines name eid type answers) ≡ 0 → (a : AnswerValue) → IsAmong a answers → IsTrue (fails topic.Eid a) → SomeTellsEid answers
+    eid_told_are answers zero a among fails_it = elim (cases_Bool (list_any tells_eid answers)) [
+      | inl tells ↦ any_is tells_eid answers tells
+      | inr silent ↦ (
+          let last = zero_right (eids_told answers) (eids_failed answers (list_any tells_eid answers)) zero in
+          let none = failed_zero (name ++ codes " eid") (failures_of topic.Eid answers) (sym (ap (λ b. difference_count (eids_failed answers b)) silent) ∙ last) in
+          absurd (none_fails topic.Eid (λ (b : AnswerValue). b) answers none a among fails_it))
+    ]
+
     eids_are : (answers : List AnswerValue) → difference_count (eid_lines name eid type answers) ≡ 0 → (a : AnswerValue) → IsAmong a answers → HasPlannedEid eid type a
-    eids_are answers zero a among = elim (told_is (list_any tells_eid answers) (name ++ (codes " eid match " ++ decimal eid)) (flat_map (identity_lines name eid type) answers) (all_flat (identity_lines name eid type) identity_all answers) zero) [
+    eids_are answers zero a among = elim (told_is (list_any tells_eid answers) (name ++ (codes " eid match " ++ decimal eid)) (flat_map (identity_lines name eid type) answers) (all_flat (identity_lines name eid type) identity_all answers) (zero_left (eids_told answers) (eids_failed answers (list_any tells_eid answers)) zero)) [
       | inl untold ↦ elim (cases_Bool (tells_eid a)) [
         | inl tells ↦ absurd (not_both (list_any tells_eid answers) (any_of tells_eid answers a among tells) untold)
         | inr silent ↦ untold_eid a silent
@@ -173,10 +215,17 @@ module _ (name : List ℕ) where
       | inr none ↦ identity_is a (flat_nil (identity_lines name eid type) answers none a among)
     ]
 
-    eids_of : (answers : List AnswerValue) → ((a : AnswerValue) → IsAmong a answers → HasPlannedEid eid type a) → difference_count (eid_lines name eid type answers) ≡ 0
-    eids_of answers each =
-        told_of (list_any tells_eid answers) (name ++ (codes " eid match " ++ decimal eid)) (flat_map (identity_lines name eid type) answers)
-        (flat_none (identity_lines name eid type) answers (λ a among. identity_none a (each a among)))
+    eids_of : (answers : List AnswerValue) → ((a : AnswerValue) → IsAmong a answers → HasPlannedEid eid type a)
+        → ((a : AnswerValue) → IsAmong a answers → IsTrue (fails topic.Eid a) → SomeTellsEid answers) → difference_count (eid_lines name eid type answers) ≡ 0
+    eids_of answers each tells =
+        zero_both (eids_told answers) (eids_failed answers (list_any tells_eid answers))
+        (told_of (list_any tells_eid answers) (name ++ (codes " eid match " ++ decimal eid)) (flat_map (identity_lines name eid type) answers)
+        (flat_none (identity_lines name eid type) answers (λ a among. identity_none a (each a among))))
+        (elim (cases_Bool (list_any tells_eid answers)) [
+          | inl told ↦ ap (λ b. difference_count (eids_failed answers b)) told ∙ remark_zero (name ++ codes " eid") (failures_of topic.Eid answers)
+          | inr silent ↦ zero_failed (list_any tells_eid answers) (name ++ codes " eid") (failures_of topic.Eid answers)
+              (no_failures topic.Eid (λ (b : AnswerValue). b) answers (λ a among is. (let some = tells a among is in not_both (list_any tells_eid answers) (any_of tells_eid answers some.0 some.1 some.2) silent)))
+        ])
 
   module _ (first size : ℕ) where
     abbrev pool_text : (found_first found_size : ℕ) → List ℕ
@@ -221,8 +270,29 @@ module _ (name : List ℕ) where
     untold_pool (EntriesTold next entries) untold = tt
     untold_pool (Failed command code) untold = tt
 
+    abbrev pools_told : List AnswerValue → List LineValue
+    pools_told answers = told_lines (list_any tells_pool answers) (note (name ++ (codes " pool match " ++ span_words first size))) (flat_map (pool_lines_of name first size) answers)
+
+    abbrev pools_failed : List AnswerValue → Bool → List LineValue
+    pools_failed answers is_remark = failed_lines is_remark (name ++ codes " pool") (failures_of topic.Pool answers)
+
+    abbrev is_remark : List AnswerValue → Bool
+    is_remark answers = list_any tells_pool answers || size == 0
+
+    pool_told_are : (answers : List AnswerValue) → difference_count (pool_lines name first size answers) ≡ 0 → (a : AnswerValue) → IsAmong a answers → IsTrue (fails topic.Pool a) → SomeTellsPool answers ⊎ (size ≡ 0)
+    pool_told_are answers zero a among fails_it = elim (cases_Bool (is_remark answers)) [
+      | inl remark ↦ elim (either (list_any tells_pool answers) (size == 0) remark) [
+        | inl tells ↦ inl (any_is tells_pool answers tells)
+        | inr empty ↦ inr (eqb-true size 0 empty)
+      ]
+      | inr counts ↦ (
+          let last = zero_right (pools_told answers) (pools_failed answers (is_remark answers)) zero in
+          let none = failed_zero (name ++ codes " pool") (failures_of topic.Pool answers) (sym (ap (λ b. difference_count (pools_failed answers b)) counts) ∙ last) in
+          absurd (none_fails topic.Pool (λ (b : AnswerValue). b) answers none a among fails_it))
+    ]
+
     pools_are : (answers : List AnswerValue) → difference_count (pool_lines name first size answers) ≡ 0 → (a : AnswerValue) → IsAmong a answers → HasPlannedPool first size a
-    pools_are answers zero a among = elim (told_is (list_any tells_pool answers) (name ++ (codes " pool match " ++ span_words first size)) (flat_map (pool_lines_of name first size) answers) (all_flat (pool_lines_of name first size) pool_all answers) zero) [
+    pools_are answers zero a among = elim (told_is (list_any tells_pool answers) (name ++ (codes " pool match " ++ span_words first size)) (flat_map (pool_lines_of name first size) answers) (all_flat (pool_lines_of name first size) pool_all answers) (zero_left (pools_told answers) (pools_failed answers (is_remark answers)) zero)) [
       | inl untold ↦ elim (cases_Bool (tells_pool a)) [
         | inl tells ↦ absurd (not_both (list_any tells_pool answers) (any_of tells_pool answers a among tells) untold)
         | inr silent ↦ untold_pool a silent
@@ -230,10 +300,21 @@ module _ (name : List ℕ) where
       | inr none ↦ pool_is a (flat_nil (pool_lines_of name first size) answers none a among)
     ]
 
-    pools_of : (answers : List AnswerValue) → ((a : AnswerValue) → IsAmong a answers → HasPlannedPool first size a) → difference_count (pool_lines name first size answers) ≡ 0
-    pools_of answers each =
-        told_of (list_any tells_pool answers) (name ++ (codes " pool match " ++ span_words first size)) (flat_map (pool_lines_of name first size) answers)
-        (flat_none (pool_lines_of name first size) answers (λ a among. pool_none a (each a among)))
+    is_a_remark : (answers : List AnswerValue) → SomeTellsPool answers ⊎ (size ≡ 0) → is_remark answers ≡ true
+    is_a_remark answers (inl some) = ap (λ b. b || size == 0) (any_of tells_pool answers some.0 some.1 some.2)
+    is_a_remark answers (inr empty) = or_right (list_any tells_pool answers) (size == 0) (eq-eqb size 0 empty)
+
+    pools_of : (answers : List AnswerValue) → ((a : AnswerValue) → IsAmong a answers → HasPlannedPool first size a)
+        → ((a : AnswerValue) → IsAmong a answers → IsTrue (fails topic.Pool a) → SomeTellsPool answers ⊎ (size ≡ 0)) → difference_count (pool_lines name first size answers) ≡ 0
+    pools_of answers each tells =
+        zero_both (pools_told answers) (pools_failed answers (is_remark answers))
+        (told_of (list_any tells_pool answers) (name ++ (codes " pool match " ++ span_words first size)) (flat_map (pool_lines_of name first size) answers)
+        (flat_none (pool_lines_of name first size) answers (λ a among. pool_none a (each a among))))
+        (elim (cases_Bool (is_remark answers)) [
+          | inl remark ↦ ap (λ b. difference_count (pools_failed answers b)) remark ∙ remark_zero (name ++ codes " pool") (failures_of topic.Pool answers)
+          | inr counts ↦ zero_failed (is_remark answers) (name ++ codes " pool") (failures_of topic.Pool answers)
+              (no_failures topic.Pool (λ (b : AnswerValue). b) answers (λ a among is. not_both (is_remark answers) (is_a_remark answers (tells a among is)) counts))
+        ])
 
   -- ---- records
 
@@ -276,40 +357,27 @@ module _ (name : List ℕ) where
     walk_of (Open found) is = absurd is
     walk_of (Stopped fault found) is = absurd is
 
--- ---- a node of which nothing was captured
-
-if_same : {A : Type 0} (b : Bool) (xs : List A) → (if b then xs else xs) ≡ xs
-if_same true xs = refl
-if_same false xs = refl
-
-some_or : {A B : Type 0} (b : Bool) (x : A) (y : B) → (if b then x ∷ [] else []) ≡ [] → (if b then y ∷ [] else []) ≡ []
-some_or true x y is = absurd (cc)
-some_or false x y is = refl
-
-module _ (eid : ℕ) (x : ExchangeValue) where
-  by_command : (c : CommandValue) → (if answered_by x c == eid then x.answer ∷ [] else []) ≡ [] → (if x.responder == eid then part_asked x c else []) ≡ []
-  by_command (SetsEid operation reserved e) is = if_same (x.responder == eid) []
-  by_command GetsEid is = if_same (x.responder == eid) []
-  by_command (AllocatesEids operation reserved size first) is = if_same (x.responder == eid) []
-  by_command (GetsEntries handle) is = some_or (x.responder == eid) x.answer (record { requester = x.requester; handle = handle; answer = x.answer }) is
-
-pub no_parts : (eid : ℕ) (xs : List ExchangeValue) → answers_of eid xs ≡ [] → parts_of eid xs ≡ []
-no_parts eid xs none = flat_none (part_of eid) xs (λ x among. by_command eid x x.command (flat_nil (answer_if eid) xs none x among))
-
 -- ---- a node
 
-module _ (node : Node) (xs : List ExchangeValue) (f : NodeFacts) where
+pub quiet_count : (name : List ℕ) (unanswered : ℕ) (ls : List LineValue) → difference_count (lines_or_quiet name unanswered ls) ≡ difference_count ls
+quiet_count name unanswered [] = refl
+quiet_count name unanswered (l ∷ ls) = refl
+
+module _ (node : Node) (xs : List ExchangeValue) (f : NodeFacts) (unanswered : ℕ) where
   abbrev name : List ℕ
   name = name_bytes node.name
 
   abbrev answers : List AnswerValue
   answers = answers_of node.eid.value xs
 
+  abbrev parts : List PartValue
+  parts = parts_of node.eid.value xs
+
   abbrev told : List LineValue
   told = walks_lines name f.records f.walks
 
   abbrev routes : List LineValue
-  routes = routes_lines name f.planned (readings (parts_of node.eid.value xs))
+  routes = routes_lines name f.planned parts
 
   abbrev eids : List LineValue
   eids = eid_lines name node.eid.value (kind_number node.kind) answers
@@ -317,46 +385,33 @@ module _ (node : Node) (xs : List ExchangeValue) (f : NodeFacts) where
   abbrev pools : List LineValue
   pools = pool_lines name (first_of node.pool) (size_of node.pool) answers
 
-  abbrev chosen : Bool → List LineValue
-  chosen quiet = if quiet then silence (name ++ codes " not captured") ∷ [] else (routes ++ (eids ++ pools)) ++ told
+  abbrev said : List LineValue
+  said = said_lines node f.planned xs told
 
-  records_are : difference_count told ≡ 0 → (w : Walked) → IsAmong w f.walks → IsWalkedAsPlanned f.records w
-  records_are zero w among = walk_is name f.records w (zero_each (walk_lines name f.records) f.walks zero w among)
+  node_is : difference_count (lines_of_node node f.planned xs unanswered told) ≡ 0 → SaysAsPlanned node xs f
+  node_is zero =
+      let all : difference_count said ≡ 0 = sym (quiet_count name unanswered said) ∙ zero in
+      let control = zero_left (routes ++ (eids ++ pools)) told all in
+      let table = zero_left routes (eids ++ pools) control in
+      let later = zero_right routes (eids ++ pools) control in
+      record {
+        tables = tables_are name f.planned parts table;
+        routes_told = routes_are name f.planned parts table;
+        eid_told = eid_told_are name node.eid.value (kind_number node.kind) answers (zero_left eids pools later);
+        pool_told = pool_told_are name (first_of node.pool) (size_of node.pool) answers (zero_right eids pools later);
+        eids = eids_are name node.eid.value (kind_number node.kind) answers (zero_left eids pools later);
+        pools = pools_are name (first_of node.pool) (size_of node.pool) answers (zero_right eids pools later);
+        records = λ w among. walk_is name f.records w (zero_each (walk_lines name f.records) f.walks (zero_right (routes ++ (eids ++ pools)) told all) w among);
+      }
 
-  node_is : difference_count (lines_of_node node f.planned xs told) ≡ 0 → SaysAsPlanned node xs f
-  node_is zero = elim (cases_Bool (length answers == 0 && length told == 0)) [
-    | inl none ↦ (
-        let no_answers : answers ≡ [] = nil_from_length answers (eqb-true (length answers) 0 (both_left (length answers == 0) (length told == 0) none)) in
-        let no_told : told ≡ [] = nil_from_length told (eqb-true (length told) 0 (both_right (length answers == 0) (length told == 0) none)) in
-        record {
-          tables = λ r among. absurd (subst (λ ps. IsAmong r (readings ps)) (no_parts node.eid.value xs no_answers) among);
-          eids = λ a among. absurd (subst (λ as_. IsAmong a as_) no_answers among);
-          pools = λ a among. absurd (subst (λ as_. IsAmong a as_) no_answers among);
-          records = records_are (ap difference_count no_told);
-        })
-    | inr some ↦ (
-        let said : difference_count ((routes ++ (eids ++ pools)) ++ told) ≡ 0 = sym (ap (λ (b : Bool). difference_count (chosen b)) some) ∙ zero in
-        let control = zero_left (routes ++ (eids ++ pools)) told said in
-        let later = zero_right routes (eids ++ pools) control in
-        record {
-          tables = λ r among. reading_is name f.planned r (zero_each (reading_lines name f.planned) (readings (parts_of node.eid.value xs)) (zero_left routes (eids ++ pools) control) r among);
-          eids = eids_are name node.eid.value (kind_number node.kind) answers (zero_left eids pools later);
-          pools = pools_are name (first_of node.pool) (size_of node.pool) answers (zero_right eids pools later);
-          records = records_are (zero_right (routes ++ (eids ++ pools)) told said);
-        })
-  ]
-
-  node_of : SaysAsPlanned node xs f → difference_count (lines_of_node node f.planned xs told) ≡ 0
-  node_of says = elim (cases_Bool (length answers == 0 && length told == 0)) [
-    | inl none ↦ ap (λ (b : Bool). difference_count (chosen b)) none
-    | inr some ↦ (
-        ap (λ (b : Bool). difference_count (chosen b)) some
-        ∙ zero_both (routes ++ (eids ++ pools)) told
-        (zero_both routes (eids ++ pools)
-        (zero_all (reading_lines name f.planned) (readings (parts_of node.eid.value xs)) (λ r among. reading_of name f.planned r (says.tables r among)))
-        (zero_both eids pools (eids_of name node.eid.value (kind_number node.kind) answers says.eids) (pools_of name (first_of node.pool) (size_of node.pool) answers says.pools)))
-        (zero_all (walk_lines name f.records) f.walks (λ w among. walk_of name f.records w (says.records w among))))
-  ]
+  node_of : SaysAsPlanned node xs f → difference_count (lines_of_node node f.planned xs unanswered told) ≡ 0
+  node_of says =
+      quiet_count name unanswered said
+      ∙ zero_both (routes ++ (eids ++ pools)) told
+      (zero_both routes (eids ++ pools) (routes_of name f.planned parts says.tables says.routes_told)
+      (zero_both eids pools (eids_of name node.eid.value (kind_number node.kind) answers says.eids says.eid_told)
+      (pools_of name (first_of node.pool) (size_of node.pool) answers says.pools says.pool_told)))
+      (zero_all (walk_lines name f.records) f.walks (λ w among. walk_of name f.records w (says.records w among)))
 
 pub nodes_match : NodesMatchWhereAsPlanned
-nodes_match node xs f = (node_is node xs f, node_of node xs f)
+nodes_match node xs f unanswered = (node_is node xs f unanswered, node_of node xs f unanswered)

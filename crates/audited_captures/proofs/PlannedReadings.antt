@@ -37,7 +37,7 @@ module _ {A B : Type 0} (f : A → List B) where
   flat_none (y ∷ ys) each = ap (λ ls. ls ++ flat_map f ys) (each y (inl refl)) ∙ flat_none ys (λ x among. each x (inr among))
 
 module _ {A : Type 0} (test : A → Bool) where
-  any_is : (xs : List A) → list_any test xs ≡ true → (x : A) × IsAmong x xs × (test x ≡ true)
+  pub any_is : (xs : List A) → list_any test xs ≡ true → (x : A) × IsAmong x xs × (test x ≡ true)
   any_is [] is = absurd (cc)
   any_is (y ∷ ys) is = elim (either (test y) (list_any test ys) is) [
     | inl here ↦ (y, inl refl, here)

@@ -6,6 +6,7 @@ use Rattle.std.proofs.lemmas.Option.{same_Some, slice_get_within}
 use Rattle.pdr_repository.specs.Records.{Entry}
 use Rattle.plan_values.specs.declared.nodes.Node.{Node}
 use Rattle.plan_values.specs.declared.plan.Plan.{Plan}
+use Rattle.audited_captures.specs.Asked.{unanswered}
 use Rattle.audited_captures.specs.Audits.{AreAudited, Heard, NodeFacts, AreFacts, AreLines, Empty, More, AreNodeLines, difference_count, has_compared}
 use Rattle.audited_captures.specs.Lines.{LineValue}
 use Rattle.audited_captures.specs.Matching.{SaysAsPlanned, IsCompared, ArePlanned, AuditMatches, MatchesAudit}
@@ -25,7 +26,7 @@ IsSaidAt plan rs h n node = (f : NodeFacts) × AreFacts plan rs h n node f × Sa
 one_node : (plan : Plan) (rs : List (List Entry)) (h : Heard) (n : ℕ) (lines : List LineValue) (node : Node) → AreNodeLines plan rs h n lines → difference_count lines ≡ 0
     → slice_get plan.nodes.items n ≡ Some node → IsSaidAt plan rs h n node
 one_node plan rs h n lines node one zero at =
-    let said = (nodes_match one.node h.exchanges one.facts).0 (ap difference_count (sym one.tell) ∙ zero) in
+    let said = (nodes_match one.node h.exchanges one.facts (unanswered one.node.eid.value h.words h.exchanges one.facts.parts)).0 (ap difference_count (sym one.tell) ∙ zero) in
     subst (λ (m : Node). IsSaidAt plan rs h n m) (same_Some one.node node (sym one.at ∙ at)) (one.facts, one.are, said)
 
 each_node : (plan : Plan) (rs : List (List Entry)) (h : Heard) {count : ℕ} {lines : List LineValue} → AreLines plan rs h count lines → difference_count lines ≡ 0
@@ -44,7 +45,7 @@ no_node : (plan : Plan) (rs : List (List Entry)) (h : Heard) {count : ℕ} {line
 no_node plan rs h Empty says = refl
 no_node plan rs h (More m lines more are one) says =
     zero_both lines more (no_node plan rs h are says)
-    (ap difference_count one.tell ∙ (nodes_match one.node h.exchanges one.facts).1 (says m one.node one.facts one.at one.are))
+    (ap difference_count one.tell ∙ (nodes_match one.node h.exchanges one.facts (unanswered one.node.eid.value h.words h.exchanges one.facts.parts)).1 (says m one.node one.facts one.at one.are))
 
 -- the node at some place has said something that was laid beside the plan
 abbrev IsComparedAt : Plan → List (List Entry) → Heard → ℕ → Node → Type 0
@@ -55,7 +56,7 @@ some_node : (plan : Plan) (rs : List (List Entry)) (h : Heard) {count : ℕ} {li
 some_node plan rs h Empty is = absurd (none_compared is)
 some_node plan rs h (More m lines more are one) is = elim (compares_either lines more is) [
   | inl before ↦ some_node plan rs h are before
-  | inr last ↦ (m, one.node, one.at, (one.facts, one.are, (nodes_compare one.node h.exchanges one.facts).0 (ap has_compared (sym one.tell) ∙ last)))
+  | inr last ↦ (m, one.node, one.at, (one.facts, one.are, (nodes_compare one.node h.exchanges one.facts (unanswered one.node.eid.value h.words h.exchanges one.facts.parts)).0 (ap has_compared (sym one.tell) ∙ last)))
 ]
 
 node_compared : (plan : Plan) (rs : List (List Entry)) (h : Heard) {count : ℕ} {lines : List LineValue} → AreLines plan rs h count lines → (n : ℕ) (node : Node) → n < count
@@ -69,7 +70,7 @@ node_compared plan rs h (More m lines more are one) n node lt at is = elim (case
       let it : node ≡ one.node = same_Some node one.node (sym here ∙ one.at) in
       let facts : AreFacts plan rs h n node one.facts = subst (λ (x : Node). AreFacts plan rs h n x one.facts) (sym it) (subst (λ k. AreFacts plan rs h k one.node one.facts) (sym same) one.are) in
       let compared : IsCompared one.node h.exchanges one.facts = subst (λ (x : Node). IsCompared x h.exchanges one.facts) it (is one.facts facts) in
-      compares_right lines more (ap has_compared one.tell ∙ (nodes_compare one.node h.exchanges one.facts).1 compared))
+      compares_right lines more (ap has_compared one.tell ∙ (nodes_compare one.node h.exchanges one.facts (unanswered one.node.eid.value h.words h.exchanges one.facts.parts)).1 compared))
 ]
 
 -- lines that all differ and of which none does are none, so the comparisons are those of the nodes

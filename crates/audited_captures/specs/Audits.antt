@@ -18,7 +18,8 @@ use Rattle.net_tables.specs.Repositories.{records_by_place}
 use Rattle.pdr_repository.specs.Records.{Entry}
 use Rattle.plan_exports.specs.PlannedTables.{HasLawfulRows}
 use Rattle.plan_exports.specs.TableAnswers.{AreEntriesOf}
-use Rattle.audited_captures.specs.Readings.{parts_of, readings}
+use Rattle.audited_captures.specs.Asked.{unanswered}
+use Rattle.audited_captures.specs.Readings.{parts_of}
 use Rattle.audited_captures.specs.Lines.{LineValue, silence, differs, compares}
 use Rattle.audited_captures.specs.RecordLines.{walks_lines}
 use Rattle.audited_captures.specs.RecordParts.{RecordPartValue, AreRecordParts}
@@ -35,17 +36,31 @@ HasTables plan = (n : ℕ) → n < length plan.nodes.items → HasLawfulRows pla
 -- what a node's control messages say beside the plan: of its routing table, of its endpoint ID and type, of its pool
 abbrev pub answered_lines : Node → (planned : List routes.EntryValue) → List ExchangeValue → List LineValue
 answered_lines node planned xs =
-    routes_lines (name_bytes node.name) planned (readings (parts_of node.eid.value xs))
+    routes_lines (name_bytes node.name) planned (parts_of node.eid.value xs)
     ++ (eid_lines (name_bytes node.name) node.eid.value (kind_number node.kind) (answers_of node.eid.value xs)
     ++ pool_lines (name_bytes node.name) (first_of node.pool) (size_of node.pool) (answers_of node.eid.value xs))
 
--- behind that stands what was told of its records, or it says that nothing was captured of it
-abbrev pub lines_of_node :
+-- behind that stands what was told of its records
+abbrev pub said_lines :
     Node → (planned : List routes.EntryValue) → List ExchangeValue → (told : List LineValue) → List LineValue
-lines_of_node node planned xs told =
-    if length (answers_of node.eid.value xs) == 0 && length told == 0
-    then silence (name_bytes node.name ++ codes " not captured") ∷ []
-    else answered_lines node planned xs ++ told
+said_lines node planned xs told = answered_lines node planned xs ++ told
+
+-- Nothing was captured of a node that could be laid beside the plan, or it was asked so many times and never answered.
+abbrev pub quiet_text : List ℕ → (unanswered : ℕ) → List ℕ
+quiet_text name unanswered =
+    if unanswered == 0 then name ++ codes " not captured"
+    else name ++ (codes " asked " ++ (decimal unanswered ++ codes ", never answered"))
+
+-- the lines, or where there are none the one that says so
+abbrev pub lines_or_quiet : List ℕ → (unanswered : ℕ) → List LineValue → List LineValue
+lines_or_quiet name unanswered [] = silence (quiet_text name unanswered) ∷ []
+lines_or_quiet name unanswered (l ∷ ls) = l ∷ ls
+
+-- the lines of a node that left so many requests unanswered
+abbrev pub lines_of_node : Node → (planned : List routes.EntryValue) → List ExchangeValue → (unanswered : ℕ)
+    → (told : List LineValue) → List LineValue
+lines_of_node node planned xs unanswered told =
+    lines_or_quiet (name_bytes node.name) unanswered (said_lines node planned xs told)
 
 -- what was captured: the messages that ask and answer, and among them the control messages that were answered
 pub record Heard : Type 0 where
@@ -78,7 +93,8 @@ pub record AreNodeLines (plan : Plan) (repositories : List (List Entry)) (h : He
   pub at : slice_get plan.nodes.items n ≡ Some node
   pub are : AreFacts plan repositories h n node facts
   pub tell : lines
-      ≡ lines_of_node node facts.planned h.exchanges (walks_lines (name_bytes node.name) facts.records facts.walks)
+      ≡ lines_of_node node facts.planned h.exchanges (unanswered node.eid.value h.words h.exchanges facts.parts)
+      (walks_lines (name_bytes node.name) facts.records facts.walks)
 
 -- the lines of so many nodes, in the plan's order
 pub data AreLines (plan : Plan) (repositories : List (List Entry)) (h : Heard) : ℕ → List LineValue → Type 0 where

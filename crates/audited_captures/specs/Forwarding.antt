@@ -15,7 +15,7 @@ use Rattle.plan_exports.specs.TableAnswers.{AreEntriesOf}
 use Rattle.audited_captures.specs.AsPlanned.{IsAmong}
 use Rattle.audited_captures.specs.Audits.{AreAudited, difference_count}
 use Rattle.audited_captures.specs.Lines.{LineValue}
-use Rattle.audited_captures.specs.Readings.{parts_of, readings}
+use Rattle.audited_captures.specs.Readings.{ReadingValue, Read, parts_of, readings}
 use Rattle.audited_captures.specs.Routes.{unlike_lines}
 
 -- e is one of the entry's endpoint IDs; an entry that reaches past 255 covers those up to 255
@@ -51,6 +51,6 @@ abbrev pub AuditsForward : Type 0
 AuditsForward = (plan : Plan) (cert : Certificate) (bus : Option ℕ) (entries : List captured.EntryValue)
     (lines : List LineValue) → Accepts plan cert → (are : AreAudited plan cert bus entries lines)
     → difference_count lines ≡ 0 → (n : ℕ) (node : Node) → slice_get plan.nodes.items n ≡ Some node
-    → (r : Option (List EntryValue))
+    → (r : ReadingValue)
     → IsAmong r (readings (parts_of node.eid.value are.beside.heard.exchanges))
-    → (found : List EntryValue) × (r ≡ Some found) × ForwardsAs plan n found
+    → (found : List EntryValue) × (r ≡ Read found) × ForwardsAs plan n found

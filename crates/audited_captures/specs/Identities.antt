@@ -10,18 +10,20 @@ use Rattle.plan_values.specs.declared.nodes.Kind.{Kind}
 use Rattle.plan_values.specs.declared.nodes.Kind.TheVariants as kind
 use Rattle.plan_values.specs.declared.nodes.Pool.{Pool}
 use Rattle.audited_captures.specs.Exchanges.{ExchangeValue}
+use Rattle.audited_captures.specs.Failures.{failures_of, failed_lines}
 use Rattle.audited_captures.specs.Lines.{LineValue, difference, note, differences_or}
+use Rattle.audited_captures.specs.declared.failures.Topic.TheVariants as topic
 
 -- Whose answer it is: the device's that the answer's source tells. A device that was to take an endpoint ID may not
 -- have had it when it answered: there the endpoint ID that it was to take tells.
-abbrev pub answered_by : ExchangeValue → CommandValue → ℕ
-answered_by x (SetsEid operation reserved eid) = eid
-answered_by x GetsEid = x.responder
-answered_by x (AllocatesEids operation reserved size first) = x.responder
-answered_by x (GetsEntries handle) = x.responder
+abbrev pub answered_by : (responder : ℕ) → CommandValue → ℕ
+answered_by responder (SetsEid operation reserved eid) = eid
+answered_by responder GetsEid = responder
+answered_by responder (AllocatesEids operation reserved size first) = responder
+answered_by responder (GetsEntries handle) = responder
 
 abbrev pub is_answer_of : ℕ → ExchangeValue → Bool
-is_answer_of eid x = answered_by x x.command == eid
+is_answer_of eid x = answered_by x.responder x.command == eid
 
 abbrev pub kind_number : Kind → ℕ
 kind_number kind.Endpoint = 0
@@ -100,17 +102,21 @@ abbrev pub told_lines : Bool → LineValue → List LineValue → List LineValue
 told_lines true as_planned ls = differences_or as_planned ls
 told_lines false as_planned ls = []
 
--- of the answers of one device: what they say of its endpoint ID and type
+-- Of the answers of one device: what they say of its endpoint ID and type, and which fail. Those are a remark where
+-- another one tells the endpoint ID.
 abbrev pub eid_lines : List ℕ → (eid type : ℕ) → List AnswerValue → List LineValue
 eid_lines name eid type answers =
     told_lines (list_any tells_eid answers) (note (name ++ (codes " eid match " ++ decimal eid)))
     (flat_map (identity_lines name eid type) answers)
+    ++ failed_lines (list_any tells_eid answers) (name ++ codes " eid") (failures_of topic.Eid answers)
 
--- and of its pool
+-- And of its pool. Answers that fail are a remark where another one tells a pool, or none is planned.
 abbrev pub pool_lines : List ℕ → (first size : ℕ) → List AnswerValue → List LineValue
 pool_lines name first size answers =
     told_lines (list_any tells_pool answers) (note (name ++ (codes " pool match " ++ span_words first size)))
     (flat_map (pool_lines_of name first size) answers)
+    ++ failed_lines (list_any tells_pool answers || size == 0) (name ++ codes " pool")
+    (failures_of topic.Pool answers)
 
 -- the answers of the device of an endpoint ID
 abbrev pub answer_if : ℕ → ExchangeValue → List AnswerValue

@@ -6,12 +6,14 @@ pub mod RecordParts
 pub mod Walking
 pub mod WalkTurns
 pub mod Lines
+pub mod Failures
 pub mod Routes
 pub mod RecordLines
 pub mod Walks
 pub mod Repositories
 pub mod Answers
 pub mod Identities
+pub mod Asked
 pub mod Packets
 pub mod PacketSteps
 pub mod Counts

@@ -1,5 +1,5 @@
 -- What it means that devices said what is planned.
-use Rattle.std.specs.Prelude.{◌≡◌, ◌⊎◌, ◌↔◌, ◌||◌, ℕ, ⊤, IsTrue, true, List, Option, Some, None, slice_get}
+use Rattle.std.specs.Prelude.{◌≡◌, ◌≢◌, ◌⊎◌, ◌↔◌, ◌||◌, ℕ, ⊤, IsTrue, true, List, Option, Some, slice_get}
 use Rattle.bus_captures.specs.Values as captured
 use Rattle.mctp_control.specs.RouteEntries.{EntryValue}
 use Rattle.mctp_control.specs.Responses.{AnswerValue, EidSet, EidTold, PoolTold, EntriesTold, Failed}
@@ -20,12 +20,15 @@ use Rattle.audited_captures.specs.TrafficLines.{IsTraffic}
 use Rattle.pdr_repository.specs.Records.{Entry, bytes_by_place}
 use Rattle.audited_captures.specs.RecordLines.{walks_lines}
 use Rattle.audited_captures.specs.Walking.{Walked, Whole, Open, Stopped}
-use Rattle.audited_captures.specs.Readings.{parts_of, readings}
+use Rattle.audited_captures.specs.Failures.{fails}
+use Rattle.audited_captures.specs.Readings.{PartValue, ReadingValue, Read, Refused, Unended, parts_of, readings}
+use Rattle.audited_captures.specs.declared.failures.Topic.TheVariants as topic
 
 -- a reading came to its end, with the planned entries
-abbrev pub IsReadAsPlanned : List EntryValue → Option (List EntryValue) → Type 0
-IsReadAsPlanned planned None = ⊥
-IsReadAsPlanned planned (Some found) = AreAsPlanned planned found
+abbrev pub IsReadAsPlanned : List EntryValue → ReadingValue → Type 0
+IsReadAsPlanned planned Unended = ⊥
+IsReadAsPlanned planned Refused = ⊥
+IsReadAsPlanned planned (Read found) = AreAsPlanned planned found
 
 -- where the answer tells an endpoint ID or a type, it is the planned one
 abbrev pub HasPlannedEid : (eid type : ℕ) → AnswerValue → Type 0
@@ -50,11 +53,26 @@ IsWalkedAsPlanned records (Whole found) = found ≡ bytes_by_place records
 IsWalkedAsPlanned records (Open found) = ⊥
 IsWalkedAsPlanned records (Stopped fault found) = ⊥
 
+-- some answer tells an endpoint ID
+abbrev pub SomeTellsEid : List AnswerValue → Type 0
+SomeTellsEid answers = (a : AnswerValue) × IsAmong a answers × IsTrue (tells_eid a)
+
+-- some answer tells a pool
+abbrev pub SomeTellsPool : List AnswerValue → Type 0
+SomeTellsPool answers = (a : AnswerValue) × IsAmong a answers × IsTrue (tells_pool a)
+
 -- All that a node said is planned: each reading of its routing table, each answer that tells its endpoint ID, its type
--- or its pool, and each walk through its records.
+-- or its pool, and each walk through its records. And it refused nothing for good: no answer about its routing table
+-- fails, one to Set or Get Endpoint ID only where another tells its endpoint ID, and one to Allocate Endpoint IDs only
+-- where another tells its pool, or none is planned.
 pub record SaysAsPlanned (node : Node) (xs : List ExchangeValue) (f : NodeFacts) : Type 0 where
-  pub tables : (r : Option (List EntryValue)) → IsAmong r (readings (parts_of node.eid.value xs))
+  pub tables : (r : ReadingValue) → IsAmong r (readings (parts_of node.eid.value xs))
       → IsReadAsPlanned f.planned r
+  pub routes_told : (p : PartValue) → IsAmong p (parts_of node.eid.value xs) → ¬ IsTrue (fails topic.Table p.answer)
+  pub eid_told : (a : AnswerValue) → IsAmong a (answers_of node.eid.value xs) → IsTrue (fails topic.Eid a)
+      → SomeTellsEid (answers_of node.eid.value xs)
+  pub pool_told : (a : AnswerValue) → IsAmong a (answers_of node.eid.value xs) → IsTrue (fails topic.Pool a)
+      → SomeTellsPool (answers_of node.eid.value xs) ⊎ (size_of node.pool ≡ 0)
   pub eids : (a : AnswerValue) → IsAmong a (answers_of node.eid.value xs)
       → HasPlannedEid node.eid.value (kind_number node.kind) a
   pub pools : (a : AnswerValue) → IsAmong a (answers_of node.eid.value xs)
@@ -65,23 +83,34 @@ pub record SaysAsPlanned (node : Node) (xs : List ExchangeValue) (f : NodeFacts)
 abbrev pub TellsOfPlan : AnswerValue → Type 0
 TellsOfPlan a = IsTrue (tells_eid a || tells_pool a)
 
--- Something that a node said was laid beside the plan: a reading of its routing table, an answer that tells its
--- endpoint ID, its type or its pool, or a walk through its records.
+-- it fails, where the plan says what it should have told: an endpoint ID, or a pool
+abbrev pub RefusesPlan : Node → AnswerValue → Type 0
+RefusesPlan node a = IsTrue (fails topic.Eid a) ⊎ (IsTrue (fails topic.Pool a) × (size_of node.pool ≢ 0))
+
+-- Something that a node said was laid beside the plan: a reading of its routing table, an answer about that which
+-- fails, an answer that tells its endpoint ID, its type or its pool, one that refuses this, or a walk through its
+-- records.
 pub data IsCompared (node : Node) (xs : List ExchangeValue) (f : NodeFacts) : Type 0 where
-  ByTable : (r : Option (List EntryValue)) → IsAmong r (readings (parts_of node.eid.value xs)) → IsCompared node xs f
+  ByTable : (r : ReadingValue) → IsAmong r (readings (parts_of node.eid.value xs)) → IsCompared node xs f
+  ByPart : (p : PartValue) → IsAmong p (parts_of node.eid.value xs) → IsTrue (fails topic.Table p.answer)
+      → IsCompared node xs f
   ByAnswer : (a : AnswerValue) → IsAmong a (answers_of node.eid.value xs) → TellsOfPlan a → IsCompared node xs f
+  ByRefusal : (a : AnswerValue) → IsAmong a (answers_of node.eid.value xs) → RefusesPlan node a
+      → IsCompared node xs f
   ByWalk : (w : Walked) → IsAmong w f.walks → IsCompared node xs f
 
 -- a line of a node tells of a comparison exactly where one was made
 abbrev pub NodesCompareWhereHeard : Type 0
-NodesCompareWhereHeard = (node : Node) (xs : List ExchangeValue) (f : NodeFacts)
-    → (has_compared (lines_of_node node f.planned xs (walks_lines (name_bytes node.name) f.records f.walks)) ≡ true)
+NodesCompareWhereHeard = (node : Node) (xs : List ExchangeValue) (f : NodeFacts) (unanswered : ℕ)
+    → (has_compared (lines_of_node node f.planned xs unanswered
+    (walks_lines (name_bytes node.name) f.records f.walks)) ≡ true)
     ↔ IsCompared node xs f
 
 -- no line of a node tells a difference exactly where all that it said is planned
 abbrev pub NodesMatchWhereAsPlanned : Type 0
-NodesMatchWhereAsPlanned = (node : Node) (xs : List ExchangeValue) (f : NodeFacts)
-    → (difference_count (lines_of_node node f.planned xs (walks_lines (name_bytes node.name) f.records f.walks)) ≡ 0)
+NodesMatchWhereAsPlanned = (node : Node) (xs : List ExchangeValue) (f : NodeFacts) (unanswered : ℕ)
+    → (difference_count (lines_of_node node f.planned xs unanswered
+    (walks_lines (name_bytes node.name) f.records f.walks)) ≡ 0)
     ↔ SaysAsPlanned node xs f
 
 -- each of the packets is planned on the bus

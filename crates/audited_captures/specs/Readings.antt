@@ -1,5 +1,5 @@
 -- What requesters read of a bridge's routing table (DSP0236, "Get Routing Table Entries").
-use Rattle.std.specs.Prelude.{ℕ, ◌==◌, List, [], ◌∷◌, ◌++◌, Option, None, Some, option_map, if◌then◌else◌}
+use Rattle.std.specs.Prelude.{ℕ, ◌==◌, List, [], ◌∷◌, ◌++◌, if◌then◌else◌}
 use Rattle.std.specs.List.{flat_map}
 use Rattle.mctp_control.specs.RouteEntries.{EntryValue}
 use Rattle.mctp_control.specs.Requests.{CommandValue, SetsEid, GetsEid, AllocatesEids, GetsEntries}
@@ -29,11 +29,12 @@ part_of eid x = if x.responder == eid then part_asked x x.command else []
 abbrev pub parts_of : ℕ → List ExchangeValue → List PartValue
 parts_of eid xs = flat_map (part_of eid) xs
 
--- what a part is to a reading: one of another requester's, no part of it, its last part, or one after which it goes on
--- with a handle
+-- what a part is to a reading: one of another requester's, no part of it, one that fails, its last part, or one after
+-- which it goes on with a handle
 pub data Turn : Type 0 where
   Other : Turn
   Fails : Turn
+  Refuses : Turn
   Ends : List EntryValue → Turn
   GoesOn : ℕ → List EntryValue → Turn
 
@@ -44,30 +45,43 @@ turn_by (EntriesTold next entries) =
 turn_by (EidSet status eid size) = Fails
 turn_by (EidTold eid status medium) = Fails
 turn_by (PoolTold status size first) = Fails
-turn_by (Failed command code) = Fails
+turn_by (Failed command code) = Refuses
 
 abbrev pub turn_of : (requester due : ℕ) → PartValue → Turn
 turn_of requester due p =
     if p.requester == requester then (if p.handle == due then turn_by p.answer else Fails) else Other
 
-abbrev pub told_by : Turn → (ℕ → Option (List EntryValue)) → ℕ → Option (List EntryValue)
+-- how a reading ended: with these entries, at an answer that fails, or not at all
+pub data ReadingValue : Type 0 where
+  Read : List EntryValue → ReadingValue
+  Refused : ReadingValue
+  Unended : ReadingValue
+
+-- a reading with these entries before it
+abbrev pub behind : List EntryValue → ReadingValue → ReadingValue
+behind entries (Read more) = Read (entries ++ more)
+behind entries Refused = Refused
+behind entries Unended = Unended
+
+abbrev pub told_by : Turn → (ℕ → ReadingValue) → ℕ → ReadingValue
 told_by Other rest due = rest due
-told_by Fails rest due = None
-told_by (Ends entries) rest due = Some entries
-told_by (GoesOn next entries) rest due = option_map (λ more. entries ++ more) (rest next)
+told_by Fails rest due = Unended
+told_by Refuses rest due = Refused
+told_by (Ends entries) rest due = Read entries
+told_by (GoesOn next entries) rest due = behind entries (rest next)
 
 -- The entries that a requester reads from a handle on: those of its answers, as long as each is asked for with the next
--- handle of the one before, up to the one with next handle 255. None where there is no such end.
-abbrev pub read_from : (requester due : ℕ) → List PartValue → Option (List EntryValue)
-read_from requester due [] = None
+-- handle of the one before, up to the one with next handle 255.
+abbrev pub read_from : (requester due : ℕ) → List PartValue → ReadingValue
+read_from requester due [] = Unended
 read_from requester due (p ∷ ps) =
     told_by (turn_of requester due p) (λ next. read_from requester next ps) due
 
 -- what is read with the first of these parts, if it begins a reading: entry handle 0 was asked for
-abbrev pub begun_with : PartValue → List PartValue → List (Option (List EntryValue))
+abbrev pub begun_with : PartValue → List PartValue → List ReadingValue
 begun_with p ps = if p.handle == 0 then read_from p.requester 0 (p ∷ ps) ∷ [] else []
 
 -- all readings, in the order in which they begin
-abbrev pub readings : List PartValue → List (Option (List EntryValue))
+abbrev pub readings : List PartValue → List ReadingValue
 readings [] = []
 readings (p ∷ ps) = begun_with p ps ++ readings ps

@@ -1,5 +1,5 @@
 -- Routing table entries that were read, beside those of the plan.
-use Rattle.std.specs.Prelude.{ℕ, ◌==◌, ◌&&◌, Bool, not, List, [], ◌∷◌, ◌++◌, length, codes, find, nat_eq}
+use Rattle.std.specs.Prelude.{ℕ, ◌==◌, ◌&&◌, Bool, not, false, List, [], ◌∷◌, ◌++◌, length, codes, find, nat_eq}
 use Rattle.std.specs.Prelude.{Option, None, Some, if◌then◌else◌}
 use Rattle.std.specs.Option.{option_or}
 use Rattle.std.specs.Fmt.{decimal}
@@ -7,8 +7,9 @@ use Rattle.std.specs.List.{flat_map, list_any}
 use Rattle.std.specs.Cmp.Lexicographic.{pointwise}
 use Rattle.hex.specs.Hex.{encode_lower}
 use Rattle.mctp_control.specs.RouteEntries.{EntryValue}
+use Rattle.audited_captures.specs.Failures.{failures_in, failed_lines}
 use Rattle.audited_captures.specs.Lines.{LineValue, difference, note, differences_or}
-use Rattle.audited_captures.specs.Readings.{PartValue, begun_with}
+use Rattle.audited_captures.specs.Readings.{PartValue, ReadingValue, Read, Refused, Unended, begun_with, readings}
 
 -- the entries are for the same endpoint IDs
 abbrev pub same_range : EntryValue → EntryValue → Bool
@@ -84,10 +85,11 @@ extra_lines name planned (f ∷ fs) = lines_if_extra name planned f fs ++ extra_
 abbrev pub unlike_lines : List ℕ → (planned found : List EntryValue) → List LineValue
 unlike_lines name planned found = flat_map (planned_lines name found) planned ++ extra_lines name planned found
 
--- what is told of a reading
-abbrev pub reading_lines : List ℕ → List EntryValue → Option (List EntryValue) → List LineValue
-reading_lines name planned None = incomplete_line name ∷ []
-reading_lines name planned (Some found) = differences_or (match_line name found) (unlike_lines name planned found)
+-- What is told of a reading. Where an answer fails, the line of failures tells it.
+abbrev pub reading_lines : List ℕ → List EntryValue → ReadingValue → List LineValue
+reading_lines name planned Unended = incomplete_line name ∷ []
+reading_lines name planned Refused = []
+reading_lines name planned (Read found) = differences_or (match_line name found) (unlike_lines name planned found)
 
 -- what is told of the reading that the first of these parts begins, if it begins one
 abbrev pub begun_lines : List ℕ → List EntryValue → List PartValue → List LineValue
@@ -95,5 +97,11 @@ begun_lines name planned [] = []
 begun_lines name planned (p ∷ ps) = flat_map (reading_lines name planned) (begun_with p ps)
 
 -- what is told of all readings of a node's table, by its name
-abbrev pub routes_lines : List ℕ → List EntryValue → List (Option (List EntryValue)) → List LineValue
-routes_lines name planned readings = flat_map (reading_lines name planned) readings
+abbrev pub readings_lines : List ℕ → List EntryValue → List ReadingValue → List LineValue
+readings_lines name planned rs = flat_map (reading_lines name planned) rs
+
+-- what is told of a node's table: of all readings, and of the answers about it that fail
+abbrev pub routes_lines : List ℕ → List EntryValue → List PartValue → List LineValue
+routes_lines name planned parts =
+    readings_lines name planned (readings parts)
+    ++ failed_lines false (name ++ codes " routes") (failures_in parts)

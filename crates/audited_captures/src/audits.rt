@@ -9,16 +9,19 @@ ghost use Rattle.plan_exports.specs.PlannedTables.{HasLawfulRows};
 ghost use Rattle.audited_captures.specs.Lines.{line_value, silence};
 ghost use Rattle.audited_captures.specs.Answers.{answer_values};
 ghost use Rattle.audited_captures.specs.Identities.{answers_of};
-ghost use Rattle.audited_captures.specs.Audits.{HasTables, answered_lines, lines_of_node, AreNodeLines, AreLines, difference_count, has_compared, is_match, last_line, whole_line, part_line, text_line, rest_line, audit_text, AreBeside, AreAudited, AreRepositories, heard_of};
-ghost use Rattle.audited_captures.specs.Repositories.{repository_values, TellsRecords};
+ghost use Rattle.audited_captures.specs.Audits.{HasTables, answered_lines, said_lines, quiet_text, lines_of_node, AreNodeLines, AreLines, difference_count, has_compared, is_match, last_line, whole_line, part_line, text_line, rest_line, audit_text, AreBeside, AreAudited, AreRepositories, heard_of};
+ghost use Rattle.audited_captures.specs.RecordParts.{record_part_value};
+ghost use Rattle.audited_captures.specs.Repositories.{repository_values};
+ghost use Rattle.audited_captures.specs.Walks.{AreWalksLines};
 ghost use Rattle.audited_captures.specs.Words.{word_value};
 ghost use Rattle.pdr_repository.specs.Records.{entries};
 
+use crate::asked::unanswered;
 use crate::exchanges::{Exchange, exchanges_of};
 use crate::identities::{answers_of, eid_lines, pool_lines};
 use crate::lines::{Line, silence};
 use crate::readings::parts_of;
-use crate::record_parts::record_parts_of;
+use crate::record_parts::{RecordPart, record_parts_of};
 use crate::routes::routes_lines;
 use crate::strangers::stranger_lines;
 use crate::traffic_lines::traffic_lines;
@@ -107,53 +110,74 @@ fn lines_of_node(
     let node = &plan.nodes[index];
     let records = &repositories[index];
     let planned = planned_entries(alloc, plan, index)?;
-    let told = told_of_records(alloc, node, records, words)?;
-    lines_beside(alloc, node, &planned, exchanges, told)
+    let parts = record_parts_of(alloc, words, node.eid)?;
+    let told = told_of_records(alloc, node, records, &parts)?;
+    let unanswered = unanswered(alloc, words, exchanges, &parts, node.eid)?;
+    lines_beside(alloc, node, &planned, exchanges, unanswered, told)
 }
 
-/// What is told of a node's records, which the terminus has by place.
+/// What is told of a node's records, which the terminus has by place, and which it told in these parts.
 fn told_of_records(
     alloc: Global,
     node: &Node,
     records: &[(u32, Vec<u8>)],
-    words: &[Word],
+    parts: &[RecordPart],
 ) -> Result<Vec<Line>, AllocError>
-    ensures { IfOk result (λ lines. TellsRecords node.now (entries records.now) (map word_value words.now) (map line_value lines.items)) }
+    ensures { IfOk result (λ lines. AreWalksLines (name_bytes node.now.name) (entries records.now) (map record_part_value parts.now) (map line_value lines.items)) }
 {
-    let parts = record_parts_of(alloc, words, node.eid)?;
-    walks_lines(alloc, node.name.text.as_str(), records, &parts)
+    walks_lines(alloc, node.name.text.as_str(), records, parts)
 }
 
-/// The lines of a node with these planned entries, of whose records this was told.
+/// The lines of a node with these planned entries, which left so many requests unanswered, and of whose records this was
+/// told.
 fn lines_beside(
+    alloc: Global,
+    node: &Node,
+    planned: &[RouteEntry],
+    exchanges: &[Exchange],
+    unanswered: usize,
+    told: Vec<Line>,
+) -> Result<Vec<Line>, AllocError>
+    ensures { IfOk result (λ lines. map line_value lines.items ≡ lines_of_node node.now (map entry_value planned.now) (map exchange_value exchanges.now) unanswered (map line_value told.items)) }
+{
+    let lines = said_lines(alloc, node, planned, exchanges, told)?;
+    if lines.is_empty() {
+        return quiet_lines(alloc, node.name.text.as_str(), unanswered);
+    }
+    Ok(lines)
+}
+
+/// What is told of a node that said nothing to lay beside the plan.
+fn quiet_lines(alloc: Global, name: &str, unanswered: usize) -> Result<Vec<Line>, AllocError>
+    ensures { IfOk result (λ lines. map line_value lines.items ≡ silence (quiet_text name.now unanswered) ∷ []) }
+{
+    let text = quiet_text(alloc, name, unanswered)?;
+    silence(alloc, text)
+}
+
+fn quiet_text(alloc: Global, name: &str, unanswered: usize) -> Result<String, AllocError>
+    ensures { IfOk result (λ text. string_bytes text ≡ quiet_text name.now unanswered) }
+{
+    if unanswered == 0 {
+        return format!(in alloc; "{name} not captured");
+    }
+    format!(in alloc; "{name} asked {unanswered}, never answered")
+}
+
+/// What a node said, beside these planned entries, and behind it what was told of its records.
+fn said_lines(
     alloc: Global,
     node: &Node,
     planned: &[RouteEntry],
     exchanges: &[Exchange],
     mut told: Vec<Line>,
 ) -> Result<Vec<Line>, AllocError>
-    ensures { IfOk result (λ lines. map line_value lines.items ≡ lines_of_node node.now (map entry_value planned.now) (map exchange_value exchanges.now) (map line_value told.items)) }
+    ensures { IfOk result (λ lines. map line_value lines.items ≡ said_lines node.now (map entry_value planned.now) (map exchange_value exchanges.now) (map line_value told.items)) }
 {
     let answers = answers_of(alloc, exchanges, node.eid)?;
-    if answers.is_empty() && told.is_empty() {
-        return not_captured(alloc, node.name.text.as_str());
-    }
     let mut lines = answered_lines(alloc, node, planned, exchanges, &answers)?;
     lines.append(&mut told)?;
     Ok(lines)
-}
-
-fn not_captured(alloc: Global, name: &str) -> Result<Vec<Line>, AllocError>
-    ensures { IfOk result (λ lines. map line_value lines.items ≡ silence (name.now ++ codes " not captured") ∷ []) }
-{
-    let text = not_captured_text(alloc, name)?;
-    silence(alloc, text)
-}
-
-fn not_captured_text(alloc: Global, name: &str) -> Result<String, AllocError>
-    ensures { IfOk result (λ text. string_bytes text ≡ name.now ++ codes " not captured") }
-{
-    format!(in alloc; "{name} not captured")
 }
 
 fn answered_lines(

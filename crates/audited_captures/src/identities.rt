@@ -1,13 +1,18 @@
 //! What devices said of their endpoint IDs and pools, beside the plan (DSP0236, "Set Endpoint ID", "Get Endpoint ID",
 //! "Allocate Endpoint IDs").
 ghost use Rattle.std.specs.Prelude.{◌≡◌, ◌≤◌, ◌+◌, ◌++◌, ◌==◌, ◌||◌, IfOk, OnOk, map, string_bytes, codes};
+ghost use Rattle.mctp_control.specs.Requests.{command_value};
 ghost use Rattle.mctp_control.specs.Responses.{answer_value};
 ghost use Rattle.audited_captures.specs.Exchanges.{exchange_value};
+ghost use Rattle.std.specs.Fmt.{decimal};
+ghost use Rattle.audited_captures.specs.Failures.{failures_of, failed_lines};
+ghost use Rattle.audited_captures.specs.declared.failures.Topic.TheVariants as topic;
 ghost use Rattle.audited_captures.specs.Lines.{line_value, note};
-ghost use Rattle.audited_captures.specs.Identities.{is_answer_of, kind_number, kind_word, eid_line, kind_line, identity_lines, tells_eid, span_words, first_of, size_of, same_span, pool_line, pool_lines_of, tells_pool, told_lines, eid_lines, pool_lines, answers_of, answer_if};
+ghost use Rattle.audited_captures.specs.Identities.{answered_by, is_answer_of, kind_number, kind_word, eid_line, kind_line, identity_lines, tells_eid, span_words, first_of, size_of, same_span, pool_line, pool_lines_of, tells_pool, told_lines, eid_lines, pool_lines, answers_of, answer_if};
 ghost use Rattle.audited_captures.specs.Answers.{answer_values};
 
 use crate::exchanges::Exchange;
+use crate::failures::{Topic, failed_lines, failures_of};
 use crate::lines::{Line, add_difference, differences_or};
 use mctp_control::{ControlAnswer, ControlCommand};
 use mctp_transport::Eid;
@@ -47,11 +52,18 @@ fn add_answer<'w>(
 fn is_answer_of(exchange: &Exchange, eid: Eid) -> bool
     ensures { result ≡ is_answer_of eid.value (exchange_value exchange.now) }
 {
-    match *exchange.command {
+    is_device(eid, exchange.responder, exchange.command)
+}
+
+/// Whether what an endpoint ID answers to a command, or is asked by it, is of the device of this endpoint ID.
+pub fn is_device(eid: Eid, responder: Eid, command: &ControlCommand) -> bool
+    ensures { result ≡ (answered_by responder.value (command_value command.now) == eid.value) }
+{
+    match command {
         ControlCommand::SetEndpointId { eid: taken, .. } => taken.value == eid.value,
-        ControlCommand::GetEndpointId => exchange.responder.value == eid.value,
-        ControlCommand::AllocateEndpointIds { .. } => exchange.responder.value == eid.value,
-        ControlCommand::GetRoutingTableEntries { .. } => exchange.responder.value == eid.value,
+        ControlCommand::GetEndpointId => responder.value == eid.value,
+        ControlCommand::AllocateEndpointIds { .. } => responder.value == eid.value,
+        ControlCommand::GetRoutingTableEntries { .. } => responder.value == eid.value,
     }
 }
 
@@ -71,9 +83,30 @@ pub fn eid_lines(
         told = told || tells_eid(answer);
         add_identity(alloc, &mut lines, name, eid, kind, answer)?;
     }
-    let eid = eid.value;
-    let text = format!(in alloc; "{name} eid match {eid}")?;
-    told_lines(alloc, told, text, lines)
+    let mut all = told_lines(alloc, told, eid_text(alloc, name, eid.value)?, lines)?;
+    let mut failed = failed_eids(alloc, name, told, answers)?;
+    all.append(&mut failed)?;
+    Ok(all)
+}
+
+fn eid_text(alloc: Global, name: &str, eid: u8) -> Result<String, AllocError>
+    ensures { IfOk result (λ text. string_bytes text ≡ name.now ++ (codes " eid match " ++ decimal eid)) }
+{
+    format!(in alloc; "{name} eid match {eid}")
+}
+
+/// What is told of the answers to Set Endpoint ID and Get Endpoint ID that fail.
+fn failed_eids(
+    alloc: Global,
+    name: &str,
+    is_remark: bool,
+    answers: &[&ControlAnswer],
+) -> Result<Vec<Line>, AllocError>
+    ensures { IfOk result (λ lines. map line_value lines.items ≡ failed_lines is_remark (name.now ++ codes " eid") (failures_of topic.Eid (answer_values answers.now))) }
+{
+    let failures = failures_of(alloc, Topic::Eid, answers)?;
+    let words = format!(in alloc; "{name} eid")?;
+    failed_lines(alloc, is_remark, &words, &failures)
 }
 
 /// The differences, or where there are none and something was told, a line that it is as planned.
@@ -213,7 +246,24 @@ fn span_lines(
         told = told || tells_pool(answer);
         add_pool(alloc, &mut lines, name, first, size, answer)?;
     }
-    told_lines(alloc, told, match_text(alloc, name, first, size)?, lines)
+    let mut all = told_lines(alloc, told, match_text(alloc, name, first, size)?, lines)?;
+    let mut failed = failed_pools(alloc, name, told || size == 0, answers)?;
+    all.append(&mut failed)?;
+    Ok(all)
+}
+
+/// What is told of the answers to Allocate Endpoint IDs that fail.
+fn failed_pools(
+    alloc: Global,
+    name: &str,
+    is_remark: bool,
+    answers: &[&ControlAnswer],
+) -> Result<Vec<Line>, AllocError>
+    ensures { IfOk result (λ lines. map line_value lines.items ≡ failed_lines is_remark (name.now ++ codes " pool") (failures_of topic.Pool (answer_values answers.now))) }
+{
+    let failures = failures_of(alloc, Topic::Pool, answers)?;
+    let words = format!(in alloc; "{name} pool")?;
+    failed_lines(alloc, is_remark, &words, &failures)
 }
 
 fn match_text(alloc: Global, name: &str, first: u8, size: u8) -> Result<String, AllocError>

@@ -1,9 +1,11 @@
 //! What captured devices said, laid beside a plan.
 #![tactic(auto)]
 
+mod asked;
 mod audits;
 mod counts;
 mod exchanges;
+mod failures;
 mod identities;
 mod laws;
 mod lines;

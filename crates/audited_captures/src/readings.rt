@@ -1,10 +1,10 @@
 //! What requesters read of a bridge's routing table (DSP0236, "Get Routing Table Entries").
-ghost use Rattle.std.specs.Prelude.{◌≡◌, ◌++◌, IfOk, OnOk, map, option_map};
+ghost use Rattle.std.specs.Prelude.{◌≡◌, ◌++◌, IfOk, OnOk, map};
 ghost use Rattle.mctp_control.specs.RouteEntries.{entry_value};
 ghost use Rattle.mctp_control.specs.Responses.{EntriesTold};
 ghost use Rattle.audited_captures.specs.Exchanges.{exchange_value};
 ghost use Rattle.audited_captures.specs.Readings.{part_value, part_of, parts_of, turn_by, turn_of, read_from};
-ghost use Rattle.audited_captures.specs.Turns.{Takes, entry_values};
+ghost use Rattle.audited_captures.specs.Turns.{Takes, entry_values, reading_value};
 
 use crate::exchanges::Exchange;
 use mctp_control::{ControlAnswer, ControlCommand, RouteEntry};
@@ -30,9 +30,22 @@ pub enum Turn {
     Other,
     /// The part doesn't follow, or has no entries.
     Fails,
+    /// The device refused what was due.
+    Refuses,
     Ends,
     /// With this entry handle.
     GoesOn(u8),
+}
+
+/// What a requester read of a routing table.
+#[derive(Drop)]
+pub enum Reading<'w> {
+    /// All entries.
+    Read(Vec<&'w RouteEntry>),
+    /// An answer failed.
+    Refused,
+    /// No answer ended it.
+    Unended,
 }
 
 /// What was answered from an endpoint ID when routing table entries were asked for, in the order of the answers.
@@ -73,25 +86,26 @@ fn add_part<'w>(
     Ok(())
 }
 
-/// The entries that a requester reads from entry handle 0 on. None where its reading has no end.
+/// What a requester reads from entry handle 0 on.
 pub fn read_from_0<'w>(
     alloc: Global,
     requester: Eid,
     parts: &[Part<'w>],
-) -> Result<Option<Vec<&'w RouteEntry>>, AllocError>
-    ensures { IfOk result (λ found. option_map (λ entries. entry_values entries.items) found ≡ read_from requester.value 0 (map part_value parts.now)) }
+) -> Result<Reading<'w>, AllocError>
+    ensures { IfOk result (λ found. reading_value found ≡ read_from requester.value 0 (map part_value parts.now)) }
 {
     let mut entries = Vec::new(alloc);
     let mut due = 0;
     for part in parts {
         match take(part, requester, due, &mut entries)? {
             Turn::Other => {}
-            Turn::Fails => return Ok(None),
-            Turn::Ends => return Ok(Some(entries)),
+            Turn::Fails => return Ok(Reading::Unended),
+            Turn::Refuses => return Ok(Reading::Refused),
+            Turn::Ends => return Ok(Reading::Read(entries)),
             Turn::GoesOn(next) => due = next,
         }
     }
-    Ok(None)
+    Ok(Reading::Unended)
 }
 
 /// Adds the entries of a part, if it follows.
@@ -117,7 +131,7 @@ fn take<'w>(
         ControlAnswer::SetEndpointId { .. } => Ok(Turn::Fails),
         ControlAnswer::GetEndpointId { .. } => Ok(Turn::Fails),
         ControlAnswer::AllocateEndpointIds { .. } => Ok(Turn::Fails),
-        ControlAnswer::Failed { .. } => Ok(Turn::Fails),
+        ControlAnswer::Failed { .. } => Ok(Turn::Refuses),
     }
 }
 

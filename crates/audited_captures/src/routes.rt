@@ -1,26 +1,58 @@
 //! Routing table entries that were read, beside those of the plan.
-ghost use Rattle.std.specs.Prelude.{◌≡◌, ◌++◌, ◌∷◌, [], ◌==◌, ◌&&◌, not, Some, IfOk, OnOk, map, find, option_map, string_bytes, nat_eq};
+ghost use Rattle.std.specs.Prelude.{◌≡◌, ◌++◌, ◌∷◌, [], ◌==◌, ◌&&◌, not, false, codes, IfOk, OnOk, map, find, option_map, string_bytes, nat_eq};
 ghost use Rattle.std.specs.Cmp.Lexicographic.{pointwise};
 ghost use Rattle.mctp_control.specs.RouteEntries.{entry_value};
+ghost use Rattle.audited_captures.specs.Failures.{failures_in, failed_lines};
 ghost use Rattle.audited_captures.specs.Lines.{line_value};
-ghost use Rattle.audited_captures.specs.Readings.{part_value, readings};
+ghost use Rattle.audited_captures.specs.Readings.{Read, part_value, readings};
 ghost use Rattle.audited_captures.specs.Turns.{entry_values};
-ghost use Rattle.audited_captures.specs.Routes.{same_range, has_range, range_words, unlike_number, address_words, unlike_address, unlike, line_if_unlike, line_beside, planned_lines, lines_if_extra, extra_lines, unlike_lines, reading_lines, begun_lines, routes_lines, incomplete_line, unlike_line};
+ghost use Rattle.audited_captures.specs.Routes.{same_range, has_range, range_words, unlike_number, address_words, unlike_address, unlike, line_if_unlike, line_beside, planned_lines, lines_if_extra, extra_lines, unlike_lines, reading_lines, begun_lines, readings_lines, routes_lines, incomplete_line, unlike_line};
 
+use crate::failures::{failed_lines, failures_in};
 use crate::lines::{Line, add_difference, differences_or};
 use crate::places::from_place;
-use crate::readings::{Part, read_from_0};
+use crate::readings::{Part, Reading, read_from_0};
 use mctp_control::RouteEntry;
 use std::alloc::{AllocError, Global};
 
-/// What is told of the readings that a node's parts make, laid beside the planned entries.
+/// What is told of a node's routing table, which its parts tell, beside the planned entries.
 pub fn routes_lines(
     alloc: Global,
     name: &str,
     planned: &[RouteEntry],
     parts: &[Part],
 ) -> Result<Vec<Line>, AllocError>
-    ensures { IfOk result (λ lines. map line_value lines.items ≡ routes_lines name.now (map entry_value planned.now) (readings (map part_value parts.now))) }
+    ensures { IfOk result (λ lines. map line_value lines.items ≡ routes_lines name.now (map entry_value planned.now) (map part_value parts.now)) }
+{
+    let mut lines = readings_lines(alloc, name, planned, parts)?;
+    let mut failed = failed_routes(alloc, name, parts)?;
+    lines.append(&mut failed)?;
+    Ok(lines)
+}
+
+/// What is told of the answers about a node's routing table that fail.
+fn failed_routes(alloc: Global, name: &str, parts: &[Part]) -> Result<Vec<Line>, AllocError>
+    ensures { IfOk result (λ lines. map line_value lines.items ≡ failed_lines false (name.now ++ codes " routes") (failures_in (map part_value parts.now))) }
+{
+    let failures = failures_in(alloc, parts)?;
+    let words = routes_words(alloc, name)?;
+    failed_lines(alloc, false, &words, &failures)
+}
+
+fn routes_words(alloc: Global, name: &str) -> Result<String, AllocError>
+    ensures { IfOk result (λ words. string_bytes words ≡ name.now ++ codes " routes") }
+{
+    format!(in alloc; "{name} routes")
+}
+
+/// What is told of the readings that a node's parts make, laid beside the planned entries.
+fn readings_lines(
+    alloc: Global,
+    name: &str,
+    planned: &[RouteEntry],
+    parts: &[Part],
+) -> Result<Vec<Line>, AllocError>
+    ensures { IfOk result (λ lines. map line_value lines.items ≡ readings_lines name.now (map entry_value planned.now) (readings (map part_value parts.now))) }
 {
     let mut lines = Vec::new(alloc);
     for i in 0..parts.len() {
@@ -46,8 +78,9 @@ fn begun_lines(
         return Ok(Vec::new(alloc));
     }
     match read_from_0(alloc, first.requester, parts)? {
-        Some(found) => reading_lines(alloc, name, planned, &found),
-        None => incomplete_lines(alloc, name),
+        Reading::Read(found) => reading_lines(alloc, name, planned, &found),
+        Reading::Refused => Ok(Vec::new(alloc)),
+        Reading::Unended => incomplete_lines(alloc, name),
     }
 }
 
@@ -67,7 +100,7 @@ fn reading_lines(
     planned: &[RouteEntry],
     found: &[&RouteEntry],
 ) -> Result<Vec<Line>, AllocError>
-    ensures { IfOk result (λ lines. map line_value lines.items ≡ reading_lines name.now (map entry_value planned.now) (Some (entry_values found.now))) }
+    ensures { IfOk result (λ lines. map line_value lines.items ≡ reading_lines name.now (map entry_value planned.now) (Read (entry_values found.now))) }
 {
     let count = found.len();
     let lines = unlike_lines(alloc, name, planned, found)?;

@@ -656,13 +656,14 @@ const OF_AUDIT: &str = r#"mctpplan audit PLAN CERT CAPTURE [--bus BUS]
 
 Reads a capture as decode does with the plan, and prints what the answers of each node say, in the
 plan's order: first of its routing table, then of its endpoint ID and type, then of its pool, then
-of its records. Of a node without an answer it says not captured, which is no difference. Then it
-tells devices that took an endpoint ID which no node holds, and which packets the plan doesn't have:
-from or to such an endpoint ID, and between two nodes without a way. With --bus the capture was
-taken on that bus, and a packet whose planned way doesn't go over it is told too. The last line says
-whether all is as planned, or how many lines tell a difference, or that nothing was compared: no
-device said anything of its routing table, its endpoint ID, its pool or its records, as in an empty
-capture.
+of its records. Answers that fail are told by their completion codes. Of a node without an answer it
+says not captured, or how many requests to it were captured, as asked 3, never answered: neither is
+a difference. Then it tells devices that took an endpoint ID which no node holds, and which packets
+the plan doesn't have: from or to such an endpoint ID, and between two nodes without a way. With
+--bus the capture was taken on that bus, and a packet whose planned way doesn't go over it is told
+too. The last line says whether all is as planned, or how many lines tell a difference, or that
+nothing was compared: no device said anything of its routing table, its endpoint ID, its pool or its
+records, as in an empty capture.
 
 Status 0: audit match.
 Status 1: audit differs and how many lines tell a difference; audit saw nothing of the plan; or the

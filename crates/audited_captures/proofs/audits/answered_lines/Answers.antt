@@ -4,7 +4,7 @@ use Rattle.plan_values.specs.NodeValues.{name_bytes}
 use Rattle.audited_captures.specs.Exchanges.{exchange_value}
 use Rattle.audited_captures.specs.Answers.{answer_values}
 use Rattle.audited_captures.specs.Lines.{line_value}
-use Rattle.audited_captures.specs.Readings.{part_value, parts_of, readings}
+use Rattle.audited_captures.specs.Readings.{part_value, parts_of}
 use Rattle.audited_captures.specs.Routes.{routes_lines}
 use Rattle.audited_captures.specs.Identities.{answers_of, eid_lines, pool_lines, first_of, size_of, kind_number}
 use Rattle.audited_captures.proofs.AuditLaws.{joined}
@@ -17,10 +17,10 @@ returns c =
     let xs = map exchange_value c.args.exchanges.now in
     let named : c.as_str-name.result.now ≡ name = c.as_str-name.ensures.value in
     let planned = map entry_value c.args.planned.now in
-    let routes : map line_value c.in_ok-lines.lines.items ≡ routes_lines name planned (readings (parts_of node.eid.value xs)) =
-    c.in_ok-lines.ensures ∙ ap (λ n. routes_lines n planned (readings (map part_value c.deref.result.now))) named
-    ∙ ap (λ parts. routes_lines name planned (readings (map part_value parts))) c.deref.ensures.value
-    ∙ ap (λ parts. routes_lines name planned (readings parts)) c.in_ok-parts.ensures in
+    let routes : map line_value c.in_ok-lines.lines.items ≡ routes_lines name planned (parts_of node.eid.value xs) =
+    c.in_ok-lines.ensures ∙ ap (λ n. routes_lines n planned (map part_value c.deref.result.now)) named
+    ∙ ap (λ parts. routes_lines name planned (map part_value parts)) c.deref.ensures.value
+    ∙ ap (λ parts. routes_lines name planned parts) c.in_ok-parts.ensures in
     let eid : map line_value c.in_ok-identity.identity.items ≡ eid_lines name node.eid.value (kind_number node.kind) (answers_of node.eid.value xs) =
     c.in_ok-identity.ensures ∙ ap (λ n. eid_lines n node.eid.value (kind_number node.kind) (answer_values c.args.answers.now)) named
     ∙ ap (λ answers. eid_lines name node.eid.value (kind_number node.kind) answers) c.requires in

@@ -6,7 +6,7 @@ use Rattle.audited_captures.specs.Readings.{part_value}
 use Rattle.audited_captures.specs.declared.readings.Part.{Part}
 use Rattle.audited_captures.specs.Routes.{begun_lines}
 use Rattle.audited_captures.proofs.RouteLaws.{next_begun}
-use Rattle.audited_captures.proofs.routes.routes_lines.Goals as goal
+use Rattle.audited_captures.proofs.routes.readings_lines.Goals as goal
 
 pub loop-i-preserved : goal.loop-i-preserved
 loop-i-preserved c =
