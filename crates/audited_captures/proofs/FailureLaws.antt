@@ -7,7 +7,7 @@ use Rattle.mctp_control.specs.RouteEntries.{EntryValue}
 use Rattle.mctp_control.specs.Responses.{AnswerValue, EidSet, EidTold, PoolTold, EntriesTold, Failed}
 use Rattle.audited_captures.specs.AsPlanned.{IsAmong}
 use Rattle.audited_captures.specs.Audits.{difference_count, has_compared}
-use Rattle.audited_captures.specs.Failures.{is_of, fails, code_if, failed_lines}
+use Rattle.audited_captures.specs.Failures.{fails, code_if, failed_lines}
 use Rattle.audited_captures.specs.Readings.{PartValue, Turn, Other, Fails, Refuses, Ends, GoesOn, turn_by, turn_of, told_by, ReadingValue, Read, Refused, Unended, behind, read_from, readings}
 use Rattle.audited_captures.specs.declared.failures.Topic.{Topic}
 use Rattle.audited_captures.specs.declared.failures.Topic.TheVariants as topic
