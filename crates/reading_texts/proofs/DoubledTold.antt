@@ -64,6 +64,15 @@ overlap_told bytes text o here there one other at again (Ok t) is_one is_other l
 )
 overlap_told bytes text o here there one other at again (Err e) is_one is_other leads leads_again first second is = tt
 
+-- ---- a value
+
+pub value_told : {A E : Type 0} (bytes : A → List ℕ) (text : List ℕ) (pointer steps : List Step) (place : List ℕ) (offset : ℕ) (r : Result A E)
+    → steps ≡ pointer → LeadsTo text steps offset → place ≡ place_text text offset steps
+    → IfOk r (λ t. Begins place (bytes t)) → IfOk r (λ t. IsValueTold text pointer (bytes t))
+value_told bytes text pointer steps place offset (Ok t) same leads is begins =
+    (offset, subst (λ p. LeadsTo text p offset) same leads, subst (λ p. Begins p (bytes t)) (is ∙ ap (place_text text offset) same) begins)
+value_told bytes text pointer steps place offset (Err e) same leads is begins = tt
+
 -- ---- places
 
 -- lines that begin with a place
@@ -71,9 +80,3 @@ pub begins_there : {A E : Type 0} (bytes : A → List ℕ) (place position words
     → IfOk r (λ t. bytes t ≡ position ++ words) → IfOk r (λ t. Begins place (bytes t))
 begins_there bytes place position words (Ok t) same is = (words, is ∙ ap (λ p. p ++ words) same)
 begins_there bytes place position words (Err e) same is = tt
-
--- a line that begins with the place of a value
-pub value_told : {A E : Type 0} (bytes : A → List ℕ) (text : List ℕ) (pointer : List Step) (offset : ℕ) (place : List ℕ) (r : Result A E)
-    → LeadsTo text pointer offset → place ≡ place_text text offset pointer → IfOk r (λ t. Begins place (bytes t)) → IfOk r (λ t. IsValueTold text pointer (bytes t))
-value_told bytes text pointer offset place (Ok t) leads same begins = (offset, leads, subst (λ p. Begins p (bytes t)) same begins)
-value_told bytes text pointer offset place (Err e) leads same begins = tt
