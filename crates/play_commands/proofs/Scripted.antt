@@ -1,21 +1,38 @@
--- What comes of the last of some events.
-use Rattle.std.proofs.Common.{◌≡◌, ◌-◌, ◌<◌, ◌≤◌, ℕ, List, [], ◌∷◌, ◌++◌, length, map, take, Option, Some, None, Ok, refl, ◌∙◌, ap, length-append, arith}
+-- What comes of the last of some events, and how a text of events is judged.
+use Rattle.std.proofs.Common.{◌≡◌, ◌≢◌, ◌-◌, ◌<◌, ◌≤◌, ℕ, List, [], ◌∷◌, ◌++◌, length, map, take, Option, Some, None, Ok, inl, inr, refl, sym, ◌∙◌, ap, subst, length-append, arith}
 use Rattle.std.specs.Prelude.{slice_get, option_map, true, false, IsSome}
+use Rattle.std.specs.Cow.{cow_str_bytes}
 use Rattle.std.specs.Option.{option_to_list}
 use Rattle.std.proofs.lemmas.List.{length-map, take_all}
 use Rattle.std.proofs.lemmas.Option.{slice_get-map, slice_get_within}
+use Rattle.net_plan.specs.declared.error.PlanError.{PlanError}
+use Rattle.net_plan.specs.declared.error.PlanError.TheVariants as error
+use Rattle.net_plan.specs.EventReading.{events as read_events}
+use Rattle.net_plan.specs.EventText.{AreEventsOf}
+use Rattle.net_plan.specs.Refusals.{IsRefused}
+use Rattle.plan_values.specs.PlanValues.{plan_value, node_names}
 use Rattle.plan_values.specs.declared.certificate.Certificate.{Certificate}
+use Rattle.plan_values.specs.declared.event.Event.{Event}
 use Rattle.plan_values.specs.declared.nodes.Node.{Node}
 use Rattle.plan_values.specs.declared.plan.Plan.{Plan}
+use Rattle.net_rules.specs.Rules.{Accepts}
 use Rattle.net_runs.specs.Walkers.{WalkedEvent, WalkedOutcome, walked_at_start}
+use Rattle.net_sim.specs.declared.outcome.Outcome.{Outcome}
+use Rattle.net_sim.specs.Outcomes.{event_value, outcome_value}
 use Rattle.net_sim.specs.Played.{IsRunOf}
 use Rattle.net_sim.specs.WalkedStanding.{NetworkValue}
 use Rattle.net_sim.specs.Walks.{HaveWalked}
 use Rattle.net_tables.specs.Repositories.{records_of}
 use Rattle.net_tables.specs.Routing.{Holds}
 use Rattle.net_tables.specs.TwoPlans.{one_plan}
+use Rattle.command_questions.specs.declared.walk_script.WalkScript.{WalkScript}
+use Rattle.command_answers.specs.declared.answer.Answer.{Answer}
+use Rattle.command_answers.specs.declared.status.Status.{Status}
 use Rattle.command_answers.specs.declared.status.Status.TheVariants as status
-use Rattle.play_commands.specs.Scripting.{last_item, EndsWith, HasRecords}
+use Rattle.command_answers.specs.Naming.{IsFirstNamed}
+use Rattle.play_commands.specs.declared.script.judging.Judged.{Judged}
+use Rattle.play_commands.specs.declared.script.judging.Judged.TheVariants as judged
+use Rattle.play_commands.specs.Scripting.{last_item, EndsWith, HasRecords, IsDone, IsNotDoneBy, HasNoEvents, IsJudged, AnswersScriptOn, no_script}
 
 -- ---- the last of a list
 
@@ -68,3 +85,32 @@ no_records plan end e count all none (n, holds, many) =
     let node = some_of_map (λ (node : Node). node.eid.value) (slice_get plan.nodes.items n) e holds in
     let within : n < length plan.nodes.items = slice_get_within plan.nodes.items n node.0 node.1 in
     none n (omega arith) (holds, many)
+
+-- ---- judgements
+
+-- the walk isn't done at the end of the run
+pub not_done : (n : ℕ) (script : WalkScript) (plan shown : Plan) (cert : Certificate) (events : List Event) (told : Option Outcome) (last : Outcome) → shown ≡ plan → told ≡ Some last
+    → EndsWith plan cert (map event_value events) (option_map outcome_value told) → ¬ IsDone shown script.eid.value (outcome_value last) → IsNotDoneBy n script plan cert events
+not_done n script plan shown cert events told last same is ends isnt = inr (
+  Some (outcome_value last),
+  subst (λ (o : Option Outcome). EndsWith plan cert (map event_value events) (option_map outcome_value o)) is ends,
+  subst (λ (p : Plan). ¬ IsDone p script.eid.value (outcome_value last)) same isnt,
+)
+
+-- a text that is refused stands for no events
+pub no_events : (plan shown : Plan) (text read : List ℕ) (cause : PlanError) → shown ≡ plan → read ≡ text → cause ≢ error.OutOfMemory
+    → IsRefused (read_events (node_names (plan_value shown).nodes)) (AreEventsOf (plan_value shown)) read cause → HasNoEvents plan text
+no_events plan shown text read cause same is no_lack refused =
+    let P : Plan → Type 0 = λ p. IsRefused (read_events (node_names (plan_value p).nodes)) (AreEventsOf (plan_value p)) read cause in
+    let T : List ℕ → Type 0 = λ t. IsRefused (read_events (node_names (plan_value plan).nodes)) (AreEventsOf (plan_value plan)) t cause in
+    (cause, no_lack, subst T is (subst P same refused))
+
+-- that no text that was made is a script answers where one isn't
+pub other_told : (script : WalkScript) (plan : Plan) (cert : Certificate) (checked : Plan × Certificate) (n : ℕ) (made : List ℕ) (is : Judged) (a : Answer) → Accepts plan cert
+    → IsFirstNamed plan script.node.now n → checked ≡ (plan, cert) → IsJudged n script checked.0 checked.1 made is → is ≡ judged.Other → a.status ≡ status.Fault
+    → cow_str_bytes a.text ≡ no_script → AnswersScriptOn script plan cert a.status (cow_str_bytes a.text)
+other_told script plan cert checked n made is a accepted first same judges other ends told =
+    let A : Status → Type 0 = λ s. AnswersScriptOn script plan cert s (cow_str_bytes a.text) in
+    let C : Plan × Certificate → Type 0 = λ c. IsJudged n script c.0 c.1 made is in
+    let J : Judged → Type 0 = λ j. IsJudged n script plan cert made j in
+    subst A (sym ends) (inr (inl (accepted, n, first, made, subst J other (subst C same judges), told)))
