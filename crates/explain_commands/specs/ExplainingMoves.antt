@@ -39,7 +39,7 @@ IsNewFaultTold before after M03 fault lines = ⊥
 -- the lines explain what the move breaks whatever the certificate, where the plans differ in more than rows by words
 -- alone
 abbrev pub IsMoveErrorTold : PlanFile → PlanFile → MoveError → List ℕ → Type 0
-IsMoveErrorTold before after (move_error.Differ node) lines = ⊤
+IsMoveErrorTold before after (move_error.Differ _) lines = ⊤
 IsMoveErrorTold before after (move_error.Old fault) lines = IsWayOnTold before after Old fault lines
 IsMoveErrorTold before after (move_error.New fault) lines = IsNewFaultTold before after fault.rule fault lines
 IsMoveErrorTold before after (move_error.Both fault) lines = ⊥
