@@ -108,8 +108,8 @@ What the board leaves out is found, as endpoint IDs, pools, rows and the bytes o
 gives is kept. The plan is judged before it is printed: it has a certificate, all that the board
 gives is in it, and each node reaches those that it is to reach. docs/BOARD.md says what may stand
 in a board, and what each reason means. One that begins with no plan: no and a space is true of the
-board, whatever is chosen of what it leaves out. Files that its records name are read from the
-board's folder, or from the working folder where the board is -.
+board, whichever endpoint IDs, pools and rows are chosen of those that it leaves out. Files that its
+records name are read from the board's folder, or from the working folder where the board is -.
 
 With --certificate the certificate that certify makes of the plan is written to FILE, before the
 plan is printed. Where no plan is made, FILE is left as it is.
