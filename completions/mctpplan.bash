@@ -86,7 +86,7 @@ _mctpplan() {
     elif [[ $command == script && $place -eq 4 ]]; then
         COMPREPLY=(walk)
     elif [[ $command == make && $current == -* ]]; then
-        mapfile -t COMPREPLY < <(compgen -W '--certificate' -- "$current")
+        mapfile -t COMPREPLY < <(compgen -W '--anew --certificate --keep --out' -- "$current")
     elif [[ $command == rollout && $current == -* ]]; then
         mapfile -t COMPREPLY < <(compgen -W '--write' -- "$current")
     elif [[ $command == rollout && ${COMP_WORDS[COMP_CWORD - 1]} == --write ]]; then

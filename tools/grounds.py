@@ -9,6 +9,8 @@ this may take too much, and never too little. Comments and proofs don't count.
 import hashlib
 import re
 
+import importing
+
 WORD = re.compile(r"\w+")
 CHAIN = re.compile(r"((?<!\.)\.|::)?\b(\w+)(!?)((?:\.\w+)*)")
 RAW = re.compile(r'r(#+)"[\s\S]*?"\1')
@@ -73,7 +75,7 @@ class File:
     """The items of one file, and what its words mean in it."""
 
     def __init__(self, text):
-        self.text, self.items, self.imports = text, [], imports_of(text)
+        self.text, self.items, self.imports = text, [], imports_of(importing.apart(text))
 
     def link(self):
         """Finds what each item names."""

@@ -100,6 +100,9 @@ def fixed_of(row, texts):
     return "\n".join(lines), edits, 0
 
 
+SAID = "said: "
+
+
 def wanted_of(row, words):
     """What a row wants on standard output and on standard error, and its status."""
     errors = [it for it in row.wanted if it.startswith("unreadable ")]
@@ -108,8 +111,10 @@ def wanted_of(row, words):
     # does so of its wishes, and `decode` of its capture)
     told = "unreadable wanted", "unreadable capture"
     errors = [] if words[0] in ("explain", "make") else [it for it in errors if not it.startswith(told)]
-    lines = [versioned(it) for it in row.wanted if it not in errors and not it.startswith("status ")]
-    return "".join(f"{it}\n" for it in lines), "".join(f"{it}\n" for it in errors), status
+    # (what `make` says of numbers stands on standard error)
+    said = [it.removeprefix(SAID) for it in row.wanted if it.startswith(SAID)]
+    lines = [versioned(it) for it in row.wanted if it not in errors and not it.startswith(("status ", SAID))]
+    return "".join(f"{it}\n" for it in lines), "".join(f"{it}\n" for it in [*said, *errors]), status
 
 
 def versioned(line):

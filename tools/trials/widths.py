@@ -1,4 +1,4 @@
-"""The lines of definitions and documents, which have at most 120 characters; tables and what is quoted may have more."""
+"""The lines of definitions and documents, which have at most 120 characters; tables, imports and what is quoted may have more."""
 import re
 
 from runner import TOP
@@ -8,7 +8,7 @@ MOST = 120
 
 def wide_lines(text):
     """The numbers of the lines that are too wide."""
-    plain = re.sub(r"(?ms)^```.*?^```$|^\|.*?$", lambda it: re.sub(r".", "", it[0]), text)
+    plain = re.sub(r"(?ms)^```.*?^```$|^(?:\||(?:pub )?use Rattle\.).*?$", lambda it: re.sub(r".", "", it[0]), text)
     return [number for number, line in enumerate(plain.split("\n"), 1) if len(line) > MOST]
 
 

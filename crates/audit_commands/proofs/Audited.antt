@@ -1,24 +1,14 @@
 -- What the end of `audit` tells of an answer.
-use Rattle.std.proofs.Common.{◌≡◌, ◌≢◌, ℕ, Bool, true, false, List, Result, Ok, Err, inl, inr, refl, sym, subst}
-use Rattle.std.specs.Prelude.{IfOk, Option, codes}
-use Rattle.std.specs.Cow.{cow_str_bytes}
-use Rattle.audited_captures.specs.Audits.{AreAudited, is_match, audit_text}
-use Rattle.audited_captures.specs.Lines.{LineValue}
-use Rattle.bus_captures.specs.Captures.{IsCapture}
-use Rattle.bus_captures.specs.Values.{EntryValue}
-use Rattle.bus_captures.specs.declared.capture.End.{End}
-use Rattle.bus_captures.specs.declared.capture.End.TheVariants as end
-use Rattle.plan_values.specs.declared.certificate.Certificate.{Certificate}
-use Rattle.plan_values.specs.declared.plan.Plan.{Plan}
+use Rattle.std.{proofs.Common.{◌≡◌, ◌≢◌, ℕ, Bool, true, false, List, Result, Ok, Err, inl, inr, refl, sym, subst}, specs.Prelude.{IfOk, Option, codes}, specs.Cow.{cow_str_bytes}}
+use Rattle.audited_captures.{specs.Audits.{AreAudited, is_match, audit_text}, specs.Lines.{LineValue}, specs.declared.sums.Sum.{Sum}}
+use Rattle.bus_captures.{specs.Captures.{IsCapture}, specs.Values.{EntryValue}, specs.declared.capture.End.{End}}
+use Rattle.plan_values.{specs.declared.certificate.Certificate.{Certificate}, specs.declared.plan.Plan.{Plan}}
 use Rattle.net_rules.specs.Rules.{Accepts}
-use Rattle.command_answers.specs.declared.answer.Answer.{Answer}
-use Rattle.command_answers.specs.declared.refused.Refused.{Refused}
+use Rattle.command_answers.{specs.declared.answer.Answer.{Answer}, specs.declared.refused.Refused.{Refused}, specs.declared.status.Status.{Status}, specs.Answers.{Stream, IsFaultText}}
+use Rattle.audit_commands.{specs.Auditing.{TellsCapture, AuditsCapture, AuditsOn, AuditsOf, AuditsAt}, specs.Buses.{IsBusOf, NamesNoBus}}
+use Rattle.bus_captures.specs.declared.capture.End.TheVariants as end
 use Rattle.command_answers.specs.declared.refused.Refused.TheVariants as refused
-use Rattle.command_answers.specs.declared.status.Status.{Status}
 use Rattle.command_answers.specs.declared.status.Status.TheVariants as status
-use Rattle.command_answers.specs.Answers.{Stream, IsFaultText}
-use Rattle.audit_commands.specs.Auditing.{TellsCapture, AuditsCapture, AuditsOn, AuditsOf, AuditsAt}
-use Rattle.audit_commands.specs.Buses.{IsBusOf, NamesNoBus}
 
 module _ (plan : Plan) (cert : Certificate) (bus : Option ℕ) (bytes text : List ℕ) (ended : Status) where
   -- of a capture that was read whole
@@ -36,11 +26,11 @@ module _ (plan : Plan) (cert : Certificate) (bus : Option ℕ) (bytes text : Lis
   ended_so end.Full is tells matches fails broken = broken_so end.Full is tells (λ e. cc) broken
   ended_so (end.Broken place why) is tells matches fails broken = broken_so (end.Broken place why) is tells (λ e. cc) broken
 
-  pub audited_so : (entries : List EntryValue) (lines : List LineValue) (how : End) → IsCapture bytes entries how → AreAudited plan cert bus entries lines → text ≡ audit_text lines how
+  pub audited_so : (entries : List EntryValue) (lines : List LineValue) (sum : Sum) (how : End) → IsCapture bytes entries how → AreAudited plan cert bus entries lines sum → text ≡ audit_text lines sum how
       → (how ≡ end.Whole → is_match lines ≡ true → ended ≡ status.Yes) → (how ≡ end.Whole → is_match lines ≡ false → ended ≡ status.Fault)
       → (how ≢ end.Whole → ended ≡ status.Unreadable) → AuditsCapture plan cert bus bytes ended text
-  audited_so entries lines how captured audited told =
-      ended_so how (is_match lines) (record { entries = entries; lines = lines; captured = captured; audited = audited; judged = refl; told = told })
+  audited_so entries lines sum how captured audited told =
+      ended_so how (is_match lines) (record { entries = entries; lines = lines; sum = sum; captured = captured; audited = audited; judged = refl; told = told })
 
 module _ (plan : Plan) (cert : Certificate) where
   pub at_bus : (name : Option (List ℕ)) (bus : Option ℕ) (captures : Stream) (result : Result Answer Refused) → IsBusOf plan name bus

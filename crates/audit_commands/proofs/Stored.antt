@@ -1,11 +1,7 @@
 -- The records of one node more.
-use Rattle.std.proofs.Common.{◌≡◌, ℕ, ◌+◌, List, [], ◌∷◌, ◌++◌, refl, ap, sym, ◌∙◌, subst, inl, inr, arith}
-use Rattle.std.specs.Prelude.{Some}
-use Rattle.std.proofs.lemmas.List.{length_push}
-use Rattle.plan_values.specs.declared.certificate.Certificate.{Certificate}
-use Rattle.plan_values.specs.declared.plan.Plan.{Plan}
-use Rattle.net_tables.specs.Repositories.{records_by_place}
-use Rattle.net_tables.proofs.Elements.{in_push}
+use Rattle.std.{proofs.Common.{◌≡◌, ℕ, ◌+◌, List, [], ◌∷◌, ◌++◌, refl, ap, sym, ◌∙◌, subst, inl, inr, arith}, specs.Prelude.{Some}, proofs.lemmas.List.{length_push}}
+use Rattle.plan_values.{specs.declared.certificate.Certificate.{Certificate}, specs.declared.plan.Plan.{Plan}}
+use Rattle.net_tables.{specs.Repositories.{records_by_place}, proofs.Elements.{in_push}}
 use Rattle.pdr_repository.specs.Records.{Entry}
 use Rattle.audited_captures.specs.Audits.{AreRepositories}
 

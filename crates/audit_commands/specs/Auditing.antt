@@ -1,21 +1,15 @@
 -- What the end of `audit` says of the plan, the certificate and the capture that it read, and of what it wrote.
 use Rattle.std.specs.Prelude.{◌≡◌, ◌≢◌, ◌⊎◌, ℕ, Bool, true, false, List, Option, Some, None, codes}
-use Rattle.audited_captures.specs.Audits.{AreAudited, is_match, audit_text}
-use Rattle.audited_captures.specs.Lines.{LineValue}
-use Rattle.bus_captures.specs.Captures.{IsCapture}
-use Rattle.bus_captures.specs.Values.{EntryValue}
-use Rattle.bus_captures.specs.declared.capture.End.{End}
-use Rattle.bus_captures.specs.declared.capture.End.TheVariants as end
+use Rattle.audited_captures.{specs.Audits.{AreAudited, is_match, audit_text}, specs.Lines.{LineValue}, specs.declared.sums.Sum.{Sum}}
+use Rattle.bus_captures.{specs.Captures.{IsCapture}, specs.Values.{EntryValue}, specs.declared.capture.End.{End}}
 use Rattle.byte_commands.specs.Decoding.{IsNotGiven, not_given}
-use Rattle.command_answers.specs.Answers.{Stream, AreGiven, IsFaultText}
-use Rattle.command_answers.specs.declared.status.Status.{Status}
-use Rattle.command_answers.specs.declared.status.Status.TheVariants as status
-use Rattle.net_plan.specs.Texts.{Gave}
-use Rattle.net_plan.specs.declared.stream.TextFault.{TextFault}
-use Rattle.plan_values.specs.declared.certificate.Certificate.{Certificate}
-use Rattle.plan_values.specs.declared.plan.Plan.{Plan}
+use Rattle.command_answers.{specs.Answers.{Stream, AreGiven, IsFaultText}, specs.declared.status.Status.{Status}}
+use Rattle.net_plan.{specs.Texts.{Gave}, specs.declared.stream.TextFault.{TextFault}, specs.Limits.{most_text_bytes}}
+use Rattle.plan_values.{specs.declared.certificate.Certificate.{Certificate}, specs.declared.plan.Plan.{Plan}}
 use Rattle.net_rules.specs.Rules.{Accepts}
 use Rattle.audit_commands.specs.Buses.{IsBusOf, NamesNoBus}
+use Rattle.bus_captures.specs.declared.capture.End.TheVariants as end
+use Rattle.command_answers.specs.declared.status.Status.TheVariants as status
 
 -- the text tells what was captured on the bus beside the plan, where reading the bytes ends so, and whether that is a
 -- match
@@ -23,10 +17,11 @@ pub record TellsCapture (plan : Plan) (cert : Certificate) (bus : Option ℕ) (b
     (matches : Bool) (text : List ℕ) : Type 0 where
   pub entries : List EntryValue
   pub lines : List LineValue
+  pub sum : Sum
   pub captured : IsCapture bytes entries how
-  pub audited : AreAudited plan cert bus entries lines
+  pub audited : AreAudited plan cert bus entries lines sum
   pub judged : matches ≡ is_match lines
-  pub told : text ≡ audit_text lines how
+  pub told : text ≡ audit_text lines sum how
 
 -- It does in a run that ends so: yes where all was read and it is a match, a fault where all was read and something
 -- differs or nothing was compared, and unreadable where not all was read.
@@ -46,7 +41,8 @@ AuditsOn plan certificate bus bytes ended text =
 -- the same of a plan, a certificate and the capture that a source gave, or why it gave none
 abbrev pub AuditsOf : Plan → Certificate → Option ℕ → Stream → Status → List ℕ → Type 0
 AuditsOf plan certificate bus captures ended text =
-    Gave 16777216 captures.before.bytes captures.after.bytes (λ bytes. AuditsOn plan certificate bus bytes ended text)
+    Gave most_text_bytes captures.before.bytes captures.after.bytes
+    (λ bytes. AuditsOn plan certificate bus bytes ended text)
     ⊎ ((ended ≡ status.Unreadable)
     × ((why : TextFault) × IsNotGiven why captures × (not_given why ≡ Some text)))
 

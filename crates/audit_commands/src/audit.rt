@@ -1,18 +1,14 @@
 //! The command `audit`: what captured devices said, laid beside a checked plan.
-ghost use Rattle.std.specs.Prelude.{◌≡◌, ◌≢◌, Option, IfOk, IfErr, map, option_map, string_bytes, codes, true, false};
-ghost use Rattle.std.specs.Cow.{cow_str_bytes};
+ghost use Rattle.std.{specs.Prelude.{◌≡◌, ◌≢◌, Option, IfOk, IfErr, map, option_map, string_bytes, codes, true, false}, specs.Cow.{cow_str_bytes}};
 ghost use Rattle.net_plan.specs.Stream.{HasRoom};
-ghost use Rattle.command_answers.specs.declared.status.Status.TheVariants.{Yes, Fault, Unreadable};
-ghost use Rattle.command_answers.specs.declared.refused.Refused.TheVariants as refused;
-ghost use Rattle.command_answers.specs.Answers.{stream, AreUnread, IsWithoutPlan, AreWithoutCertificate};
-ghost use Rattle.command_answers.specs.Told.{ConcludesOnBoth};
-ghost use Rattle.audited_captures.specs.Audits.{is_match};
-ghost use Rattle.audited_captures.specs.Lines.{line_value};
+ghost use Rattle.command_answers.{specs.declared.status.Status.TheVariants.{Yes, Fault, Unreadable}, specs.Answers.{stream, AreUnread, IsWithoutPlan, AreWithoutCertificate}, specs.Told.{ConcludesOnBoth}};
+ghost use Rattle.audited_captures.{specs.Audits.{is_match}, specs.Lines.{line_value}};
 ghost use Rattle.audit_commands.specs.Auditing.{AuditsCapture, AuditsOn, AuditsOf, AuditsAt, AuditsSo};
+ghost use Rattle.command_answers.specs.declared.refused.Refused.TheVariants as refused;
 
 use crate::buses::bus_of;
 use crate::repositories::repositories_of;
-use audited_captures::{Line, audit_text, audited_lines, is_match};
+use audited_captures::{Line, audit_text, audited, is_match};
 use bus_captures::{End, read_capture};
 use byte_commands::not_given;
 use command_answers::{Answer, Refused, Status, fault_answer, read_inputs, refuse, tell};
@@ -121,13 +117,13 @@ fn answer_bytes(
     ensures refused { IfErr result (λ why. why ≡ refused.NoMemory) }
 {
     match check(alloc, plan, certificate) {
-        Ok(checked) => audited(alloc, bus, &checked, bytes),
+        Ok(checked) => answer_checked(alloc, bus, &checked, bytes),
         Err(error) => fault_answer(alloc, plan, &error),
     }
 }
 
 /// The answer on a checked plan, a bus and the bytes of a capture.
-fn audited(
+fn answer_checked(
     alloc: Global,
     bus: Option<usize>,
     checked: &Checked,
@@ -139,9 +135,9 @@ fn audited(
 {
     let capture = read_capture(alloc, bytes)?;
     let repositories = repositories_of(alloc, checked)?;
-    let lines = audited_lines(alloc, checked, &repositories, bus, &capture)?;
-    let text = audit_text(alloc, &lines, capture.end)?;
-    Ok(answer_at(capture.end, &lines, text))
+    let audit = audited(alloc, checked, &repositories, bus, &capture)?;
+    let text = audit_text(alloc, &audit, capture.end)?;
+    Ok(answer_at(capture.end, &audit.lines, text))
 }
 
 /// The answer where reading a capture ended so, and these lines were told of it. Only a whole one was read as asked.

@@ -1,7 +1,6 @@
 //! The records of a checked plan's nodes.
 ghost use Rattle.std.specs.Prelude.{IfOk, length};
-ghost use Rattle.audited_captures.specs.Audits.{AreRepositories};
-ghost use Rattle.audited_captures.specs.Repositories.{repository_values};
+ghost use Rattle.audited_captures.{specs.Audits.{AreRepositories}, specs.Repositories.{repository_values}};
 
 use command_answers::records_by_place;
 use net_check::Checked;

@@ -1,26 +1,12 @@
 -- The lines of one node, and of one node more.
-use Rattle.std.proofs.Common.{◌≡◌, ℕ, ◌+◌, List, ◌++◌, length, ap, sym, ◌∙◌, subst, map}
-use Rattle.std.specs.Prelude.{Result, Ok, Err, IfOk, Option, Some, slice_get}
-use Rattle.std.proofs.lemmas.List.{map-append}
-use Rattle.bus_captures.specs.Values as captured
-use Rattle.plan_values.specs.declared.certificate.Certificate.{Certificate}
-use Rattle.plan_values.specs.declared.plan.Plan.{Plan}
-use Rattle.plan_values.specs.declared.nodes.Node.{Node}
+use Rattle.std.{proofs.Common.{◌≡◌, ℕ, ◌+◌, List, ◌++◌, length, ap, sym, ◌∙◌, subst, map}, specs.Prelude.{Result, Ok, Err, IfOk, Option, Some, slice_get}, proofs.lemmas.List.{map-append}}
+use Rattle.plan_values.{specs.declared.certificate.Certificate.{Certificate}, specs.declared.plan.Plan.{Plan}, specs.declared.nodes.Node.{Node}, specs.NodeValues.{name_bytes}}
 use Rattle.mctp_control.specs.RouteEntries.{EntryValue}
 use Rattle.pdr_repository.specs.Records.{Entry}
 use Rattle.plan_exports.specs.TableAnswers.{AreEntriesOf}
-use Rattle.plan_values.specs.NodeValues.{name_bytes}
-use Rattle.audited_captures.specs.Asked.{unanswered}
-use Rattle.audited_captures.specs.RecordParts.{RecordPartValue, AreRecordParts}
-use Rattle.audited_captures.specs.Walks.{AreWalksLines}
-use Rattle.audited_captures.specs.Lines.{LineValue, line_value}
-use Rattle.audited_captures.specs.declared.lines.Line.{Line}
-use Rattle.audited_captures.specs.Exchanges.{AreExchanges}
-use Rattle.audited_captures.specs.Strangers.{AreStrangerLines}
-use Rattle.audited_captures.specs.TrafficLines.{IsTraffic}
-use Rattle.audited_captures.specs.Words.{AreWords}
+use Rattle.audited_captures.{specs.Asked.{unanswered}, specs.RecordParts.{RecordPartValue, AreRecordParts}, specs.Walks.{AreWalksLines}, specs.Lines.{LineValue, line_value}, specs.declared.lines.Line.{Line}, specs.Exchanges.{AreExchanges}, specs.Strangers.{AreStrangerLines}, specs.Refusals.{IsRefusedOf}, specs.declared.sums.Sum.{Sum}, specs.TrafficLines.{IsTrafficOf}, specs.Words.{AreWords}, specs.Audits.{Heard, has_compared, one_if, AreNodeLines, AreLines, More, lines_of_node, AreBeside, AreAudited, AreRepositories}}
 use Rattle.heard_captures.specs.Messages.{MessageValue, AreHeard}
-use Rattle.audited_captures.specs.Audits.{Heard, AreNodeLines, AreLines, More, lines_of_node, AreBeside, AreAudited, AreRepositories}
+use Rattle.bus_captures.specs.Values as captured
 
 -- three lists of lines joined
 pub joined : (a b c two all : List Line) (A B C : List LineValue) → two ≡ b ++ c → all ≡ a ++ two
@@ -44,15 +30,17 @@ of_node lines_of plan rs h n node planned records parts told (Ok t) at plans sto
 }
 of_node lines_of plan rs h n node planned records parts told (Err e) at plans stored answered walked tell = tt
 
-pub next_node : (plan : Plan) (rs : List (List Entry)) (h : Heard) (n : ℕ) (old more new : List Line) → AreLines plan rs h n (map line_value old)
-    → AreNodeLines plan rs h n (map line_value more) → new ≡ old ++ more → AreLines plan rs h (n + 1) (map line_value new)
-next_node plan rs h n old more new are of_one joins =
-    subst (λ ls. AreLines plan rs h (n + 1) ls) (sym (ap (map line_value) joins ∙ map-append line_value old more)) (More n (map line_value old) (map line_value more) are of_one)
+pub next_node : (plan : Plan) (rs : List (List Entry)) (h : Heard) (n : ℕ) (old more new : List Line) (compared total : ℕ) → AreLines plan rs h n (map line_value old) compared
+    → AreNodeLines plan rs h n (map line_value more) → new ≡ old ++ more → total ≡ compared + one_if (has_compared (map line_value more)) → AreLines plan rs h (n + 1) (map line_value new) total
+next_node plan rs h n old more new compared total are of_one joins sums =
+    subst (λ count. AreLines plan rs h (n + 1) (map line_value new) count) (sym sums)
+    (subst (λ ls. AreLines plan rs h (n + 1) ls (compared + one_if (has_compared (map line_value more)))) (sym (ap (map line_value) joins ∙ map-append line_value old more))
+    (More n (map line_value old) (map line_value more) compared are of_one))
 
-pub beside_so : (plan : Plan) (rs : List (List Entry)) (entries : List captured.EntryValue) (messages : List MessageValue) (h : Heard) (nodes strangers all : List Line)
-    → AreHeard plan.unit entries messages → AreWords messages h.words → AreExchanges h.words h.exchanges → AreLines plan rs h (length plan.nodes.items) (map line_value nodes)
-    → AreStrangerLines plan h.exchanges (map line_value strangers) → all ≡ nodes ++ strangers → AreBeside plan rs entries (map line_value all)
-beside_so plan rs entries messages h nodes strangers all whole spoken answered told strange joins = record {
+pub beside_so : (plan : Plan) (rs : List (List Entry)) (entries : List captured.EntryValue) (messages : List MessageValue) (h : Heard) (nodes strangers all : List Line) (compared : ℕ)
+    → AreHeard plan.unit entries messages → AreWords messages h.words → AreExchanges h.words h.exchanges → AreLines plan rs h (length plan.nodes.items) (map line_value nodes) compared
+    → AreStrangerLines plan h.exchanges (map line_value strangers) → all ≡ nodes ++ strangers → AreBeside plan rs entries (map line_value all) compared
+beside_so plan rs entries messages h nodes strangers all compared whole spoken answered told strange joins = record {
   messages = messages;
   heard = h;
   whole = whole;
@@ -65,15 +53,22 @@ beside_so plan rs entries messages h nodes strangers all whole spoken answered t
   joined = ap (map line_value) joins ∙ map-append line_value nodes strangers;
 }
 
-pub audited_so : (plan : Plan) (cert : Certificate) (bus : Option ℕ) (rs : List (List Entry)) (entries : List captured.EntryValue) (answers traffic all : List Line)
-    → AreRepositories plan cert (length plan.nodes.items) rs → AreBeside plan rs entries (map line_value answers) → IsTraffic plan bus entries (map line_value traffic)
-    → all ≡ answers ++ traffic → AreAudited plan cert bus entries (map line_value all)
-audited_so plan cert bus rs entries answers traffic all placed beside passed joins = record {
+pub audited_so : (plan : Plan) (cert : Certificate) (bus : Option ℕ) (rs : List (List Entry)) (entries : List captured.EntryValue) (answers traffic refused two all : List Line) (sum : Sum)
+    → AreRepositories plan cert (length plan.nodes.items) rs → AreBeside plan rs entries (map line_value answers) sum.compared → IsTrafficOf plan bus entries (map line_value traffic) sum.packets
+    → IsRefusedOf plan.unit entries (map line_value refused) sum.refused → two ≡ answers ++ traffic → all ≡ two ++ refused → sum.nodes ≡ length plan.nodes.items
+    → AreAudited plan cert bus entries (map line_value all) sum
+audited_so plan cert bus rs entries answers traffic refused two all sum placed beside (passed, packets) (refusals, are, told, count) joins ends nodes = record {
   repositories = rs;
   answers = map line_value answers;
   traffic = map line_value traffic;
+  refusals = refusals;
   placed = placed;
   beside = beside;
   passed = passed;
-  joined = ap (map line_value) joins ∙ map-append line_value answers traffic;
+  refused = are;
+  joined = ap (map line_value) ends ∙ map-append line_value two refused ∙ ap (λ ls. ls ++ map line_value refused) (ap (map line_value) joins ∙ map-append line_value answers traffic)
+      ∙ ap (λ ls. (map line_value answers ++ map line_value traffic) ++ ls) told;
+  all_nodes = nodes;
+  all_packets = packets;
+  all_refused = count;
 }

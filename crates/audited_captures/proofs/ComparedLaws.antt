@@ -1,33 +1,10 @@
 -- A line of a node tells of a comparison exactly where one was made.
-use Rattle.std.proofs.Common.{◌≡◌, ◌≢◌, ◌⊎◌, ℕ, suc, ◌==◌, ◌||◌, Bool, true, false, List, [], ◌∷◌, ◌++◌, length, refl, ap, sym, ◌∙◌, subst, inl, inr, arith}
-use Rattle.std.specs.Prelude.{IsTrue, codes, if◌then◌else◌}
-use Rattle.std.specs.Fmt.{decimal}
-use Rattle.std.specs.List.{flat_map, list_any, filter}
-use Rattle.std.proofs.lemmas.Bool.{cases_Bool, eqb-true, eq-eqb}
-use Rattle.std.proofs.lemmas.List.Sums.{length-filter, count_by-le-length}
-use Rattle.mctp_control.specs.RouteEntries.{EntryValue}
-use Rattle.mctp_control.specs.Responses.{AnswerValue}
+use Rattle.std.{proofs.Common.{◌≡◌, ◌≢◌, ◌⊎◌, ℕ, suc, ◌==◌, ◌||◌, Bool, true, false, List, [], ◌∷◌, ◌++◌, length, refl, ap, sym, ◌∙◌, subst, inl, inr, arith}, specs.Prelude.{IsTrue, codes, if◌then◌else◌}, specs.Fmt.{decimal}, specs.List.{flat_map, list_any, filter}, proofs.lemmas.Bool.{cases_Bool, eqb-true, eq-eqb}, proofs.lemmas.List.Sums.{length-filter, count_by-le-length}}
+use Rattle.mctp_control.{specs.RouteEntries.{EntryValue}, specs.Responses.{AnswerValue}}
 use Rattle.pdr_repository.specs.Records.{Entry}
-use Rattle.plan_values.specs.NodeValues.{name_bytes}
-use Rattle.plan_values.specs.declared.nodes.Node.{Node}
-use Rattle.audited_captures.specs.AsPlanned.{IsAmong}
-use Rattle.audited_captures.specs.Audits.{NodeFacts, difference_count, has_compared, said_lines, lines_or_quiet}
-use Rattle.audited_captures.specs.Exchanges.{ExchangeValue}
-use Rattle.audited_captures.specs.Failures.{fails, failures_of, failures_in, failed_lines}
+use Rattle.plan_values.{specs.NodeValues.{name_bytes}, specs.declared.nodes.Node.{Node}}
+use Rattle.audited_captures.{specs.AsPlanned.{IsAmong}, specs.Audits.{NodeFacts, difference_count, has_compared, said_lines, lines_or_quiet}, specs.Exchanges.{ExchangeValue}, specs.Failures.{fails, failures_of, failures_in, failed_lines}, specs.Identities.{identity_lines, tells_eid, span_words, pool_lines_of, tells_pool, told_lines, eid_lines, pool_lines, answers_of, first_of, size_of, kind_number}, specs.Lines.{LineValue, note, differences_or, differs, compares, is_comparison, is_difference}, specs.declared.lines.Finding.{Finding}, specs.declared.lines.Finding.TheVariants.{Silent, AsPlanned, Differs}, specs.RecordLines.{missing_lines, unlike_records, are_planned, records_match, order_line, open_line, stopped_line, walk_lines, walks_lines}, specs.Walking.{Walked, Whole, Open, Stopped}, specs.Matching.{IsCompared, ByTable, ByPart, ByAnswer, ByRefusal, ByWalk, NodesCompareWhereHeard}, specs.Readings.{PartValue, ReadingValue, Read, Refused, Unended, parts_of, readings}, specs.Routes.{match_line, unlike_lines, reading_lines, readings_lines, routes_lines}, proofs.Booleans.{not_both, either, or_right}, proofs.MatchLaws.{AllDiffer, all_flat, unlike_all, identity_all, pool_all, records_all}, proofs.PlannedReadings.{any_is, any_of}, proofs.FailureLaws.{some_fails, a_failure, failed_compared, compared_failed, refused_part}}
 use Rattle.audited_captures.specs.declared.failures.Topic.TheVariants as topic
-use Rattle.audited_captures.specs.Identities.{identity_lines, tells_eid, span_words, pool_lines_of, tells_pool, told_lines, eid_lines, pool_lines, answers_of, first_of, size_of, kind_number}
-use Rattle.audited_captures.specs.Lines.{LineValue, note, differences_or, differs, compares, is_comparison, is_difference}
-use Rattle.audited_captures.specs.declared.lines.Finding.{Finding}
-use Rattle.audited_captures.specs.declared.lines.Finding.TheVariants.{Silent, AsPlanned, Differs}
-use Rattle.audited_captures.specs.RecordLines.{missing_lines, unlike_records, are_planned, records_match, order_line, open_line, stopped_line, walk_lines, walks_lines}
-use Rattle.audited_captures.specs.Walking.{Walked, Whole, Open, Stopped}
-use Rattle.audited_captures.specs.Matching.{IsCompared, ByTable, ByPart, ByAnswer, ByRefusal, ByWalk, NodesCompareWhereHeard}
-use Rattle.audited_captures.specs.Readings.{PartValue, ReadingValue, Read, Refused, Unended, parts_of, readings}
-use Rattle.audited_captures.specs.Routes.{match_line, unlike_lines, reading_lines, readings_lines, routes_lines}
-use Rattle.audited_captures.proofs.Booleans.{not_both, either, or_right}
-use Rattle.audited_captures.proofs.MatchLaws.{AllDiffer, all_flat, unlike_all, identity_all, pool_all, records_all}
-use Rattle.audited_captures.proofs.PlannedReadings.{any_is, any_of}
-use Rattle.audited_captures.proofs.FailureLaws.{some_fails, a_failure, failed_compared, compared_failed, refused_part}
 
 -- ---- lines that compare
 

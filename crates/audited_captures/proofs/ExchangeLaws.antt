@@ -1,11 +1,6 @@
 -- The last item that passes.
-use Rattle.std.proofs.Common.{◌≡◌, ℕ, ◌<◌, ◌≤◌, ◌+◌, ◌-◌, Bool, true, false, List, [], ◌∷◌, ◌++◌, refl, ap, sym, ◌∙◌, subst, arith, length, map, take, get_or}
-use Rattle.std.specs.Prelude.{Option, None, Some, if◌then◌else◌, option_to_list}
-use Rattle.std.specs.Option.{option_or}
-use Rattle.audited_captures.specs.Words.{word_value}
-use Rattle.audited_captures.specs.declared.words.Word.{Word}
-use Rattle.audited_captures.specs.Exchanges.{last_that, ExchangeValue, exchange_of, AreExchanges, More}
-use Rattle.audited_captures.proofs.WordLaws.{mapped_more}
+use Rattle.std.{proofs.Common.{◌≡◌, ℕ, ◌<◌, ◌≤◌, ◌+◌, ◌-◌, Bool, true, false, List, [], ◌∷◌, ◌++◌, refl, ap, sym, ◌∙◌, subst, arith, length, map, take, get_or}, specs.Prelude.{Option, None, Some, if◌then◌else◌, option_to_list}, specs.Option.{option_or}}
+use Rattle.audited_captures.{specs.Words.{word_value}, specs.declared.words.Word.{Word}, specs.Exchanges.{last_that, ExchangeValue, exchange_of, AreExchanges, More}, proofs.WordLaws.{mapped_more}}
 
 or_assoc : {A : Type 0} (a b c : Option A) → option_or (option_or a b) c ≡ option_or a (option_or b c)
 or_assoc None b c = refl

@@ -1,17 +1,8 @@
 -- Answers that fail, and the line that tells them.
-use Rattle.std.proofs.Common.{◌≡◌, ℕ, ◌==◌, Bool, true, false, List, [], ◌∷◌, ◌++◌, refl, ap, sym, ◌∙◌, inl, inr}
-use Rattle.std.specs.Prelude.{IsTrue, if◌then◌else◌}
-use Rattle.std.specs.List.{flat_map}
-use Rattle.std.proofs.lemmas.Bool.{cases_Bool}
-use Rattle.mctp_control.specs.RouteEntries.{EntryValue}
-use Rattle.mctp_control.specs.Responses.{AnswerValue, EidSet, EidTold, PoolTold, EntriesTold, Failed}
-use Rattle.audited_captures.specs.AsPlanned.{IsAmong}
-use Rattle.audited_captures.specs.Audits.{difference_count, has_compared}
-use Rattle.audited_captures.specs.Failures.{fails, code_if, failed_lines}
-use Rattle.audited_captures.specs.Readings.{PartValue, Turn, Other, Fails, Refuses, Ends, GoesOn, turn_by, turn_of, told_by, ReadingValue, Read, Refused, Unended, behind, read_from, readings}
-use Rattle.audited_captures.specs.declared.failures.Topic.{Topic}
+use Rattle.std.{proofs.Common.{◌≡◌, ℕ, ◌==◌, Bool, true, false, List, [], ◌∷◌, ◌++◌, refl, ap, sym, ◌∙◌, inl, inr}, specs.Prelude.{IsTrue, if◌then◌else◌}, specs.List.{flat_map}, proofs.lemmas.Bool.{cases_Bool}}
+use Rattle.mctp_control.{specs.RouteEntries.{EntryValue}, specs.Responses.{AnswerValue, EidSet, EidTold, PoolTold, EntriesTold, Failed}}
+use Rattle.audited_captures.{specs.AsPlanned.{IsAmong}, specs.Audits.{difference_count, has_compared}, specs.Failures.{fails, code_if, failed_lines}, specs.Readings.{PartValue, Turn, Other, Fails, Refuses, Ends, GoesOn, turn_by, turn_of, told_by, ReadingValue, Read, Refused, Unended, behind, read_from, readings}, specs.declared.failures.Topic.{Topic}, proofs.PlannedReadings.{flat_nil, flat_none}}
 use Rattle.audited_captures.specs.declared.failures.Topic.TheVariants as topic
-use Rattle.audited_captures.proofs.PlannedReadings.{flat_nil, flat_none}
 
 -- ---- one answer
 

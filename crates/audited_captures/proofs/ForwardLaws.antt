@@ -1,33 +1,16 @@
 -- Entries that were read as planned forward as the plan's rows do.
-use Rattle.std.proofs.Common.{◌≡◌, ℕ, zero, suc, ◌+◌, ◌<◌, ◌==◌, true, List, [], ◌∷◌, length, arith, refl, ap, sym, ◌∙◌, subst, inl, inr, map, get_or}
-use Rattle.std.specs.Prelude.{Some, None, nat_lt}
-use Rattle.std.proofs.lemmas.Bool.{cases_Bool, cases_lt}
-use Rattle.std.proofs.lemmas.Bool.Decides.{nat_tests}
-use Rattle.mctp_routing.specs.Rows.{Covers, Routes}
+use Rattle.std.{proofs.Common.{◌≡◌, ℕ, zero, suc, ◌+◌, ◌<◌, ◌==◌, true, List, [], ◌∷◌, length, arith, refl, ap, sym, ◌∙◌, subst, inl, inr, map, get_or}, specs.Prelude.{nat_lt}, proofs.lemmas.Bool.{cases_Bool, cases_lt}, proofs.lemmas.Bool.Decides.{nat_tests}}
+use Rattle.mctp_routing.{specs.Rows.{Covers, Routes}, specs.declared.row.Hop.{Hop}, specs.declared.row.TableRow.{TableRow}, proofs.Apart.{routes_moved}}
 use Rattle.mctp_transport.specs.declared.device_kind.DeviceKind.{DeviceKind}
-use Rattle.mctp_transport.specs.declared.device_kind.DeviceKind.TheVariants as device
-use Rattle.mctp_routing.specs.declared.row.Hop.{Hop}
-use Rattle.mctp_routing.specs.declared.row.TableRow.{TableRow}
-use Rattle.mctp_bridge.specs.Entries.{run_entry, own_entry, entry_before, lies_later, entries_to, row_entries, table_entries}
+use Rattle.mctp_bridge.{specs.Entries.{run_entry, own_entry, entry_before, lies_later, entries_to, row_entries, table_entries}, specs.declared.routing_entries.Neighbor.{Neighbor}}
 use Rattle.mctp_control.specs.RouteEntries.{EntryValue}
-use Rattle.mctp_control.specs.declared.route_entry.EntryKind.TheVariants as kind
-use Rattle.mctp_bridge.specs.declared.routing_entries.Neighbor.{Neighbor}
 use Rattle.plan_values.specs.declared.plan.Plan.{Plan}
 use Rattle.net_questions.proofs.WayLaws.{accepted_apart, one_hop}
-use Rattle.net_tables.specs.Routing.{rows_of}
-use Rattle.net_tables.specs.Rows.{RowsAreApart}
-use Rattle.net_tables.specs.Tables.{table_row}
-use Rattle.plan_exports.specs.Neighbors.{NeighborValue, neighbor_of, neighbor_value}
-use Rattle.plan_exports.specs.TableAnswers.{AreEntriesOf}
-use Rattle.audited_captures.specs.AsPlanned.{IsAmong, IsLike, AreAsPlanned}
-use Rattle.audited_captures.specs.Forwarding.{IsFor, LeadsAs, ForwardsAs, TablesForward, AuditsForward}
-use Rattle.audited_captures.specs.Matching.{IsReadAsPlanned}
-use Rattle.audited_captures.specs.Readings.{ReadingValue, Read, Refused, Unended}
-use Rattle.audited_captures.proofs.Booleans.{both_left, both_right}
-use Rattle.audited_captures.proofs.PacketLaws.{among_left, among_right, among_split}
-use Rattle.audited_captures.proofs.PlannedReadings.{matches}
-use Rattle.audited_captures.proofs.WholeAudits.{as_planned_where_none_differs}
-use Rattle.mctp_routing.proofs.Apart.{routes_moved}
+use Rattle.net_tables.{specs.Routing.{rows_of}, specs.Rows.{RowsAreApart}, specs.Tables.{table_row}}
+use Rattle.plan_exports.{specs.Neighbors.{NeighborValue, neighbor_of, neighbor_value}, specs.TableAnswers.{AreEntriesOf}}
+use Rattle.audited_captures.{specs.AsPlanned.{IsAmong, IsLike, AreAsPlanned}, specs.Forwarding.{IsFor, LeadsAs, ForwardsAs, TablesForward, AuditsForward}, specs.Matching.{IsReadAsPlanned}, specs.Readings.{ReadingValue, Read, Refused, Unended}, proofs.Booleans.{both_left, both_right}, proofs.PacketLaws.{among_left, among_right, among_split}, proofs.PlannedReadings.{matches}, proofs.WholeAudits.{as_planned_where_none_differs}}
+use Rattle.mctp_transport.specs.declared.device_kind.DeviceKind.TheVariants as device
+use Rattle.mctp_control.specs.declared.route_entry.EntryKind.TheVariants as kind
 
 -- ---- the entries of one row
 
@@ -193,6 +176,6 @@ read_so plan n planned Refused apart are is = absurd is
 read_so plan n planned (Read found) apart are is = (found, refl, forwards plan n planned found apart are is)
 
 pub audits_forward : AuditsForward
-audits_forward plan cert bus entries lines accepted are none n node at r among =
-    let said = (as_planned_where_none_differs plan cert bus entries lines are none).0 n node at in
+audits_forward plan cert bus entries lines sum accepted are none n node at r among =
+    let said = (as_planned_where_none_differs plan cert bus entries lines sum are none).0 n node at in
     read_so plan n said.0.planned r (accepted_apart plan cert accepted) said.1.plans (said.2.tables r among)

@@ -13,6 +13,7 @@ pub mod FailureLaws
 pub mod MatchLaws
 pub mod ComparedLaws
 pub mod PacketLaws
+pub mod RefusalLaws
 pub mod TrafficLaws
 pub mod StrangerLaws
 pub mod WholeAudits

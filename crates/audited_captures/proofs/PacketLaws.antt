@@ -1,21 +1,8 @@
 -- One packet more.
-use Rattle.std.proofs.Common.{◌≡◌, ◌≢◌, ◌⊎◌, ℕ, ◌<◌, ◌≤◌, ◌+◌, ◌==◌, Bool, true, false, List, [], ◌∷◌, ◌++◌, length, arith, refl, ap, sym, ◌∙◌, subst, get_or, set, cond, inl, inr, map, take, replicate}
-use Rattle.std.specs.Prelude.{if◌then◌else◌, slice_set}
-use Rattle.std.specs.List.{filter}
-use Rattle.std.proofs.lemmas.Bool.{cases_Bool}
-use Rattle.std.proofs.lemmas.Bool.Decides.{nat_tests}
-use Rattle.std.proofs.lemmas.List.{append-nil, get_or-set_same, get_or-set_other, get_or-replicate, length-replicate, length-set, length-append, length-map, length-take, map-append}
-use Rattle.std.proofs.lemmas.List.Elements.{filter-append}
-use Rattle.bus_captures.specs.Values.{EntryValue, entry_value}
-use Rattle.bus_captures.specs.declared.capture.Entry.{Entry}
-use Rattle.audited_captures.specs.Counts.{AreCounts, place_of}
-use Rattle.audited_captures.specs.PacketSteps.{AddsPacket}
-use Rattle.audited_captures.specs.Packets.{NumberedPacket, numbered_packet, ArePackets, is_between, count_between, count_like, AreFirst}
+use Rattle.std.{proofs.Common.{◌≡◌, ◌≢◌, ◌⊎◌, ℕ, ◌<◌, ◌≤◌, ◌+◌, ◌==◌, Bool, true, false, List, [], ◌∷◌, ◌++◌, length, arith, refl, ap, sym, ◌∙◌, subst, get_or, set, cond, inl, inr, map, take, replicate}, specs.Prelude.{if◌then◌else◌, slice_set}, specs.List.{filter}, proofs.lemmas.Bool.{cases_Bool}, proofs.lemmas.Bool.Decides.{nat_tests}, proofs.lemmas.List.{append-nil, get_or-set_same, get_or-set_other, get_or-replicate, length-replicate, length-set, length-append, length-map, length-take, map-append}, proofs.lemmas.List.Elements.{filter-append}}
+use Rattle.bus_captures.{specs.Values.{EntryValue, entry_value}, specs.declared.capture.Entry.{Entry}}
+use Rattle.audited_captures.{specs.Counts.{AreCounts, place_of}, specs.PacketSteps.{AddsPacket}, specs.Packets.{NumberedPacket, numbered_packet, ArePackets, is_between, count_between, count_like, AreFirst}, specs.declared.packets.CapturedPacket.{CapturedPacket}, specs.AsPlanned.{IsAmong}, proofs.Booleans.{both, both_left, both_right}, proofs.WordLaws.{mapped_more}}
 use Rattle.audited_captures.specs.Packets as packets
-use Rattle.audited_captures.specs.declared.packets.CapturedPacket.{CapturedPacket}
-use Rattle.audited_captures.specs.AsPlanned.{IsAmong}
-use Rattle.audited_captures.proofs.Booleans.{both, both_left, both_right}
-use Rattle.audited_captures.proofs.WordLaws.{mapped_more}
 
 -- ---- the packets among the entries
 

@@ -1,10 +1,6 @@
 -- One answer about a record more.
-use Rattle.std.proofs.Common.{◌≡◌, ℕ, ◌<◌, ◌+◌, List, [], ◌∷◌, ◌++◌, length, sym, subst, map, take, get_or}
-use Rattle.std.specs.Prelude.{option_to_list}
-use Rattle.audited_captures.specs.Words.{word_value}
-use Rattle.audited_captures.specs.declared.words.Word.{Word}
-use Rattle.audited_captures.specs.RecordParts.{RecordPartValue, record_part_of, AreRecordParts, More}
-use Rattle.audited_captures.proofs.WordLaws.{mapped_more}
+use Rattle.std.{proofs.Common.{◌≡◌, ℕ, ◌<◌, ◌+◌, List, [], ◌∷◌, ◌++◌, length, sym, subst, map, take, get_or}, specs.Prelude.{option_to_list}}
+use Rattle.audited_captures.{specs.Words.{word_value}, specs.declared.words.Word.{Word}, specs.RecordParts.{RecordPartValue, record_part_of, AreRecordParts, More}, proofs.WordLaws.{mapped_more}}
 
 -- the next word of a list
 pub next_part : (eid : ℕ) (items : List Word) (i : ℕ) (item : Word) (old new : List RecordPartValue) → i < length items → item ≡ get_or items i item

@@ -1,16 +1,7 @@
 -- A reading has no line of a difference exactly where its entries are those of the plan.
-use Rattle.std.proofs.Common.{◌≡◌, ℕ, ◌==◌, ◌&&◌, ◌||◌, not, Bool, true, false, List, [], ◌∷◌, ◌++◌, refl, ap, sym, ◌∙◌, subst, inl, inr, cond, nat_eq}
-use Rattle.std.specs.Prelude.{Option, Some, None, find, codes, if◌then◌else◌}
-use Rattle.std.specs.Option.{option_or}
-use Rattle.std.specs.List.{flat_map, list_any}
-use Rattle.std.specs.Fmt.{decimal}
-use Rattle.std.specs.Cmp.Lexicographic.{pointwise, bytes_decides}
-use Rattle.std.proofs.lemmas.Bool.{cases_Bool, eqb-true, eq-eqb}
-use Rattle.std.proofs.lemmas.Option.{same_Some}
+use Rattle.std.{proofs.Common.{◌≡◌, ℕ, ◌==◌, ◌&&◌, ◌||◌, not, Bool, true, false, List, [], ◌∷◌, ◌++◌, refl, ap, sym, ◌∙◌, subst, inl, inr, cond, nat_eq}, specs.Prelude.{Option, Some, None, find, codes, if◌then◌else◌}, specs.Option.{option_or}, specs.List.{flat_map, list_any}, specs.Fmt.{decimal}, specs.Cmp.Lexicographic.{pointwise, bytes_decides}, proofs.lemmas.Bool.{cases_Bool, eqb-true, eq-eqb}, proofs.lemmas.Option.{same_Some}}
 use Rattle.mctp_control.specs.RouteEntries.{EntryValue}
-use Rattle.audited_captures.specs.AsPlanned.{IsAmong, IsLike, AreOnce, AreAsPlanned, MatchesWhereAsPlanned}
-use Rattle.audited_captures.proofs.Booleans.{both, both_left, both_right, not_true, either, or_right, not_both}
-use Rattle.audited_captures.specs.Routes.{same_range, has_range, two_words, unlike_number, address_words, unlike_address, unlike, line_if_unlike, line_beside, planned_lines, lines_if_extra, extra_line, extra_lines, unlike_lines}
+use Rattle.audited_captures.{specs.AsPlanned.{IsAmong, IsLike, AreOnce, AreAsPlanned, MatchesWhereAsPlanned}, proofs.Booleans.{both, both_left, both_right, not_true, either, or_right, not_both}, specs.Routes.{same_range, has_range, two_words, unlike_number, address_words, unlike_address, unlike, line_if_unlike, line_beside, planned_lines, lines_if_extra, extra_line, extra_lines, unlike_lines}}
 
 -- ---- lists
 

@@ -1,17 +1,7 @@
 -- Records that were brought, beside the planned ones.
-use Rattle.std.proofs.Common.{◌≡◌, ◌≢◌, ℕ, suc, ◌+◌, ◌<◌, ◌≤◌, ◌&&◌, Bool, true, false, List, [], ◌∷◌, length, refl, ap, sym, ◌∙◌, nat_eq, take, drop, get_or, ◌++◌, inl, inr, arith}
-use Rattle.std.specs.Prelude.{Some, Vec}
-use Rattle.std.specs.List.{flat_map}
-use Rattle.std.proofs.lemmas.List.{append-nil}
-use Rattle.std.proofs.lemmas.Grind.{flat_map-append}
-use Rattle.std.specs.Cmp.Lexicographic.{pointwise, bytes_decides}
-use Rattle.std.proofs.Math.Seq.{drop-cons}
-use Rattle.std.proofs.lemmas.Bool.{cases_lt}
+use Rattle.std.{proofs.Common.{◌≡◌, ◌≢◌, ℕ, suc, ◌+◌, ◌<◌, ◌≤◌, ◌&&◌, Bool, true, false, List, [], ◌∷◌, length, refl, ap, sym, ◌∙◌, nat_eq, take, drop, get_or, ◌++◌, inl, inr, arith}, specs.Prelude.{Some, Vec}, specs.List.{flat_map}, proofs.lemmas.List.{append-nil}, proofs.lemmas.Grind.{flat_map-append}, specs.Cmp.Lexicographic.{pointwise, bytes_decides}, proofs.Math.Seq.{drop-cons}, proofs.lemmas.Bool.{cases_lt}}
 use Rattle.pdr_repository.specs.Records.{Entry, entry_of, entries, bytes_by_place}
-use Rattle.audited_captures.specs.Lines.{LineValue}
-use Rattle.audited_captures.specs.RecordLines.{are_planned, unlike_from, missing_lines}
-use Rattle.audited_captures.proofs.Booleans.{both, both_left, both_right}
-use Rattle.audited_captures.proofs.WordLaws.{mapped_more, past_end}
+use Rattle.audited_captures.{specs.Lines.{LineValue}, specs.RecordLines.{are_planned, unlike_from, missing_lines}, proofs.Booleans.{both, both_left, both_right}, proofs.WordLaws.{mapped_more, past_end}}
 
 -- ---- all records
 

@@ -1,20 +1,8 @@
 -- One entry, and one reading, more.
-use Rattle.std.proofs.Common.{◌≡◌, ℕ, ◌<◌, ◌+◌, List, [], ◌∷◌, ◌++◌, length, ap, sym, ◌∙◌, get_or, map, drop, append_assoc}
-use Rattle.std.specs.Prelude.{Some, slice_get, true, ◌==◌, if◌then◌else◌}
-use Rattle.std.specs.Borrow.{Bor}
-use Rattle.std.specs.List.{flat_map}
-use Rattle.std.proofs.lemmas.List.{append-nil}
-use Rattle.std.proofs.lemmas.Grind.{flat_map-append}
-use Rattle.std.proofs.lemmas.Option.{same_Some, get_or_from_slice_get}
+use Rattle.std.{proofs.Common.{◌≡◌, ℕ, ◌<◌, ◌+◌, List, [], ◌∷◌, ◌++◌, length, ap, sym, ◌∙◌, get_or, map, drop, append_assoc}, specs.Prelude.{Some, slice_get, true, ◌==◌, if◌then◌else◌}, specs.Borrow.{Bor}, specs.List.{flat_map}, proofs.lemmas.List.{append-nil}, proofs.lemmas.Grind.{flat_map-append}, proofs.lemmas.Option.{same_Some, get_or_from_slice_get}}
 use Rattle.net_tables.proofs.Elements.{element}
-use Rattle.mctp_control.specs.RouteEntries.{EntryValue, entry_value}
-use Rattle.mctp_control.specs.declared.route_entry.RouteEntry.{RouteEntry}
-use Rattle.audited_captures.specs.Lines.{LineValue}
-use Rattle.audited_captures.specs.Readings.{Read, part_value, readings, begun_with, read_from}
-use Rattle.audited_captures.specs.declared.readings.Part.{Part}
-use Rattle.audited_captures.specs.Routes.{reading_lines, begun_lines, readings_lines, extra_lines, lines_if_extra}
-use Rattle.audited_captures.specs.Turns.{entry_values}
-use Rattle.audited_captures.proofs.WordLaws.{left_mapped}
+use Rattle.mctp_control.{specs.RouteEntries.{EntryValue, entry_value}, specs.declared.route_entry.RouteEntry.{RouteEntry}}
+use Rattle.audited_captures.{specs.Lines.{LineValue}, specs.Readings.{Read, part_value, readings, begun_with, read_from}, specs.declared.readings.Part.{Part}, specs.Routes.{reading_lines, begun_lines, readings_lines, extra_lines, lines_if_extra}, specs.Turns.{entry_values}, proofs.WordLaws.{left_mapped}}
 
 -- the reading that the first part begins
 pub begun : (name : List ℕ) (planned : List EntryValue) (parts : List Part) (first : Part) (found : List EntryValue) → slice_get parts 0 ≡ Some first → first.handle ≡ 0

@@ -1,31 +1,14 @@
 -- Packets that the plan has on a bus, and others.
-use Rattle.std.proofs.Common.{◌≡◌, ◌⊎◌, ℕ, ◌<◌, ◌+◌, Bool, true, false, List, [], ◌∷◌, ◌++◌, length, arith, refl, ap, sym, ◌∙◌, subst, inl, inr, map, take, get_or}
-use Rattle.std.specs.Prelude.{Option, Some, Result, Ok, Err, IfOk}
+use Rattle.std.{proofs.Common.{◌≡◌, ◌⊎◌, ℕ, ◌<◌, ◌+◌, Bool, true, false, List, [], ◌∷◌, ◌++◌, length, arith, refl, ap, sym, ◌∙◌, subst, inl, inr, map, take, get_or}, specs.Prelude.{Option, Some, Result, Ok, Err, IfOk}}
 use Rattle.bus_captures.specs.Values.{EntryValue}
 use Rattle.net_check.proofs.Lawful.{alone_by_rule}
-use Rattle.plan_values.specs.declared.certificate.Certificate.{Certificate}
-use Rattle.plan_values.specs.declared.plan.Plan.{Plan}
-use Rattle.net_questions.proofs.WayLaws.{ways_are_alone}
-use Rattle.net_questions.specs.Ways.{IsWay}
-use Rattle.net_questions.specs.declared.step.WayStep.{WayStep}
-use Rattle.net_questions.specs.declared.way.End.{End}
-use Rattle.net_questions.specs.declared.way.End.TheVariants as end
-use Rattle.net_rules.specs.Rules.{Accepts}
-use Rattle.net_rules.specs.declared.rule.Rule.TheVariants.{C03}
+use Rattle.plan_values.{specs.declared.certificate.Certificate.{Certificate}, specs.declared.plan.Plan.{Plan}}
+use Rattle.net_questions.{proofs.WayLaws.{ways_are_alone}, specs.Ways.{IsWay}, specs.declared.step.WayStep.{WayStep}, specs.declared.way.End.{End}}
+use Rattle.net_rules.{specs.Rules.{Accepts}, specs.declared.rule.Rule.TheVariants.{C03}}
 use Rattle.net_tables.specs.Routing.{Holds}
-use Rattle.audited_captures.specs.AsPlanned.{IsAmong}
-use Rattle.audited_captures.specs.Audits.{difference_count}
-use Rattle.audited_captures.specs.Judging.{why_by}
-use Rattle.audited_captures.specs.Lines.{LineValue}
-use Rattle.audited_captures.specs.Matching.{TrafficMatchesWhereAsPlanned}
-use Rattle.audited_captures.specs.Packets.{NumberedPacket, numbered_packet, count_like, ArePackets, AreFirst}
-use Rattle.audited_captures.specs.declared.packets.CapturedPacket.{CapturedPacket}
-use Rattle.audited_captures.specs.Traffic.{LacksSender, LacksReceiver, is_one_over, ArrivesBy, GoesOver, IsPlanned, Unplanned, IsJudged}
-use Rattle.audited_captures.specs.TrafficLines.{IsOneLine, AreLinesOf, AreTrafficLines, More, IsTraffic}
+use Rattle.audited_captures.{specs.AsPlanned.{IsAmong}, specs.Audits.{difference_count}, specs.Judging.{why_by}, specs.Lines.{LineValue}, specs.Matching.{TrafficMatchesWhereAsPlanned}, specs.Packets.{NumberedPacket, numbered_packet, count_like, ArePackets, AreFirst}, specs.declared.packets.CapturedPacket.{CapturedPacket}, specs.Traffic.{LacksSender, LacksReceiver, is_one_over, ArrivesBy, GoesOver, IsPlanned, Unplanned, IsJudged}, specs.TrafficLines.{IsOneLine, AreLinesOf, AreTrafficLines, More, IsTrafficOf}, proofs.MatchLaws.{AllDiffer, all_both, zero_left, zero_right, zero_both}, proofs.PacketLaws.{each_has_first, first_among, among_left, among_right, among_split}, proofs.WordLaws.{mapped_more}}
+use Rattle.net_questions.specs.declared.way.End.TheVariants as end
 use Rattle.audited_captures.specs.TrafficLines as lines
-use Rattle.audited_captures.proofs.MatchLaws.{AllDiffer, all_both, zero_left, zero_right, zero_both}
-use Rattle.audited_captures.proofs.PacketLaws.{each_has_first, first_among, among_left, among_right, among_split}
-use Rattle.audited_captures.proofs.WordLaws.{mapped_more}
 
 -- ---- a way decides
 
@@ -119,11 +102,9 @@ module _ (plan : Plan) (bus : Option ℕ) (packets : List NumberedPacket) where
   traffic_differs lines.Empty = refl
   traffic_differs (More firsts ls first more are of_one) = all_both ls more (traffic_differs are) (one_differs first (count_like first packets) more of_one)
 
-pub traffic_if : {T E : Type 0} (lines_of : T → List LineValue) (plan : Plan) (bus : Option ℕ) (entries : List EntryValue) (packets firsts : List NumberedPacket) (result : Result T E)
-    → ArePackets plan.unit entries packets → AreFirst packets firsts → IfOk result (λ t. AreTrafficLines plan bus packets firsts (lines_of t))
-    → IfOk result (λ t. IsTraffic plan bus entries (lines_of t))
-traffic_if lines_of plan bus entries packets firsts (Ok t) read first told = record { packets = packets; firsts = firsts; read = read; first = first; told = told }
-traffic_if lines_of plan bus entries packets firsts (Err e) read first told = told
+pub traffic_so : (plan : Plan) (bus : Option ℕ) (entries : List EntryValue) (packets firsts : List NumberedPacket) (ls : List LineValue) (count : ℕ)
+    → ArePackets plan.unit entries packets → AreFirst packets firsts → AreTrafficLines plan bus packets firsts ls → count ≡ length packets → IsTrafficOf plan bus entries ls count
+traffic_so plan bus entries packets firsts ls count read first told many = (record { packets = packets; firsts = firsts; read = read; first = first; told = told }, many)
 
 pub traffic_matches : TrafficMatchesWhereAsPlanned
 traffic_matches plan bus entries ls passed = (

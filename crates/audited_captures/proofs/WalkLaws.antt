@@ -1,24 +1,9 @@
 -- One part of a walk more, and one walk more.
-use Rattle.std.proofs.Common.{◌≡◌, ℕ, ◌<◌, ◌+◌, List, [], ◌∷◌, ◌++◌, length, refl, sym, ◌∙◌, ap, subst, map, drop, get_or, true, false, append_assoc}
-use Rattle.std.specs.Prelude.{Result, Ok, Err, IfOk, None, Some}
-use Rattle.std.proofs.lemmas.Option.{same_Some}
-use Rattle.std.proofs.lemmas.List.{append-nil}
-use Rattle.std.proofs.lemmas.Grind.{flat_map-append}
-use Rattle.pdr_repository.specs.Records.{Entry}
-use Rattle.pdr_repository.specs.Walkers.{WalkState}
-use Rattle.pdr_repository.specs.declared.walk_fault.WalkFault.{WalkFault}
-use Rattle.audited_captures.specs.RecordParts.{RecordPartValue, record_part_value}
-use Rattle.audited_captures.specs.declared.record_parts.RecordPart.{RecordPart}
-use Rattle.audited_captures.specs.Lines.{LineValue}
-use Rattle.audited_captures.specs.RecordLines.{walk_lines, walks_lines}
-use Rattle.audited_captures.specs.Walking.{Walked, Whole, Open, Stopped, Walks, Other, Left, GoesOn, Ends, Stops, AreWalks, Empty, Within, Begins, begins, walked_value, fresh_walk, asking}
-use Rattle.audited_captures.specs.Walks.{IsWalkLines, AreWalksLines}
-use Rattle.audited_captures.specs.WalkTurns.{IsNext, TakesAnswer, TakesPart, ending_of}
-use Rattle.audited_captures.specs.declared.walking.Ending.{Ending}
+use Rattle.std.{proofs.Common.{◌≡◌, ℕ, ◌<◌, ◌+◌, List, [], ◌∷◌, ◌++◌, length, refl, sym, ◌∙◌, ap, subst, map, drop, get_or, true, false, append_assoc}, specs.Prelude.{Result, Ok, Err, IfOk, None, Some}, proofs.lemmas.Option.{same_Some}, proofs.lemmas.List.{append-nil}, proofs.lemmas.Grind.{flat_map-append}}
+use Rattle.pdr_repository.{specs.Records.{Entry}, specs.Walkers.{WalkState}, specs.declared.walk_fault.WalkFault.{WalkFault}}
+use Rattle.audited_captures.{specs.RecordParts.{RecordPartValue, record_part_value}, specs.declared.record_parts.RecordPart.{RecordPart}, specs.Lines.{LineValue}, specs.RecordLines.{walk_lines, walks_lines}, specs.Walking.{Walked, Whole, Open, Stopped, Walks, Other, Left, GoesOn, Ends, Stops, AreWalks, Empty, Within, Begins, begins, walked_value, fresh_walk, asking}, specs.Walks.{IsWalkLines, AreWalksLines}, specs.WalkTurns.{IsNext, TakesAnswer, TakesPart, ending_of}, specs.declared.walking.Ending.{Ending}, specs.declared.walking.Turn.{Turn}, proofs.WordLaws.{left_mapped}}
 use Rattle.audited_captures.specs.declared.walking.Ending.TheVariants as ending
-use Rattle.audited_captures.specs.declared.walking.Turn.{Turn}
 use Rattle.audited_captures.specs.declared.walking.Turn.TheVariants as turn
-use Rattle.audited_captures.proofs.WordLaws.{left_mapped}
 
 -- what is taken of an answer that is due is taken of the part
 taken_as : (requester : ℕ) (old new : WalkState) (p : RecordPartValue) (t : Turn) → IsNext requester old p → TakesAnswer (asking old p) p.answer t new

@@ -1,12 +1,7 @@
 -- One message more.
-use Rattle.std.proofs.Common.{◌≡◌, ℕ, ◌<◌, ◌+◌, List, [], ◌∷◌, ◌++◌, length, ap, sym, ◌∙◌, subst, get_or, map, take, drop, inl, inr, true, false, add-one, suc, zero, ◌≤◌, arith, refl}
-use Rattle.std.specs.Prelude.{Option, Some, None, MatchOption}
-use Rattle.std.proofs.Math.Seq.{drop-cons}
-use Rattle.std.proofs.lemmas.List.{take_more, map-append}
-use Rattle.heard_captures.specs.Messages.{MessageValue, message_value}
-use Rattle.heard_captures.specs.declared.messages.Message.{Message}
-use Rattle.audited_captures.specs.Words.{WordValue, word_value, IsRequestWord, IsResponseWord, IsAskingWord, IsTellingWord, IsWord, IsNoWord, AddsWord, AreWords, Other, More}
-use Rattle.audited_captures.specs.declared.words.Word.{Word}
+use Rattle.std.{proofs.Common.{◌≡◌, ℕ, ◌<◌, ◌+◌, List, [], ◌∷◌, ◌++◌, length, ap, sym, ◌∙◌, subst, get_or, map, take, drop, inl, inr, true, false, add-one, suc, zero, ◌≤◌, arith, refl}, specs.Prelude.{Option, Some, None, MatchOption}, proofs.Math.Seq.{drop-cons}, proofs.lemmas.List.{take_more, map-append}}
+use Rattle.heard_captures.{specs.Messages.{MessageValue, message_value}, specs.declared.messages.Message.{Message}}
+use Rattle.audited_captures.{specs.Words.{WordValue, word_value, IsRequestWord, IsResponseWord, IsAskingWord, IsTellingWord, IsWord, IsNoWord, AddsWord, AreWords, Other, More}, specs.declared.words.Word.{Word}}
 
 -- so many items of a list, and the next one
 pub mapped_more : {A B : Type 0} (f : A → B) (items : List A) (i : ℕ) (item : A) → i < length items → item ≡ get_or items i item

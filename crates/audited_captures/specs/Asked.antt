@@ -1,10 +1,6 @@
 -- What was asked of a device, and whether it answered.
-use Rattle.std.specs.Prelude.{ℕ, ◌==◌, ◌&&◌, Bool, false, List, length, if◌then◌else◌}
-use Rattle.std.specs.List.{filter}
-use Rattle.audited_captures.specs.Exchanges.{ExchangeValue}
-use Rattle.audited_captures.specs.Identities.{answered_by, answers_of}
-use Rattle.audited_captures.specs.RecordParts.{RecordPartValue}
-use Rattle.audited_captures.specs.Words.{WordValue, BodyValue, Asks, Answers, AsksPart, TellsPart}
+use Rattle.std.{specs.Prelude.{ℕ, ◌==◌, ◌&&◌, Bool, false, List, length, if◌then◌else◌}, specs.List.{filter}}
+use Rattle.audited_captures.{specs.Exchanges.{ExchangeValue}, specs.Identities.{answered_by, answers_of}, specs.RecordParts.{RecordPartValue}, specs.Words.{WordValue, BodyValue, Asks, Answers, AsksPart, TellsPart}}
 
 abbrev pub is_asked_by_body : (eid responder : ℕ) → BodyValue → Bool
 is_asked_by_body eid responder (Asks command) = answered_by responder command == eid

@@ -1,33 +1,14 @@
 -- What captured devices said, laid beside a plan.
-use Rattle.std.specs.Prelude.{◌≡◌, ℕ, ◌+◌, ◌<◌, ◌==◌, ◌&&◌, Bool, List, [], ◌∷◌, ◌++◌, length, codes}
-use Rattle.std.specs.Prelude.{slice_get, Option, Some, if◌then◌else◌}
-use Rattle.std.specs.Fmt.{decimal}
-use Rattle.std.specs.List.{flat_map, filter, list_any}
-use Rattle.bus_captures.specs.Values.{EntryValue}
-use Rattle.bus_captures.specs.declared.capture.End.{End}
-use Rattle.bus_captures.specs.declared.capture.End.TheVariants as end
+use Rattle.std.{specs.Prelude.{◌≡◌, ℕ, ◌+◌, ◌<◌, ◌==◌, ◌&&◌, Bool, List, [], ◌∷◌, ◌++◌, length, codes, slice_get, Option, Some, if◌then◌else◌}, specs.Fmt.{decimal}, specs.List.{flat_map, filter, list_any}}
+use Rattle.bus_captures.{specs.Values.{EntryValue}, specs.declared.capture.End.{End}}
 use Rattle.heard_captures.specs.Messages.{MessageValue, AreHeard}
-use Rattle.mctp_control.specs.RouteEntries as routes
-use Rattle.plan_values.specs.NodeValues.{name_bytes}
-use Rattle.plan_values.specs.declared.certificate.Certificate.{Certificate}
-use Rattle.plan_values.specs.declared.plan.Plan.{Plan}
-use Rattle.plan_values.specs.declared.nodes.Node.{Node}
-use Rattle.audited_captures.specs.Words.{WordValue, AreWords}
-use Rattle.audited_captures.specs.Exchanges.{ExchangeValue, AreExchanges}
+use Rattle.plan_values.{specs.NodeValues.{name_bytes}, specs.declared.certificate.Certificate.{Certificate}, specs.declared.plan.Plan.{Plan}, specs.declared.nodes.Node.{Node}}
+use Rattle.audited_captures.{specs.Words.{WordValue, AreWords}, specs.Exchanges.{ExchangeValue, AreExchanges}, specs.Asked.{unanswered}, specs.Readings.{parts_of}, specs.Lines.{LineValue, silence, differs, compares}, specs.RecordLines.{walks_lines}, specs.RecordParts.{RecordPartValue, AreRecordParts}, specs.Refusals.{AreRefusals, refused_lines}, specs.declared.refusals.Refusal.{Refusal}, specs.Strangers.{AreStrangerLines}, specs.Sums.{sum_words}, specs.declared.sums.Sum.{Sum}, specs.Routes.{routes_lines}, specs.TrafficLines.{IsTraffic}, specs.Walking.{Walked, AreWalks}, specs.Identities.{answers_of, eid_lines, pool_lines, first_of, size_of, kind_number}}
 use Rattle.net_tables.specs.Repositories.{records_by_place}
 use Rattle.pdr_repository.specs.Records.{Entry}
-use Rattle.plan_exports.specs.PlannedTables.{HasLawfulRows}
-use Rattle.plan_exports.specs.TableAnswers.{AreEntriesOf}
-use Rattle.audited_captures.specs.Asked.{unanswered}
-use Rattle.audited_captures.specs.Readings.{parts_of}
-use Rattle.audited_captures.specs.Lines.{LineValue, silence, differs, compares}
-use Rattle.audited_captures.specs.RecordLines.{walks_lines}
-use Rattle.audited_captures.specs.RecordParts.{RecordPartValue, AreRecordParts}
-use Rattle.audited_captures.specs.Strangers.{AreStrangerLines}
-use Rattle.audited_captures.specs.Routes.{routes_lines}
-use Rattle.audited_captures.specs.TrafficLines.{IsTraffic}
-use Rattle.audited_captures.specs.Walking.{Walked, AreWalks}
-use Rattle.audited_captures.specs.Identities.{answers_of, eid_lines, pool_lines, first_of, size_of, kind_number}
+use Rattle.plan_exports.{specs.PlannedTables.{HasLawfulRows}, specs.TableAnswers.{AreEntriesOf}}
+use Rattle.bus_captures.specs.declared.capture.End.TheVariants as end
+use Rattle.mctp_control.specs.RouteEntries as routes
 
 -- each node's rows make a routing table
 abbrev pub HasTables : Plan → Type 0
@@ -96,19 +77,6 @@ pub record AreNodeLines (plan : Plan) (repositories : List (List Entry)) (h : He
       ≡ lines_of_node node facts.planned h.exchanges (unanswered node.eid.value h.words h.exchanges facts.parts)
       (walks_lines (name_bytes node.name) facts.records facts.walks)
 
--- the lines of so many nodes, in the plan's order
-pub data AreLines (plan : Plan) (repositories : List (List Entry)) (h : Heard) : ℕ → List LineValue → Type 0 where
-  Empty : AreLines plan repositories h 0 []
-  More : (n : ℕ) (lines more : List LineValue) → AreLines plan repositories h n lines
-      → AreNodeLines plan repositories h n more → AreLines plan repositories h (n + 1) (lines ++ more)
-
--- the records of so many nodes, by the certificate's places
-pub record AreRepositories (plan : Plan) (cert : Certificate) (count : ℕ)
-    (repositories : List (List Entry)) : Type 0 where
-  pub as_many : length repositories ≡ count
-  pub each : (n : ℕ) (records : List Entry) → slice_get repositories n ≡ Some records
-      → records ≡ records_by_place plan cert n
-
 abbrev pub difference_count : List LineValue → ℕ
 difference_count lines = length (filter differs lines)
 
@@ -120,21 +88,39 @@ has_compared lines = list_any compares lines
 abbrev pub is_match : List LineValue → Bool
 is_match lines = difference_count lines == 0 && has_compared lines
 
--- the last line of what was captured whole
-abbrev pub whole_line : List LineValue → List ℕ
-whole_line lines =
-    if is_match lines then codes "audit match\n"
-    else (if difference_count lines == 0 then codes "audit saw nothing of the plan\n"
-    else codes "audit differs " ++ (decimal (difference_count lines) ++ codes "\n"))
+abbrev pub one_if : Bool → ℕ
+one_if b = if b then 1 else 0
+
+-- the lines of so many nodes, in the plan's order, and of how many of these some line tells of a comparison
+pub data AreLines (plan : Plan) (repositories : List (List Entry)) (h : Heard)
+    : ℕ → List LineValue → (compared : ℕ) → Type 0 where
+  Empty : AreLines plan repositories h 0 [] 0
+  More : (n : ℕ) (lines more : List LineValue) (compared : ℕ) → AreLines plan repositories h n lines compared
+      → AreNodeLines plan repositories h n more
+      → AreLines plan repositories h (n + 1) (lines ++ more) (compared + one_if (has_compared more))
+
+-- the records of so many nodes, by the certificate's places
+pub record AreRepositories (plan : Plan) (cert : Certificate) (count : ℕ)
+    (repositories : List (List Entry)) : Type 0 where
+  pub as_many : length repositories ≡ count
+  pub each : (n : ℕ) (records : List Entry) → slice_get repositories n ≡ Some records
+      → records ≡ records_by_place plan cert n
+
+-- the last line of what was captured whole, with the numbers behind it
+abbrev pub whole_line : List LineValue → Sum → List ℕ
+whole_line lines sum =
+    if is_match lines then codes "audit match" ++ sum_words sum
+    else (if difference_count lines == 0 then codes "audit saw nothing of the plan" ++ sum_words sum
+    else codes "audit differs " ++ (decimal (difference_count lines) ++ sum_words sum))
 
 -- and of what was read in part only: what wasn't read may differ too
-abbrev pub part_line : ℕ → List ℕ
-part_line count = codes "audit incomplete " ++ (decimal count ++ codes "\n")
+abbrev pub part_line : ℕ → Sum → List ℕ
+part_line count sum = codes "audit incomplete " ++ (decimal count ++ sum_words sum)
 
-abbrev pub last_line : End → List LineValue → List ℕ
-last_line end.Whole lines = whole_line lines
-last_line end.Full lines = part_line (difference_count lines)
-last_line (end.Broken place why) lines = part_line (difference_count lines)
+abbrev pub last_line : End → List LineValue → Sum → List ℕ
+last_line end.Whole lines sum = whole_line lines sum
+last_line end.Full lines sum = part_line (difference_count lines) sum
+last_line (end.Broken place why) lines sum = part_line (difference_count lines) sum
 
 abbrev pub text_line : LineValue → List ℕ
 text_line l = l.text ++ codes "\n"
@@ -145,14 +131,15 @@ rest_line end.Whole = []
 rest_line end.Full = codes "capture not read behind 100000 entries\n"
 rest_line (end.Broken place why) = codes "capture not read from " ++ (decimal place ++ codes "\n")
 
-abbrev pub audit_text : List LineValue → End → List ℕ
-audit_text lines how = flat_map text_line lines ++ (rest_line how ++ last_line how lines)
+abbrev pub audit_text : List LineValue → Sum → End → List ℕ
+audit_text lines sum how = flat_map text_line lines ++ (rest_line how ++ last_line how lines sum)
 
 -- These are the lines of what was captured beside the plan and these records: the messages that came whole in packets
 -- of the plan's transmission unit, those among them that ask and answer, the control messages that were answered, what
--- the answers of each node say, and behind that those of devices that no node stands for.
+-- the answers of each node say, and behind that those of devices that no node stands for. So many nodes said something
+-- that was laid beside the plan.
 pub record AreBeside (plan : Plan) (repositories : List (List Entry)) (entries : List EntryValue)
-    (lines : List LineValue) : Type 0 where
+    (lines : List LineValue) (compared : ℕ) : Type 0 where
   pub messages : List MessageValue
   pub heard : Heard
   pub whole : AreHeard plan.unit entries messages
@@ -160,18 +147,25 @@ pub record AreBeside (plan : Plan) (repositories : List (List Entry)) (entries :
   pub answered : AreExchanges heard.words heard.exchanges
   pub of_nodes : List LineValue
   pub of_strangers : List LineValue
-  pub told : AreLines plan repositories heard (length plan.nodes.items) of_nodes
+  pub told : AreLines plan repositories heard (length plan.nodes.items) of_nodes compared
   pub strange : AreStrangerLines plan heard.exchanges of_strangers
   pub joined : lines ≡ of_nodes ++ of_strangers
 
--- The lines are those of the answers, beside the plan and its records, and behind them those of the packets that the
--- plan doesn't have on the bus where the capture was taken, or on any bus where none is named.
+-- The lines are those of the answers, beside the plan and its records, behind them those of the packets that the plan
+-- doesn't have on the bus where the capture was taken, or on any bus where none is named, and last the remark on what
+-- was refused. The sum has the number of nodes that said something which was compared, of all nodes, of packets, and of
+-- what was refused.
 pub record AreAudited (plan : Plan) (cert : Certificate) (bus : Option ℕ) (entries : List EntryValue)
-    (lines : List LineValue) : Type 0 where
+    (lines : List LineValue) (sum : Sum) : Type 0 where
   pub repositories : List (List Entry)
   pub answers : List LineValue
   pub traffic : List LineValue
+  pub refusals : List Refusal
   pub placed : AreRepositories plan cert (length plan.nodes.items) repositories
-  pub beside : AreBeside plan repositories entries answers
+  pub beside : AreBeside plan repositories entries answers sum.compared
   pub passed : IsTraffic plan bus entries traffic
-  pub joined : lines ≡ answers ++ traffic
+  pub refused : AreRefusals plan.unit entries refusals
+  pub joined : lines ≡ (answers ++ traffic) ++ refused_lines refusals
+  pub all_nodes : sum.nodes ≡ length plan.nodes.items
+  pub all_packets : sum.packets ≡ length passed.packets
+  pub all_refused : sum.refused ≡ length refusals

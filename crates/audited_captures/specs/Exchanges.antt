@@ -1,11 +1,7 @@
 -- Requests with the responses to them (DSP0236, "MCTP control message format").
-use Rattle.std.specs.Prelude.{ℕ, ◌==◌, ◌&&◌, ◌||◌, Bool, List, [], ◌∷◌, ◌++◌, Option, None, Some, if◌then◌else◌}
-use Rattle.std.specs.Prelude.{option_to_list}
-use Rattle.std.specs.Option.{option_or}
-use Rattle.mctp_control.specs.Requests.{CommandValue, command_value}
-use Rattle.mctp_control.specs.Responses.{AnswerValue, answer_value}
-use Rattle.audited_captures.specs.Words.{WordValue, BodyValue, Asks, Answers, command_of}
-use Rattle.audited_captures.specs.declared.exchanges.Exchange.{Exchange}
+use Rattle.std.{specs.Prelude.{ℕ, ◌==◌, ◌&&◌, ◌||◌, Bool, List, [], ◌∷◌, ◌++◌, Option, None, Some, if◌then◌else◌, option_to_list}, specs.Option.{option_or}}
+use Rattle.mctp_control.{specs.Requests.{CommandValue, command_value}, specs.Responses.{AnswerValue, answer_value}}
+use Rattle.audited_captures.{specs.Words.{WordValue, BodyValue, Asks, Answers, command_of}, specs.declared.exchanges.Exchange.{Exchange}}
 
 -- what was asked and what was answered, and the endpoint IDs that asked and answered
 pub record ExchangeValue : Type 0 where

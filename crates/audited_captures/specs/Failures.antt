@@ -1,14 +1,9 @@
 -- Answers that fail, and what is told of them (DSP0236, "MCTP control message completion codes").
-use Rattle.std.specs.Prelude.{ℕ, ◌==◌, ◌||◌, Bool, true, false, List, [], ◌∷◌, ◌++◌, codes, if◌then◌else◌}
-use Rattle.std.specs.List.{flat_map}
+use Rattle.std.{specs.Prelude.{ℕ, ◌==◌, ◌||◌, Bool, true, false, List, [], ◌∷◌, ◌++◌, codes, if◌then◌else◌}, specs.List.{flat_map}}
 use Rattle.hex.specs.Hex.{encode_lower}
 use Rattle.mctp_control.specs.Responses.{AnswerValue, EidSet, EidTold, PoolTold, EntriesTold, Failed}
-use Rattle.audited_captures.specs.Lines.{LineValue}
-use Rattle.audited_captures.specs.Readings.{PartValue}
-use Rattle.audited_captures.specs.declared.failures.Topic.{Topic}
+use Rattle.audited_captures.{specs.Lines.{LineValue}, specs.Readings.{PartValue}, specs.declared.failures.Topic.{Topic}, specs.declared.lines.Finding.{Finding}, specs.declared.lines.Finding.TheVariants.{Silent, Differs}}
 use Rattle.audited_captures.specs.declared.failures.Topic.TheVariants as topic
-use Rattle.audited_captures.specs.declared.lines.Finding.{Finding}
-use Rattle.audited_captures.specs.declared.lines.Finding.TheVariants.{Silent, Differs}
 
 -- The command is of the topic: Set Endpoint ID and Get Endpoint ID of the endpoint ID, Allocate Endpoint IDs of the
 -- pool, and any of what was asked of a routing table.

@@ -1,22 +1,13 @@
 -- What it means that a bridge's routing table, as it was read, forwards as the plan's rows do.
 use Rattle.std.specs.Prelude.{◌≡◌, ℕ, ◌+◌, ◌<◌, ◌≤◌, List, [], Option, Some, map, slice_get}
-use Rattle.bus_captures.specs.Values as captured
-use Rattle.mctp_routing.specs.Rows.{Routes}
-use Rattle.mctp_routing.specs.declared.row.Hop.{Hop}
+use Rattle.mctp_routing.{specs.Rows.{Routes}, specs.declared.row.Hop.{Hop}}
 use Rattle.mctp_control.specs.RouteEntries.{EntryValue}
-use Rattle.plan_values.specs.declared.certificate.Certificate.{Certificate}
-use Rattle.plan_values.specs.declared.nodes.Node.{Node}
-use Rattle.plan_values.specs.declared.plan.Plan.{Plan}
+use Rattle.plan_values.{specs.declared.certificate.Certificate.{Certificate}, specs.declared.nodes.Node.{Node}, specs.declared.plan.Plan.{Plan}}
 use Rattle.net_rules.specs.Rules.{Accepts}
-use Rattle.net_tables.specs.Routing.{rows_of}
-use Rattle.net_tables.specs.Tables.{table_row}
-use Rattle.plan_exports.specs.Neighbors.{neighbor_of}
-use Rattle.plan_exports.specs.TableAnswers.{AreEntriesOf}
-use Rattle.audited_captures.specs.AsPlanned.{IsAmong}
-use Rattle.audited_captures.specs.Audits.{AreAudited, difference_count}
-use Rattle.audited_captures.specs.Lines.{LineValue}
-use Rattle.audited_captures.specs.Readings.{ReadingValue, Read, parts_of, readings}
-use Rattle.audited_captures.specs.Routes.{unlike_lines}
+use Rattle.net_tables.{specs.Routing.{rows_of}, specs.Tables.{table_row}}
+use Rattle.plan_exports.{specs.Neighbors.{neighbor_of}, specs.TableAnswers.{AreEntriesOf}}
+use Rattle.audited_captures.{specs.AsPlanned.{IsAmong}, specs.Audits.{AreAudited, difference_count}, specs.Lines.{LineValue}, specs.Readings.{ReadingValue, Read, parts_of, readings}, specs.Routes.{unlike_lines}, specs.declared.sums.Sum.{Sum}}
+use Rattle.bus_captures.specs.Values as captured
 
 -- e is one of the entry's endpoint IDs; an entry that reaches past 255 covers those up to 255
 abbrev pub IsFor : ℕ → EntryValue → Type 0
@@ -49,7 +40,7 @@ TablesForward = (plan : Plan) (cert : Certificate) (n : ℕ) (name : List ℕ) (
 -- where an audit matches, so does each routing table that a node told
 abbrev pub AuditsForward : Type 0
 AuditsForward = (plan : Plan) (cert : Certificate) (bus : Option ℕ) (entries : List captured.EntryValue)
-    (lines : List LineValue) → Accepts plan cert → (are : AreAudited plan cert bus entries lines)
+    (lines : List LineValue) (sum : Sum) → Accepts plan cert → (are : AreAudited plan cert bus entries lines sum)
     → difference_count lines ≡ 0 → (n : ℕ) (node : Node) → slice_get plan.nodes.items n ≡ Some node
     → (r : ReadingValue)
     → IsAmong r (readings (parts_of node.eid.value are.beside.heard.exchanges))

@@ -1,17 +1,10 @@
 -- What devices said of their endpoint IDs and pools, beside the plan (DSP0236, "Set Endpoint ID", "Get Endpoint ID",
 -- "Allocate Endpoint IDs").
-use Rattle.std.specs.Prelude.{ℕ, ◌+◌, ◌-◌, ◌==◌, ◌&&◌, ◌||◌, Bool, true, false, List, [], ◌∷◌, ◌++◌, codes}
-use Rattle.std.specs.Prelude.{Option, None, Some, if◌then◌else◌}
-use Rattle.std.specs.Fmt.{decimal}
-use Rattle.std.specs.List.{flat_map, list_any}
-use Rattle.mctp_control.specs.Requests.{CommandValue, SetsEid, GetsEid, AllocatesEids, GetsEntries}
-use Rattle.mctp_control.specs.Responses.{AnswerValue, EidSet, EidTold, PoolTold, EntriesTold, Failed}
-use Rattle.plan_values.specs.declared.nodes.Kind.{Kind}
+use Rattle.std.{specs.Prelude.{ℕ, ◌+◌, ◌-◌, ◌==◌, ◌&&◌, ◌||◌, Bool, true, false, List, [], ◌∷◌, ◌++◌, codes, Option, None, Some, if◌then◌else◌}, specs.Fmt.{decimal}, specs.List.{flat_map, list_any}}
+use Rattle.mctp_control.{specs.Requests.{CommandValue, SetsEid, GetsEid, AllocatesEids, GetsEntries}, specs.Responses.{AnswerValue, EidSet, EidTold, PoolTold, EntriesTold, Failed}}
+use Rattle.plan_values.{specs.declared.nodes.Kind.{Kind}, specs.declared.nodes.Pool.{Pool}}
+use Rattle.audited_captures.{specs.Exchanges.{ExchangeValue}, specs.Failures.{failures_of, failed_lines}, specs.Lines.{LineValue, difference, note, differences_or}}
 use Rattle.plan_values.specs.declared.nodes.Kind.TheVariants as kind
-use Rattle.plan_values.specs.declared.nodes.Pool.{Pool}
-use Rattle.audited_captures.specs.Exchanges.{ExchangeValue}
-use Rattle.audited_captures.specs.Failures.{failures_of, failed_lines}
-use Rattle.audited_captures.specs.Lines.{LineValue, difference, note, differences_or}
 use Rattle.audited_captures.specs.declared.failures.Topic.TheVariants as topic
 
 -- Whose answer it is: the device's that the answer's source tells. A device that was to take an endpoint ID may not

@@ -1,11 +1,10 @@
 -- How the code judges the way of a packet.
 use Rattle.std.specs.Prelude.{ℕ, List, Option, Some, None, if◌then◌else◌}
 use Rattle.plan_values.specs.declared.plan.Plan.{Plan}
-use Rattle.net_questions.specs.declared.step.WayStep.{WayStep}
-use Rattle.net_questions.specs.declared.way.End.{End}
+use Rattle.net_questions.{specs.declared.step.WayStep.{WayStep}, specs.declared.way.End.{End}}
+use Rattle.audited_captures.specs.declared.traffic.Unplanned.{Unplanned}
 use Rattle.net_questions.specs.declared.way.End.TheVariants as end
 use Rattle.audited_captures.specs.Traffic as traffic
-use Rattle.audited_captures.specs.declared.traffic.Unplanned.{Unplanned}
 use Rattle.audited_captures.specs.declared.traffic.Unplanned.TheVariants as unplanned
 
 -- why packets aren't planned, wherever the steps lie

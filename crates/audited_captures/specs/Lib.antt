@@ -15,6 +15,9 @@ pub mod Answers
 pub mod Identities
 pub mod Asked
 pub mod Packets
+pub mod Refusals
+pub mod RefusalSteps
+pub mod Sums
 pub mod PacketSteps
 pub mod Counts
 pub mod Traffic

@@ -1,8 +1,6 @@
 -- The lines of an audit.
 use Rattle.std.specs.Prelude.{ℕ, Bool, true, false, List, [], ◌∷◌, string_bytes}
-use Rattle.audited_captures.specs.declared.lines.Finding.{Finding}
-use Rattle.audited_captures.specs.declared.lines.Finding.TheVariants.{Silent, AsPlanned, Differs}
-use Rattle.audited_captures.specs.declared.lines.Line.{Line}
+use Rattle.audited_captures.{specs.declared.lines.Finding.{Finding}, specs.declared.lines.Finding.TheVariants.{Silent, AsPlanned, Differs}, specs.declared.lines.Line.{Line}}
 
 -- the text of a line without its end, and what it says of what was captured beside what is planned
 pub record LineValue : Type 0 where

@@ -1,27 +1,10 @@
 -- What it means that devices said what is planned.
 use Rattle.std.specs.Prelude.{◌≡◌, ◌≢◌, ◌⊎◌, ◌↔◌, ◌||◌, ℕ, ⊤, IsTrue, true, List, Option, Some, slice_get}
-use Rattle.bus_captures.specs.Values as captured
-use Rattle.mctp_control.specs.RouteEntries.{EntryValue}
-use Rattle.mctp_control.specs.Responses.{AnswerValue, EidSet, EidTold, PoolTold, EntriesTold, Failed}
-use Rattle.plan_values.specs.NodeValues.{name_bytes}
-use Rattle.plan_values.specs.declared.certificate.Certificate.{Certificate}
-use Rattle.plan_values.specs.declared.nodes.Node.{Node}
-use Rattle.plan_values.specs.declared.plan.Plan.{Plan}
-use Rattle.audited_captures.specs.AsPlanned.{IsAmong, AreAsPlanned}
-use Rattle.audited_captures.specs.Audits.{AreAudited, NodeFacts, AreFacts, difference_count, has_compared, is_match}
-use Rattle.audited_captures.specs.Audits.{lines_of_node}
-use Rattle.audited_captures.specs.Exchanges.{ExchangeValue}
-use Rattle.audited_captures.specs.Identities.{answers_of, tells_eid, tells_pool, first_of, size_of, kind_number}
-use Rattle.audited_captures.specs.Lines.{LineValue}
-use Rattle.audited_captures.specs.Packets.{NumberedPacket}
-use Rattle.audited_captures.specs.Strangers.{HasNoStrangers}
-use Rattle.audited_captures.specs.Traffic.{IsPlanned}
-use Rattle.audited_captures.specs.TrafficLines.{IsTraffic}
+use Rattle.mctp_control.{specs.RouteEntries.{EntryValue}, specs.Responses.{AnswerValue, EidSet, EidTold, PoolTold, EntriesTold, Failed}}
+use Rattle.plan_values.{specs.NodeValues.{name_bytes}, specs.declared.certificate.Certificate.{Certificate}, specs.declared.nodes.Node.{Node}, specs.declared.plan.Plan.{Plan}}
+use Rattle.audited_captures.{specs.AsPlanned.{IsAmong, AreAsPlanned}, specs.Audits.{AreAudited, NodeFacts, AreFacts, difference_count, has_compared, is_match, lines_of_node}, specs.Exchanges.{ExchangeValue}, specs.Identities.{answers_of, tells_eid, tells_pool, first_of, size_of, kind_number}, specs.Lines.{LineValue}, specs.Packets.{NumberedPacket}, specs.Strangers.{HasNoStrangers}, specs.declared.sums.Sum.{Sum}, specs.Traffic.{IsPlanned}, specs.TrafficLines.{IsTraffic}, specs.RecordLines.{walks_lines}, specs.Walking.{Walked, Whole, Open, Stopped}, specs.Failures.{fails}, specs.Readings.{PartValue, ReadingValue, Read, Refused, Unended, parts_of, readings}}
 use Rattle.pdr_repository.specs.Records.{Entry, bytes_by_place}
-use Rattle.audited_captures.specs.RecordLines.{walks_lines}
-use Rattle.audited_captures.specs.Walking.{Walked, Whole, Open, Stopped}
-use Rattle.audited_captures.specs.Failures.{fails}
-use Rattle.audited_captures.specs.Readings.{PartValue, ReadingValue, Read, Refused, Unended, parts_of, readings}
+use Rattle.bus_captures.specs.Values as captured
 use Rattle.audited_captures.specs.declared.failures.Topic.TheVariants as topic
 
 -- a reading came to its end, with the planned entries
@@ -128,7 +111,7 @@ TrafficMatchesWhereAsPlanned = (plan : Plan) (bus : Option ℕ) (entries : List 
 -- packet is planned on the bus, and something that some node said was laid beside the plan
 abbrev pub AuditMatches : Type 0
 AuditMatches = (plan : Plan) (cert : Certificate) (bus : Option ℕ) (entries : List captured.EntryValue)
-    (lines : List LineValue) → (are : AreAudited plan cert bus entries lines) → is_match lines ≡ true
+    (lines : List LineValue) (sum : Sum) → (are : AreAudited plan cert bus entries lines sum) → is_match lines ≡ true
     → ((n : ℕ) (node : Node) → slice_get plan.nodes.items n ≡ Some node
     → (f : NodeFacts) × AreFacts plan are.repositories are.beside.heard n node f
     × SaysAsPlanned node are.beside.heard.exchanges f)
@@ -141,7 +124,7 @@ AuditMatches = (plan : Plan) (cert : Certificate) (bus : Option ℕ) (entries : 
 -- the bus, and something that some node said was laid beside the plan, the audit matches
 abbrev pub MatchesAudit : Type 0
 MatchesAudit = (plan : Plan) (cert : Certificate) (bus : Option ℕ) (entries : List captured.EntryValue)
-    (lines : List LineValue) → (are : AreAudited plan cert bus entries lines)
+    (lines : List LineValue) (sum : Sum) → (are : AreAudited plan cert bus entries lines sum)
     → ((n : ℕ) (node : Node) (f : NodeFacts) → slice_get plan.nodes.items n ≡ Some node
     → AreFacts plan are.repositories are.beside.heard n node f → SaysAsPlanned node are.beside.heard.exchanges f)
     → HasNoStrangers plan are.beside.heard.exchanges → ArePlanned plan bus are.passed.packets

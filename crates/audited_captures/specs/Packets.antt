@@ -1,10 +1,9 @@
 -- The packets of a capture, and how many went from each endpoint ID to each.
-use Rattle.std.specs.Prelude.{◌≡◌, ◌≢◌, ℕ, ◌+◌, ◌==◌, ◌&&◌, Bool, List, [], ◌∷◌, ◌++◌, length}
-use Rattle.std.specs.List.{filter}
+use Rattle.std.{specs.Prelude.{◌≡◌, ◌≢◌, ℕ, ◌+◌, ◌==◌, ◌&&◌, Bool, List, [], ◌∷◌, ◌++◌, length}, specs.List.{filter}}
 use Rattle.bus_captures.specs.Values.{EntryValue}
-use Rattle.bus_captures.specs.declared.capture.Kind.TheVariants as kind
 use Rattle.mctp_transport.specs.PacketValues.{PacketValue, Spelled}
 use Rattle.audited_captures.specs.declared.packets.CapturedPacket.{CapturedPacket}
+use Rattle.bus_captures.specs.declared.capture.Kind.TheVariants as kind
 
 -- a packet's number among the entries of the capture, and the endpoint IDs in its header
 pub record NumberedPacket : Type 0 where

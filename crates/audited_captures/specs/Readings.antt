@@ -1,11 +1,7 @@
 -- What requesters read of a bridge's routing table (DSP0236, "Get Routing Table Entries").
-use Rattle.std.specs.Prelude.{ℕ, ◌==◌, List, [], ◌∷◌, ◌++◌, if◌then◌else◌}
-use Rattle.std.specs.List.{flat_map}
-use Rattle.mctp_control.specs.RouteEntries.{EntryValue}
-use Rattle.mctp_control.specs.Requests.{CommandValue, SetsEid, GetsEid, AllocatesEids, GetsEntries}
-use Rattle.mctp_control.specs.Responses.{AnswerValue, EidSet, EidTold, PoolTold, EntriesTold, Failed, answer_value}
-use Rattle.audited_captures.specs.Exchanges.{ExchangeValue}
-use Rattle.audited_captures.specs.declared.readings.Part.{Part}
+use Rattle.std.{specs.Prelude.{ℕ, ◌==◌, List, [], ◌∷◌, ◌++◌, if◌then◌else◌}, specs.List.{flat_map}}
+use Rattle.mctp_control.{specs.RouteEntries.{EntryValue}, specs.Requests.{CommandValue, SetsEid, GetsEid, AllocatesEids, GetsEntries}, specs.Responses.{AnswerValue, EidSet, EidTold, PoolTold, EntriesTold, Failed, answer_value}}
+use Rattle.audited_captures.{specs.Exchanges.{ExchangeValue}, specs.declared.readings.Part.{Part}}
 
 -- the requester, the entry handle that it asked for, and what it was answered
 pub record PartValue : Type 0 where

@@ -1,14 +1,7 @@
 -- Records that walks brought, beside those of the plan.
-use Rattle.std.specs.Prelude.{ℕ, ◌+◌, ◌==◌, ◌&&◌, Bool, true, false, List, [], ◌∷◌, ◌++◌, length, codes, find, nat_eq}
-use Rattle.std.specs.Prelude.{Option, None, Some, unwrap_or, if◌then◌else◌}
-use Rattle.std.specs.Fmt.{decimal}
-use Rattle.std.specs.List.{flat_map, list_any}
-use Rattle.std.specs.Cmp.Lexicographic.{pointwise}
-use Rattle.pdr_repository.specs.Faults.{code_of}
-use Rattle.pdr_repository.specs.Records.{Entry, handle_in}
-use Rattle.pdr_repository.specs.declared.walk_fault.WalkFault.{WalkFault}
-use Rattle.audited_captures.specs.Lines.{LineValue, difference, note, differences_or}
-use Rattle.audited_captures.specs.Walking.{Walked, Whole, Open, Stopped}
+use Rattle.std.{specs.Prelude.{ℕ, ◌+◌, ◌==◌, ◌&&◌, Bool, true, false, List, [], ◌∷◌, ◌++◌, length, codes, find, nat_eq, Option, None, Some, unwrap_or, if◌then◌else◌}, specs.Fmt.{decimal}, specs.List.{flat_map, list_any}, specs.Cmp.Lexicographic.{pointwise}}
+use Rattle.pdr_repository.{specs.Faults.{code_of}, specs.Records.{Entry, handle_in}, specs.declared.walk_fault.WalkFault.{WalkFault}}
+use Rattle.audited_captures.{specs.Lines.{LineValue, difference, note, differences_or}, specs.Walking.{Walked, Whole, Open, Stopped}}
 
 -- the number, from k on, of the first byte in which two records differ; the shorter has no byte where it ends
 abbrev pub unlike_from : ℕ → List ℕ → List ℕ → Option ℕ

@@ -1,12 +1,7 @@
 -- Requests for parts of records with the answers to them (DSP0248, GetPDR).
-use Rattle.std.specs.Prelude.{ℕ, ◌==◌, List, [], ◌∷◌, ◌++◌, Option, None, Some, if◌then◌else◌}
-use Rattle.std.specs.Prelude.{option_to_list}
-use Rattle.pldm_message.specs.Messages.{RequestMessage}
-use Rattle.pldm_message.specs.PdrValues.{get_pdr_request}
-use Rattle.pldm_message.specs.Pdrs.{PartRequest}
-use Rattle.audited_captures.specs.Exchanges.{concerns, last_that}
-use Rattle.audited_captures.specs.Words.{WordValue, BodyValue, AsksPart, TellsPart}
-use Rattle.audited_captures.specs.declared.record_parts.RecordPart.{RecordPart}
+use Rattle.std.specs.Prelude.{ℕ, ◌==◌, List, [], ◌∷◌, ◌++◌, Option, None, Some, if◌then◌else◌, option_to_list}
+use Rattle.pldm_message.{specs.Messages.{RequestMessage}, specs.PdrValues.{get_pdr_request}, specs.Pdrs.{PartRequest}}
+use Rattle.audited_captures.{specs.Exchanges.{concerns, last_that}, specs.Words.{WordValue, BodyValue, AsksPart, TellsPart}, specs.declared.record_parts.RecordPart.{RecordPart}}
 
 -- who asked, what was asked for, and all bytes of the answer
 pub record RecordPartValue : Type 0 where

@@ -1,15 +1,8 @@
 -- Routing table entries that were read, beside those of the plan.
-use Rattle.std.specs.Prelude.{ℕ, ◌==◌, ◌&&◌, Bool, not, false, List, [], ◌∷◌, ◌++◌, length, codes, find, nat_eq}
-use Rattle.std.specs.Prelude.{Option, None, Some, if◌then◌else◌}
-use Rattle.std.specs.Option.{option_or}
-use Rattle.std.specs.Fmt.{decimal}
-use Rattle.std.specs.List.{flat_map, list_any}
-use Rattle.std.specs.Cmp.Lexicographic.{pointwise}
+use Rattle.std.{specs.Prelude.{ℕ, ◌==◌, ◌&&◌, Bool, not, false, List, [], ◌∷◌, ◌++◌, length, codes, find, nat_eq, Option, None, Some, if◌then◌else◌}, specs.Option.{option_or}, specs.Fmt.{decimal}, specs.List.{flat_map, list_any}, specs.Cmp.Lexicographic.{pointwise}}
 use Rattle.hex.specs.Hex.{encode_lower}
 use Rattle.mctp_control.specs.RouteEntries.{EntryValue}
-use Rattle.audited_captures.specs.Failures.{failures_in, failed_lines}
-use Rattle.audited_captures.specs.Lines.{LineValue, difference, note, differences_or}
-use Rattle.audited_captures.specs.Readings.{PartValue, ReadingValue, Read, Refused, Unended, begun_with, readings}
+use Rattle.audited_captures.{specs.Failures.{failures_in, failed_lines}, specs.Lines.{LineValue, difference, note, differences_or}, specs.Readings.{PartValue, ReadingValue, Read, Refused, Unended, begun_with, readings}}
 
 -- the entries are for the same endpoint IDs
 abbrev pub same_range : EntryValue → EntryValue → Bool

@@ -1,13 +1,9 @@
 -- Endpoint IDs that devices took and that no node of the plan holds (DSP0236, "Set Endpoint ID").
-use Rattle.std.specs.Prelude.{◌≡◌, ◌≢◌, ◌⊎◌, ℕ, List, [], ◌∷◌, ◌++◌, codes, Option, Some, None}
-use Rattle.std.specs.Fmt.{decimal}
-use Rattle.mctp_control.specs.Requests.{CommandValue, SetsEid, GetsEid, AllocatesEids, GetsEntries}
-use Rattle.mctp_control.specs.Responses.{AnswerValue, EidSet, EidTold, PoolTold, EntriesTold, Failed}
+use Rattle.std.{specs.Prelude.{◌≡◌, ◌≢◌, ◌⊎◌, ℕ, List, [], ◌∷◌, ◌++◌, codes, Option, Some, None}, specs.Fmt.{decimal}}
+use Rattle.mctp_control.{specs.Requests.{CommandValue, SetsEid, GetsEid, AllocatesEids, GetsEntries}, specs.Responses.{AnswerValue, EidSet, EidTold, PoolTold, EntriesTold, Failed}}
 use Rattle.plan_values.specs.declared.plan.Plan.{Plan}
 use Rattle.net_tables.specs.Routing.{IsHeld}
-use Rattle.audited_captures.specs.AsPlanned.{IsAmong}
-use Rattle.audited_captures.specs.Exchanges.{ExchangeValue}
-use Rattle.audited_captures.specs.Lines.{LineValue, difference}
+use Rattle.audited_captures.{specs.AsPlanned.{IsAmong}, specs.Exchanges.{ExchangeValue}, specs.Lines.{LineValue, difference}}
 
 -- the endpoint ID that a device was to take
 abbrev pub asked_eid : CommandValue → Option ℕ

@@ -1,12 +1,8 @@
 -- Which packets a plan has on a bus.
-use Rattle.std.specs.Prelude.{◌≡◌, ◌≢◌, ℕ, ◌==◌, Bool, true, false, List, Option, Some, None, IsTrue}
-use Rattle.std.specs.List.{list_any}
+use Rattle.std.{specs.Prelude.{◌≡◌, ◌≢◌, ℕ, ◌==◌, Bool, true, false, List, Option, Some, None, IsTrue}, specs.List.{list_any}}
 use Rattle.plan_values.specs.declared.plan.Plan.{Plan}
-use Rattle.net_questions.specs.Ways.{IsWay}
-use Rattle.net_questions.specs.declared.step.WayStep.{WayStep}
-use Rattle.net_questions.specs.declared.way.End.TheVariants.{Arrives}
-use Rattle.net_tables.specs.Routing.{Holds, IsHeld}
-use Rattle.net_tables.specs.Rows.{bus_of}
+use Rattle.net_questions.{specs.Ways.{IsWay}, specs.declared.step.WayStep.{WayStep}, specs.declared.way.End.TheVariants.{Arrives}}
+use Rattle.net_tables.{specs.Routing.{Holds, IsHeld}, specs.Rows.{bus_of}}
 
 -- Nobody can have sent it: no node holds the source. The null endpoint ID, 0, is that of a device that has none yet.
 abbrev pub LacksSender : Plan → ℕ → Type 0

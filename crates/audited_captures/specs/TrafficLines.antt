@@ -1,16 +1,10 @@
 -- What is told of packets that aren't planned.
-use Rattle.std.specs.Prelude.{◌≡◌, ◌⊎◌, ℕ, ◌-◌, ◌==◌, List, [], ◌∷◌, ◌++◌, codes, Option, Some, None, if◌then◌else◌}
-use Rattle.std.specs.Fmt.{decimal}
-use Rattle.std.specs.List.{flat_map}
+use Rattle.std.{specs.Prelude.{◌≡◌, ◌⊎◌, ℕ, ◌-◌, ◌==◌, List, [], ◌∷◌, ◌++◌, length, codes, Option, Some, None, if◌then◌else◌}, specs.Fmt.{decimal}, specs.List.{flat_map}}
 use Rattle.bus_captures.specs.Values.{EntryValue}
 use Rattle.plan_values.specs.declared.plan.Plan.{Plan}
 use Rattle.net_questions.specs.declared.step.WayStep.{WayStep}
-use Rattle.net_tables.specs.Routing.{Holds, IsHeld}
-use Rattle.net_tables.specs.Rows.{bus_of}
-use Rattle.net_tables.specs.Names.{node_name, bus_name}
-use Rattle.audited_captures.specs.Lines.{LineValue, difference}
-use Rattle.audited_captures.specs.Packets.{NumberedPacket, ArePackets, AreFirst, count_like}
-use Rattle.audited_captures.specs.Traffic.{Unplanned, NoSender, NoReceiver, Nobody, NoWay, Elsewhere, IsJudged}
+use Rattle.net_tables.{specs.Routing.{Holds, IsHeld}, specs.Rows.{bus_of}, specs.Names.{node_name, bus_name}}
+use Rattle.audited_captures.{specs.Lines.{LineValue, difference}, specs.Packets.{NumberedPacket, ArePackets, AreFirst, count_like}, specs.Traffic.{Unplanned, NoSender, NoReceiver, Nobody, NoWay, Elsewhere, IsJudged}}
 
 -- an endpoint ID by the node that holds it, or by its number
 abbrev pub IsNameOf : Plan → ℕ → List ℕ → Type 0
@@ -99,3 +93,8 @@ pub record IsTraffic (plan : Plan) (bus : Option ℕ) (entries : List EntryValue
   pub read : ArePackets plan.unit entries packets
   pub first : AreFirst packets firsts
   pub told : AreTrafficLines plan bus packets firsts lines
+
+-- and there are so many packets
+abbrev pub IsTrafficOf : Plan → Option ℕ → List EntryValue → List LineValue → ℕ → Type 0
+IsTrafficOf plan bus entries lines count =
+    (traffic : IsTraffic plan bus entries lines) × (count ≡ length traffic.packets)

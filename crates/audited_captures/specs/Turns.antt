@@ -1,11 +1,7 @@
 -- How the code goes from one part of a reading to the next.
-use Rattle.std.specs.Prelude.{◌≡◌, List, ◌++◌, map}
-use Rattle.std.specs.Borrow.{Bor}
-use Rattle.mctp_control.specs.RouteEntries.{EntryValue, entry_value}
-use Rattle.mctp_control.specs.declared.route_entry.RouteEntry.{RouteEntry}
-use Rattle.audited_captures.specs.Readings.{Turn, Other, Fails, Refuses, Ends, GoesOn}
-use Rattle.audited_captures.specs.Readings.{ReadingValue, Read, Refused, Unended}
-use Rattle.audited_captures.specs.declared.readings.Reading.{Reading}
+use Rattle.std.{specs.Prelude.{◌≡◌, List, ◌++◌, map}, specs.Borrow.{Bor}}
+use Rattle.mctp_control.{specs.RouteEntries.{EntryValue, entry_value}, specs.declared.route_entry.RouteEntry.{RouteEntry}}
+use Rattle.audited_captures.{specs.Readings.{Turn, Other, Fails, Refuses, Ends, GoesOn, ReadingValue, Read, Refused, Unended}, specs.declared.readings.Reading.{Reading}}
 use Rattle.audited_captures.specs.declared.readings.Reading.TheVariants as reading
 use Rattle.audited_captures.specs.declared.readings.Turn as code
 use Rattle.audited_captures.specs.declared.readings.Turn.TheVariants as turn

@@ -1,14 +1,8 @@
 -- How the code goes from one part of a walk to the next.
 use Rattle.std.specs.Prelude.{◌≡◌, ◌≢◌, ℕ, ◌==◌, List, true, false, Ok, Err, Option, None, Some}
-use Rattle.pdr_repository.specs.Walkers.{WalkState, Takes}
-use Rattle.pdr_repository.specs.declared.walk_fault.Step.{Step as WalkStep}
-use Rattle.pdr_repository.specs.declared.walk_fault.Step.TheVariants.{Done}
-use Rattle.pdr_repository.specs.declared.walk_fault.WalkFault.TheVariants.{OutOfMemory}
-use Rattle.audited_captures.specs.RecordParts.{RecordPartValue}
-use Rattle.audited_captures.specs.Walking.{is_due, asking}
-use Rattle.audited_captures.specs.declared.walking.Ending.{Ending}
+use Rattle.pdr_repository.{specs.Walkers.{WalkState, Takes}, specs.declared.walk_fault.Step.{Step as WalkStep}, specs.declared.walk_fault.Step.TheVariants.{Done}, specs.declared.walk_fault.WalkFault.TheVariants.{OutOfMemory}}
+use Rattle.audited_captures.{specs.RecordParts.{RecordPartValue}, specs.Walking.{is_due, asking}, specs.declared.walking.Ending.{Ending}, specs.declared.walking.Turn.{Turn}}
 use Rattle.audited_captures.specs.declared.walking.Ending.TheVariants as ending
-use Rattle.audited_captures.specs.declared.walking.Turn.{Turn}
 use Rattle.audited_captures.specs.declared.walking.Turn.TheVariants as turn
 
 -- how a walk ends that goes so

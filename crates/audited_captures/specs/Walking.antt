@@ -1,24 +1,21 @@
 -- Walks through the records of a terminus, as they were captured (DSP0248, GetPDR).
-use Rattle.std.specs.Prelude.{◌≡◌, ◌≢◌, ℕ, ◌==◌, ◌&&◌, ◌||◌, Bool, not, true, false, List, [], ◌∷◌, min, max}
-use Rattle.std.specs.Prelude.{Option, None, Some, Ok, Err}
+use Rattle.std.specs.Prelude.{◌≡◌, ◌≢◌, ℕ, ◌==◌, ◌&&◌, ◌||◌, Bool, not, true, false, List, [], ◌∷◌, min, max, Option, None, Some, Ok, Err}
 use Rattle.pldm_message.specs.Pdrs.{PartRequest}
-use Rattle.pdr_repository.specs.Walkers.{WalkState, Takes, fresh}
-use Rattle.pdr_repository.specs.declared.walk_fault.Step.{Step as WalkStep}
-use Rattle.pdr_repository.specs.declared.walk_fault.Step.TheVariants.{Done}
-use Rattle.pdr_repository.specs.declared.walk_fault.WalkFault.{WalkFault}
-use Rattle.pdr_repository.specs.declared.walk_fault.WalkFault.TheVariants.{OutOfMemory}
-use Rattle.audited_captures.specs.RecordParts.{RecordPartValue}
-use Rattle.audited_captures.specs.declared.walking.Ending.{Ending}
+use Rattle.pdr_repository.{specs.Walkers.{WalkState, Takes, fresh}, specs.declared.walk_fault.Step.{Step as WalkStep}, specs.declared.walk_fault.Step.TheVariants.{Done}, specs.declared.walk_fault.WalkFault.{WalkFault}, specs.declared.walk_fault.WalkFault.TheVariants.{OutOfMemory}}
+use Rattle.audited_captures.{specs.RecordParts.{RecordPartValue}, specs.declared.walking.Ending.{Ending}}
 use Rattle.audited_captures.specs.declared.walking.Ending.TheVariants as ending
 
 -- A walker takes parts of 8 to 4079 bytes. A requester may ask for any number.
 abbrev pub walk_count : ℕ → ℕ
 walk_count count = min (max count 8) 4079
 
--- a walk that has not begun, of a requester that asks for parts of so many bytes; no capture brings more than it may
--- collect
+-- no capture brings more records or bytes than this
+abbrev pub most_collected : ℕ
+most_collected = 16777216
+
+-- a walk that has not begun, of a requester that asks for parts of so many bytes
 abbrev pub fresh_walk : ℕ → WalkState
-fresh_walk count = fresh (walk_count count) 16777216 16777216
+fresh_walk count = fresh (walk_count count) most_collected most_collected
 
 -- the same part of the same record is asked for; where a first part begins is of no meaning
 abbrev pub asks_same : (due request : PartRequest) → Bool

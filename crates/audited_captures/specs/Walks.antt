@@ -1,10 +1,7 @@
 -- The lines of the walks that parts make.
 use Rattle.std.specs.Prelude.{◌≡◌, ℕ, List}
 use Rattle.pdr_repository.specs.Records.{Entry}
-use Rattle.audited_captures.specs.Lines.{LineValue}
-use Rattle.audited_captures.specs.RecordLines.{walk_lines, walks_lines}
-use Rattle.audited_captures.specs.RecordParts.{RecordPartValue}
-use Rattle.audited_captures.specs.Walking.{Walked, Walks, AreWalks, fresh_walk}
+use Rattle.audited_captures.{specs.Lines.{LineValue}, specs.RecordLines.{walk_lines, walks_lines}, specs.RecordParts.{RecordPartValue}, specs.Walking.{Walked, Walks, AreWalks, fresh_walk}}
 
 -- of one walk, which a part begins
 abbrev pub IsWalkLines : List ℕ → List Entry → RecordPartValue → List RecordPartValue → List LineValue → Type 0

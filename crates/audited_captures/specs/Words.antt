@@ -2,21 +2,11 @@
 -- for parts of records with their answers (DSP0248, GetPDR).
 use Rattle.std.specs.Prelude.{◌≡◌, ◌⊎◌, ℕ, true, false, List, [], ◌∷◌, ◌++◌}
 use Rattle.mctp_transport.specs.Wire.{Spells}
-use Rattle.mctp_control.specs.Requests.{CommandValue, SetsEid, GetsEid, AllocatesEids, GetsEntries, command_value}
-use Rattle.mctp_control.specs.Requests.{RequestValue, SpellsRequest}
-use Rattle.mctp_control.specs.Responses.{AnswerValue, EidSet, EidTold, PoolTold, EntriesTold, Failed, answer_value}
-use Rattle.mctp_control.specs.Responses.{ResponseValue, SpellsResponse}
-use Rattle.pldm_message.specs.Commands.{type_of, command_byte}
-use Rattle.pldm_message.specs.Headers.{HeaderValue, BeginsWith}
-use Rattle.pldm_message.specs.Messages.{RequestMessage}
-use Rattle.pldm_message.specs.PdrValues.{get_pdr_request}
-use Rattle.pldm_message.specs.Pdrs.{PartRequest, IsGetPdrRequest, get_pdr_request_bytes}
-use Rattle.pldm_message.specs.declared.command.Command.TheVariants.{GetPdr}
-use Rattle.pldm_message.specs.declared.kind.MessageKind.TheVariants.{Response}
+use Rattle.mctp_control.{specs.Requests.{CommandValue, SetsEid, GetsEid, AllocatesEids, GetsEntries, command_value, RequestValue, SpellsRequest}, specs.Responses.{AnswerValue, EidSet, EidTold, PoolTold, EntriesTold, Failed, answer_value, ResponseValue, SpellsResponse}}
+use Rattle.pldm_message.{specs.Commands.{type_of, command_byte}, specs.Headers.{HeaderValue, BeginsWith}, specs.Messages.{RequestMessage}, specs.PdrValues.{get_pdr_request}, specs.Pdrs.{PartRequest, IsGetPdrRequest, get_pdr_request_bytes}, specs.declared.command.Command.TheVariants.{GetPdr}, specs.declared.kind.MessageKind.TheVariants.{Response}}
 use Rattle.heard_captures.specs.Messages.{MessageValue}
-use Rattle.audited_captures.specs.declared.words.Body.{Body}
+use Rattle.audited_captures.{specs.declared.words.Body.{Body}, specs.declared.words.Word.{Word}}
 use Rattle.audited_captures.specs.declared.words.Body.TheVariants as body
-use Rattle.audited_captures.specs.declared.words.Word.{Word}
 
 -- a control message asks or answers; or a part of a record is asked for, or told by all bytes of the answer
 pub data BodyValue : Type 0 where

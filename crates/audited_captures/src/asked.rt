@@ -1,9 +1,6 @@
 //! What was asked of a device, and whether it answered.
 ghost use Rattle.std.specs.Prelude.{◌≡◌, IfOk, length, map};
-ghost use Rattle.audited_captures.specs.Asked.{is_asked, requests_to, unanswered};
-ghost use Rattle.audited_captures.specs.Exchanges.{exchange_value};
-ghost use Rattle.audited_captures.specs.RecordParts.{record_part_value};
-ghost use Rattle.audited_captures.specs.Words.{word_value};
+ghost use Rattle.audited_captures.{specs.Asked.{is_asked, requests_to, unanswered}, specs.Exchanges.{exchange_value}, specs.RecordParts.{record_part_value}, specs.Words.{word_value}};
 
 use crate::exchanges::Exchange;
 use crate::identities::{answers_of, is_device};

@@ -1,30 +1,23 @@
 //! What captured devices said, laid beside a plan.
-ghost use Rattle.std.specs.Prelude.{◌≡◌, ◌++◌, ◌<◌, ◌+◌, ◌==◌, ◌&&◌, IfOk, OnOk, map, length, slice_get, Some, string_bytes, codes, ◌∷◌, []};
-ghost use Rattle.std.specs.List.{flat_map};
+ghost use Rattle.std.{specs.Prelude.{◌≡◌, ◌++◌, ◌<◌, ◌≤◌, ◌+◌, ◌==◌, ◌&&◌, IfOk, OnOk, map, length, slice_get, Some, string_bytes, codes, ◌∷◌, []}, specs.List.{flat_map}};
 ghost use Rattle.bus_captures.specs.Values.{entry_value as bus_entry_value};
 ghost use Rattle.plan_values.specs.NodeValues.{name_bytes};
 ghost use Rattle.mctp_control.specs.RouteEntries.{entry_value};
-ghost use Rattle.audited_captures.specs.Exchanges.{exchange_value};
+ghost use Rattle.audited_captures.{specs.Exchanges.{exchange_value}, specs.Lines.{line_value, silence}, specs.Answers.{answer_values}, specs.Identities.{answers_of}, specs.Audits.{HasTables, answered_lines, said_lines, quiet_text, lines_of_node, AreNodeLines, AreLines, difference_count, has_compared, one_if, is_match, last_line, whole_line, part_line, text_line, rest_line, audit_text, AreBeside, AreAudited, AreRepositories, heard_of}, specs.RecordParts.{record_part_value}, specs.Refusals.{IsRefusedOf}, specs.Repositories.{repository_values}, specs.Walks.{AreWalksLines}, specs.Words.{word_value}};
 ghost use Rattle.plan_exports.specs.PlannedTables.{HasLawfulRows};
-ghost use Rattle.audited_captures.specs.Lines.{line_value, silence};
-ghost use Rattle.audited_captures.specs.Answers.{answer_values};
-ghost use Rattle.audited_captures.specs.Identities.{answers_of};
-ghost use Rattle.audited_captures.specs.Audits.{HasTables, answered_lines, said_lines, quiet_text, lines_of_node, AreNodeLines, AreLines, difference_count, has_compared, is_match, last_line, whole_line, part_line, text_line, rest_line, audit_text, AreBeside, AreAudited, AreRepositories, heard_of};
-ghost use Rattle.audited_captures.specs.RecordParts.{record_part_value};
-ghost use Rattle.audited_captures.specs.Repositories.{repository_values};
-ghost use Rattle.audited_captures.specs.Walks.{AreWalksLines};
-ghost use Rattle.audited_captures.specs.Words.{word_value};
 ghost use Rattle.pdr_repository.specs.Records.{entries};
 
 use crate::asked::unanswered;
 use crate::exchanges::{Exchange, exchanges_of};
 use crate::identities::{answers_of, eid_lines, pool_lines};
-use crate::lines::{Line, silence};
+use crate::lines::{Counted, Line, silence};
 use crate::readings::parts_of;
 use crate::record_parts::{RecordPart, record_parts_of};
+use crate::refusals::{refusals_of, refused_lines};
 use crate::routes::routes_lines;
 use crate::strangers::stranger_lines;
-use crate::traffic_lines::traffic_lines;
+use crate::sums::{Sum, sum_words};
+use crate::traffic_lines::{traffic_lines, unit_of};
 use crate::walks::walks_lines;
 use crate::words::{Word, words_of};
 use bus_captures::{Capture, End};
@@ -35,62 +28,106 @@ use plan_exports::planned_entries;
 use plan_values::{Node, Plan};
 use std::alloc::{AllocError, Global};
 
+/// What was captured, laid beside a plan: the lines, and what it has seen in numbers.
+#[derive(Debug, Drop)]
+pub struct Audit {
+    pub lines: Vec<Line>,
+    pub sum: Sum,
+}
+
 /// What was captured, laid beside a checked plan: the lines of what each node said, in the plan's order, behind them
-/// those of devices that took an endpoint ID that no node holds, and last those of the packets that the plan doesn't
-/// have on the bus, or on any bus where none is given. The repositories are the nodes' records by place, as handles and
-/// bytes.
-pub fn audited_lines(
+/// those of devices that took an endpoint ID that no node holds, then those of the packets that the plan doesn't have on
+/// the bus, or on any bus where none is given, and last a remark on what was refused. The repositories are the nodes'
+/// records by place, as handles and bytes.
+pub fn audited(
     alloc: Global,
     checked: &Checked,
     repositories: &[Vec<(u32, Vec<u8>)>],
     bus: Option<usize>,
     capture: &Capture,
-) -> Result<Vec<Line>, AllocError>
+) -> Result<Audit, AllocError>
     requires { AreRepositories checked.now.0 checked.now.1 (length checked.now.0.nodes.items) (repository_values repositories.now) }
-    ensures { IfOk result (λ lines. AreAudited checked.now.0 checked.now.1 bus (map bus_entry_value capture.now.entries.items) (map line_value lines.items)) }
+    ensures { IfOk result (λ audit. AreAudited checked.now.0 checked.now.1 bus (map bus_entry_value capture.now.entries.items) (map line_value audit.lines.items) audit.sum) }
 {
-    let mut lines = lines_of_capture(alloc, checked.plan(), repositories, capture)?;
+    let mut told = lines_of_capture(alloc, checked.plan(), repositories, capture)?;
     let mut traffic = traffic_lines(alloc, checked, bus, capture)?;
-    lines.append(&mut traffic)?;
-    Ok(lines)
+    let mut refused = lines_of_refused(alloc, checked, capture)?;
+    told.lines.append(&mut traffic.lines)?;
+    told.lines.append(&mut refused.lines)?;
+    Ok(Audit {
+        lines: told.lines,
+        sum: Sum {
+            compared: told.count,
+            nodes: checked.plan().nodes.len(),
+            packets: traffic.count,
+            refused: refused.count,
+        },
+    })
 }
 
+/// The remark on what was refused, and how much that is.
+fn lines_of_refused(
+    alloc: Global,
+    checked: &Checked,
+    capture: &Capture,
+) -> Result<Counted, AllocError>
+    ensures { IfOk result (λ refused. IsRefusedOf checked.now.0.unit (map bus_entry_value capture.now.entries.items) (map line_value refused.lines.items) refused.count) }
+{
+    let refusals = refusals_of(alloc, unit_of(checked), capture)?;
+    let lines = refused_lines(alloc, &refusals)?;
+    Ok(Counted {
+        lines,
+        count: refusals.len(),
+    })
+}
+
+/// The lines of nodes and of devices that none of them stands for, and how many nodes were compared.
 fn lines_of_capture(
     alloc: Global,
     plan: &Plan,
     repositories: &[Vec<(u32, Vec<u8>)>],
     capture: &Capture,
-) -> Result<Vec<Line>, AllocError>
+) -> Result<Counted, AllocError>
     requires tables { HasTables plan.now }
     requires stored { length repositories.now ≡ length plan.now.nodes.items }
-    ensures { IfOk result (λ lines. AreBeside plan.now (repository_values repositories.now) (map bus_entry_value capture.now.entries.items) (map line_value lines.items)) }
+    ensures { IfOk result (λ told. AreBeside plan.now (repository_values repositories.now) (map bus_entry_value capture.now.entries.items) (map line_value told.lines.items) told.count) }
 {
     let messages = heard_messages(alloc, usize::from(plan.unit), capture)?;
     let words = words_of(alloc, &messages)?;
     let exchanges = exchanges_of(alloc, &words)?;
-    let mut lines = lines_of_nodes(alloc, plan, repositories, &words, &exchanges)?;
+    let mut told = lines_of_nodes(alloc, plan, repositories, &words, &exchanges)?;
     let mut strangers = stranger_lines(alloc, plan, &exchanges)?;
-    lines.append(&mut strangers)?;
-    Ok(lines)
+    told.lines.append(&mut strangers)?;
+    Ok(told)
 }
 
+/// The lines of all nodes, and of how many of them some line tells of a comparison.
 fn lines_of_nodes(
     alloc: Global,
     plan: &Plan,
     repositories: &[Vec<(u32, Vec<u8>)>],
     words: &[Word],
     exchanges: &[Exchange],
-) -> Result<Vec<Line>, AllocError>
+) -> Result<Counted, AllocError>
     requires tables { HasTables plan.now }
     requires stored { length repositories.now ≡ length plan.now.nodes.items }
-    ensures { IfOk result (λ lines. AreLines plan.now (repository_values repositories.now) (heard_of (map word_value words.now) (map exchange_value exchanges.now)) (length plan.now.nodes.items) (map line_value lines.items)) }
+    ensures { IfOk result (λ told. AreLines plan.now (repository_values repositories.now) (heard_of (map word_value words.now) (map exchange_value exchanges.now)) (length plan.now.nodes.items) (map line_value told.lines.items) told.count) }
 {
     let mut lines = Vec::new(alloc);
+    let mut count = 0;
     for n in 0..plan.nodes.len() {
         let mut more = lines_of_node(alloc, plan, n, repositories, words, exchanges)?;
+        count += one_if(has_compared(&more));
         lines.append(&mut more)?;
     }
-    Ok(lines)
+    Ok(Counted { lines, count })
+}
+
+fn one_if(is: bool) -> usize
+    ensures is { result ≡ one_if is }
+    ensures within { result ≤ 1 }
+{
+    if is { 1 } else { 0 }
 }
 
 /// The lines of the node at an index.
@@ -233,14 +270,14 @@ pub fn is_match(lines: &[Line]) -> bool
 }
 
 /// The text of an audit: its lines, where the capture was not read to its end, and last whether all that was captured
-/// is planned, or how many lines tell a difference. What was read in part is never told as a match, nor is a capture of
-/// which nothing could be laid beside the plan.
-pub fn audit_text(alloc: Global, lines: &[Line], end: End) -> Result<String, AllocError>
-    ensures { IfOk result (λ text. string_bytes text ≡ audit_text (map line_value lines.now) end) }
+/// is planned, or how many lines tell a difference, with the numbers behind it. What was read in part is never told as a
+/// match, nor is a capture of which nothing could be laid beside the plan.
+pub fn audit_text(alloc: Global, audit: &Audit, end: End) -> Result<String, AllocError>
+    ensures { IfOk result (λ text. string_bytes text ≡ audit_text (map line_value audit.now.lines.items) audit.now.sum end) }
 {
-    let told = text_of_lines(alloc, lines)?;
+    let told = text_of_lines(alloc, &audit.lines)?;
     let rest = rest_line(alloc, end)?;
-    let last = last_line(alloc, end, lines)?;
+    let last = last_line(alloc, end, &audit.lines, audit.sum)?;
     format!(in alloc; "{told}{rest}{last}")
 }
 
@@ -265,30 +302,32 @@ fn rest_line(alloc: Global, end: End) -> Result<String, AllocError>
     }
 }
 
-fn last_line(alloc: Global, end: End, lines: &[Line]) -> Result<String, AllocError>
-    ensures { IfOk result (λ line. string_bytes line ≡ last_line end (map line_value lines.now)) }
+fn last_line(alloc: Global, end: End, lines: &[Line], sum: Sum) -> Result<String, AllocError>
+    ensures { IfOk result (λ line. string_bytes line ≡ last_line end (map line_value lines.now) sum) }
 {
     match end {
-        End::Whole => whole_line(alloc, lines),
-        End::Full | End::Broken { .. } => part_line(alloc, difference_count(lines)),
+        End::Whole => whole_line(alloc, lines, sum),
+        End::Full | End::Broken { .. } => part_line(alloc, difference_count(lines), sum),
     }
 }
 
-fn part_line(alloc: Global, count: usize) -> Result<String, AllocError>
-    ensures { IfOk result (λ line. string_bytes line ≡ part_line count) }
+fn part_line(alloc: Global, count: usize, sum: Sum) -> Result<String, AllocError>
+    ensures { IfOk result (λ line. string_bytes line ≡ part_line count sum) }
 {
-    format!(in alloc; "audit incomplete {count}\n")
+    let numbers = sum_words(alloc, sum)?;
+    format!(in alloc; "audit incomplete {count}{numbers}")
 }
 
-fn whole_line(alloc: Global, lines: &[Line]) -> Result<String, AllocError>
-    ensures { IfOk result (λ line. string_bytes line ≡ whole_line (map line_value lines.now)) }
+fn whole_line(alloc: Global, lines: &[Line], sum: Sum) -> Result<String, AllocError>
+    ensures { IfOk result (λ line. string_bytes line ≡ whole_line (map line_value lines.now) sum) }
 {
+    let numbers = sum_words(alloc, sum)?;
     if is_match(lines) {
-        return String::from_str(alloc, "audit match\n");
+        return format!(in alloc; "audit match{numbers}");
     }
     let count = difference_count(lines);
     if count == 0 {
-        return String::from_str(alloc, "audit saw nothing of the plan\n");
+        return format!(in alloc; "audit saw nothing of the plan{numbers}");
     }
-    format!(in alloc; "audit differs {count}\n")
+    format!(in alloc; "audit differs {count}{numbers}")
 }

@@ -1,7 +1,6 @@
 //! How many packets went from each endpoint ID to each.
 ghost use Rattle.std.specs.Prelude.{◌≡◌, ◌+◌, ◌<◌, ◌==◌, ◌++◌, ◌∷◌, [], ℕ, IfOk, OnOk, List, map, length, slice_index_or, slice_set, if◌then◌else◌};
-ghost use Rattle.audited_captures.specs.Packets.{NumberedPacket, numbered_packet, count_like, AreFirst};
-ghost use Rattle.audited_captures.specs.Counts.{place_of, AreCounts};
+ghost use Rattle.audited_captures.{specs.Packets.{NumberedPacket, numbered_packet, count_like, AreFirst}, specs.Counts.{place_of, AreCounts}};
 
 use crate::packets::CapturedPacket;
 use std::alloc::{AllocError, Global};
@@ -19,8 +18,7 @@ pub struct FirstPackets {
 
 impl FirstPackets {
     ghost use Rattle.std.specs.Prelude.{◌≡◌, ◌<◌, List, length};
-    ghost use Rattle.audited_captures.specs.Packets.{NumberedPacket, numbered_packet, count_like};
-    ghost use Rattle.audited_captures.specs.Counts.{AreCounts};
+    ghost use Rattle.audited_captures.{specs.Packets.{NumberedPacket, numbered_packet, count_like}, specs.Counts.{AreCounts}};
 
     /// How many packets went the way of this one, itself among them.
     pub fn count_like(&self, packet: &CapturedPacket) -> usize

@@ -1,7 +1,6 @@
 //! Requests of control messages with the responses to them.
 ghost use Rattle.std.specs.Prelude.{◌≡◌, ◌&&◌, ◌++◌, ◌==◌, ◌||◌, IfOk, OnOk, map, option_map, option_to_list};
-ghost use Rattle.audited_captures.specs.Words.{word_value};
-ghost use Rattle.audited_captures.specs.Exchanges.{concerns, last_that, exchange_value, exchange_of, AreExchanges};
+ghost use Rattle.audited_captures.{specs.Words.{word_value}, specs.Exchanges.{concerns, last_that, exchange_value, exchange_of, AreExchanges}};
 
 use crate::words::{Body, Word};
 use mctp_control::{ControlAnswer, ControlCommand};

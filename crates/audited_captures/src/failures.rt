@@ -1,12 +1,8 @@
 //! Answers that fail, and what is told of them (DSP0236, "MCTP control message completion codes").
-ghost use Rattle.std.specs.Prelude.{◌≡◌, ◌∷◌, ◌++◌, [], IfOk, OnOk, map, string_bytes, codes};
-ghost use Rattle.std.specs.List.{flat_map};
+ghost use Rattle.std.{specs.Prelude.{◌≡◌, ◌∷◌, ◌++◌, [], IfOk, OnOk, map, string_bytes, codes}, specs.List.{flat_map}};
 ghost use Rattle.hex.specs.Hex.{encode_lower};
 ghost use Rattle.mctp_control.specs.Responses.{answer_value};
-ghost use Rattle.audited_captures.specs.Answers.{answer_values};
-ghost use Rattle.audited_captures.specs.Failures.{is_of, code_if, failures_of, failures_in, code_words, failed_text, failed_finding, failed_lines};
-ghost use Rattle.audited_captures.specs.Lines.{line_value};
-ghost use Rattle.audited_captures.specs.Readings.{part_value};
+ghost use Rattle.audited_captures.{specs.Answers.{answer_values}, specs.Failures.{is_of, code_if, failures_of, failures_in, code_words, failed_text, failed_finding, failed_lines}, specs.Lines.{line_value}, specs.Readings.{part_value}};
 
 use crate::lines::{Finding, Line};
 use crate::readings::Part;

@@ -1,15 +1,9 @@
 //! What devices said of their endpoint IDs and pools, beside the plan (DSP0236, "Set Endpoint ID", "Get Endpoint ID",
 //! "Allocate Endpoint IDs").
-ghost use Rattle.std.specs.Prelude.{◌≡◌, ◌≤◌, ◌+◌, ◌++◌, ◌==◌, ◌||◌, IfOk, OnOk, map, string_bytes, codes};
-ghost use Rattle.mctp_control.specs.Requests.{command_value};
-ghost use Rattle.mctp_control.specs.Responses.{answer_value};
-ghost use Rattle.audited_captures.specs.Exchanges.{exchange_value};
-ghost use Rattle.std.specs.Fmt.{decimal};
-ghost use Rattle.audited_captures.specs.Failures.{failures_of, failed_lines};
+ghost use Rattle.std.{specs.Prelude.{◌≡◌, ◌≤◌, ◌+◌, ◌++◌, ◌==◌, ◌||◌, IfOk, OnOk, map, string_bytes, codes}, specs.Fmt.{decimal}};
+ghost use Rattle.mctp_control.{specs.Requests.{command_value}, specs.Responses.{answer_value}};
+ghost use Rattle.audited_captures.{specs.Exchanges.{exchange_value}, specs.Failures.{failures_of, failed_lines}, specs.Lines.{line_value, note}, specs.Identities.{answered_by, is_answer_of, kind_number, kind_word, eid_line, kind_line, identity_lines, tells_eid, span_words, first_of, size_of, same_span, pool_line, pool_lines_of, tells_pool, told_lines, eid_lines, pool_lines, answers_of, answer_if}, specs.Answers.{answer_values}};
 ghost use Rattle.audited_captures.specs.declared.failures.Topic.TheVariants as topic;
-ghost use Rattle.audited_captures.specs.Lines.{line_value, note};
-ghost use Rattle.audited_captures.specs.Identities.{answered_by, is_answer_of, kind_number, kind_word, eid_line, kind_line, identity_lines, tells_eid, span_words, first_of, size_of, same_span, pool_line, pool_lines_of, tells_pool, told_lines, eid_lines, pool_lines, answers_of, answer_if};
-ghost use Rattle.audited_captures.specs.Answers.{answer_values};
 
 use crate::exchanges::Exchange;
 use crate::failures::{Topic, failed_lines, failures_of};

@@ -1,7 +1,5 @@
 //! Laws of audits. The functions do nothing: their contracts are the laws.
-ghost use Rattle.audited_captures.specs.AsPlanned.{MatchesWhereAsPlanned};
-ghost use Rattle.audited_captures.specs.Forwarding.{TablesForward, AuditsForward};
-ghost use Rattle.audited_captures.specs.Matching.{NodesMatchWhereAsPlanned, NodesCompareWhereHeard, TrafficMatchesWhereAsPlanned, AuditMatches, MatchesAudit};
+ghost use Rattle.audited_captures.{specs.AsPlanned.{MatchesWhereAsPlanned}, specs.Forwarding.{TablesForward, AuditsForward}, specs.Matching.{NodesMatchWhereAsPlanned, NodesCompareWhereHeard, TrafficMatchesWhereAsPlanned, AuditMatches, MatchesAudit}};
 
 /// What was read of a routing table tells no difference exactly where it is what is planned: each planned entry was
 /// read, each that was read is planned, and none was read twice.

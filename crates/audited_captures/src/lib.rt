@@ -14,17 +14,20 @@ mod places;
 mod readings;
 mod record_lines;
 mod record_parts;
+mod refusals;
 mod routes;
 mod strangers;
+mod sums;
 mod traffic;
 mod traffic_lines;
 mod walking;
 mod walks;
 mod words;
 
-pub use audits::{audit_text, audited_lines, is_match};
+pub use audits::{Audit, audit_text, audited, is_match};
 pub use laws::{
     audits_match_where_as_planned, matches_where_as_planned, nodes_compare_where_heard,
     nodes_match_where_as_planned, told_tables_forward_as_planned, traffic_matches_where_as_planned,
 };
 pub use lines::{Finding, Line};
+pub use sums::Sum;

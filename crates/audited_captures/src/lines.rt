@@ -7,7 +7,7 @@ use std::alloc::{AllocError, Global};
 /// What a line says of what was captured beside what is planned.
 #[derive(Clone, Copy, Debug)]
 pub enum Finding {
-    /// Nothing was captured that could be laid beside the plan.
+    /// It compares nothing: nothing was captured that could be laid beside the plan, or it is a remark.
     Silent,
     /// It is as planned.
     AsPlanned,
@@ -20,6 +20,13 @@ pub enum Finding {
 pub struct Line {
     pub text: String,
     pub finding: Finding,
+}
+
+/// Lines, and the number of what they tell of.
+#[derive(Debug, Drop)]
+pub struct Counted {
+    pub lines: Vec<Line>,
+    pub count: usize,
 }
 
 impl Line {
@@ -68,7 +75,7 @@ pub fn differences_or(text: String, mut lines: Vec<Line>) -> Result<Vec<Line>, A
     Ok(lines)
 }
 
-/// The one line that says that nothing was captured.
+/// One line that compares nothing.
 pub fn silence(alloc: Global, text: String) -> Result<Vec<Line>, AllocError>
     ensures { IfOk result (λ all. map line_value all.items ≡ silence (string_bytes text) ∷ []) }
 {

@@ -2,8 +2,7 @@
 ghost use Rattle.std.specs.Prelude.{◌≡◌, ◌++◌, ◌∷◌, [], IfOk, OnOk, MatchOption, map};
 ghost use Rattle.bus_captures.specs.Values.{entry_value};
 ghost use Rattle.mctp_transport.specs.PacketValues.{PacketValue, IsUnit, Spelled};
-ghost use Rattle.audited_captures.specs.Packets.{numbered_packet, numbered, IsPacket, IsNoPacket, ArePackets};
-ghost use Rattle.audited_captures.specs.PacketSteps.{AddsPacket};
+ghost use Rattle.audited_captures.{specs.Packets.{numbered_packet, numbered, IsPacket, IsNoPacket, ArePackets}, specs.PacketSteps.{AddsPacket}};
 
 use bus_captures::{Capture, Entry, Kind};
 use mctp_transport::{Eid, PacketView};

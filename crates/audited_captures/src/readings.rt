@@ -1,10 +1,7 @@
 //! What requesters read of a bridge's routing table (DSP0236, "Get Routing Table Entries").
 ghost use Rattle.std.specs.Prelude.{◌≡◌, ◌++◌, IfOk, OnOk, map};
-ghost use Rattle.mctp_control.specs.RouteEntries.{entry_value};
-ghost use Rattle.mctp_control.specs.Responses.{EntriesTold};
-ghost use Rattle.audited_captures.specs.Exchanges.{exchange_value};
-ghost use Rattle.audited_captures.specs.Readings.{part_value, part_of, parts_of, turn_by, turn_of, read_from};
-ghost use Rattle.audited_captures.specs.Turns.{Takes, entry_values, reading_value};
+ghost use Rattle.mctp_control.{specs.RouteEntries.{entry_value}, specs.Responses.{EntriesTold}};
+ghost use Rattle.audited_captures.{specs.Exchanges.{exchange_value}, specs.Readings.{part_value, part_of, parts_of, turn_by, turn_of, read_from}, specs.Turns.{Takes, entry_values, reading_value}};
 
 use crate::exchanges::Exchange;
 use mctp_control::{ControlAnswer, ControlCommand, RouteEntry};

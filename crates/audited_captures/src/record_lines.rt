@@ -1,11 +1,7 @@
 //! Records that walks brought, beside those of the plan.
-ghost use Rattle.std.specs.Prelude.{ℕ, List, ◌≡◌, ◌+◌, ◌++◌, ◌∷◌, ◌==◌, [], IfOk, OnOk, MatchOption, find, length, map, option_map, slice_index, string_bytes, true, false, unwrap_or};
-ghost use Rattle.std.specs.List.{flat_map, list_any};
-ghost use Rattle.pdr_repository.specs.Faults.{code_of};
-ghost use Rattle.pdr_repository.specs.Records.{Entry, entry_of, entries, handle_in};
-ghost use Rattle.audited_captures.specs.Lines.{line_value, difference, differences_or};
-ghost use Rattle.audited_captures.specs.RecordLines.{unlike_from, record_words, line_if_unlike_at, line_of_found, found_lines, is_found, missing_lines, unlike_records, are_planned, records_match, order_line, open_line, stopped_line, whole_lines, walk_lines};
-ghost use Rattle.audited_captures.specs.Walking.{walked_value};
+ghost use Rattle.std.{specs.Prelude.{ℕ, List, ◌≡◌, ◌+◌, ◌++◌, ◌∷◌, ◌==◌, [], IfOk, OnOk, MatchOption, find, length, map, option_map, slice_index, string_bytes, true, false, unwrap_or}, specs.List.{flat_map, list_any}};
+ghost use Rattle.pdr_repository.{specs.Faults.{code_of}, specs.Records.{Entry, entry_of, entries, handle_in}};
+ghost use Rattle.audited_captures.{specs.Lines.{line_value, difference, differences_or}, specs.RecordLines.{unlike_from, record_words, line_if_unlike_at, line_of_found, found_lines, is_found, missing_lines, unlike_records, are_planned, records_match, order_line, open_line, stopped_line, whole_lines, walk_lines}, specs.Walking.{walked_value}};
 
 use crate::lines::{Line, add_difference, differences_or};
 use crate::walking::Ending;

@@ -1,8 +1,6 @@
 //! Requests for parts of records with the answers to them (DSP0248, GetPDR).
 ghost use Rattle.std.specs.Prelude.{◌≡◌, ◌++◌, IfOk, OnOk, map, option_map, option_to_list};
-ghost use Rattle.audited_captures.specs.Words.{word_value};
-ghost use Rattle.audited_captures.specs.Exchanges.{concerns, last_that};
-ghost use Rattle.audited_captures.specs.RecordParts.{record_part_value, part_ended, record_part_of, AreRecordParts};
+ghost use Rattle.audited_captures.{specs.Words.{word_value}, specs.Exchanges.{concerns, last_that}, specs.RecordParts.{record_part_value, part_ended, record_part_of, AreRecordParts}};
 
 use crate::exchanges::last_concerned;
 use crate::words::{Body, Word};

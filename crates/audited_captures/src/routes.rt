@@ -1,12 +1,7 @@
 //! Routing table entries that were read, beside those of the plan.
-ghost use Rattle.std.specs.Prelude.{◌≡◌, ◌++◌, ◌∷◌, [], ◌==◌, ◌&&◌, not, false, codes, IfOk, OnOk, map, find, option_map, string_bytes, nat_eq};
-ghost use Rattle.std.specs.Cmp.Lexicographic.{pointwise};
+ghost use Rattle.std.{specs.Prelude.{◌≡◌, ◌++◌, ◌∷◌, [], ◌==◌, ◌&&◌, not, false, codes, IfOk, OnOk, map, find, option_map, string_bytes, nat_eq}, specs.Cmp.Lexicographic.{pointwise}};
 ghost use Rattle.mctp_control.specs.RouteEntries.{entry_value};
-ghost use Rattle.audited_captures.specs.Failures.{failures_in, failed_lines};
-ghost use Rattle.audited_captures.specs.Lines.{line_value};
-ghost use Rattle.audited_captures.specs.Readings.{Read, part_value, readings};
-ghost use Rattle.audited_captures.specs.Turns.{entry_values};
-ghost use Rattle.audited_captures.specs.Routes.{same_range, has_range, range_words, unlike_number, address_words, unlike_address, unlike, line_if_unlike, line_beside, planned_lines, lines_if_extra, extra_lines, unlike_lines, reading_lines, begun_lines, readings_lines, routes_lines, incomplete_line, unlike_line};
+ghost use Rattle.audited_captures.{specs.Failures.{failures_in, failed_lines}, specs.Lines.{line_value}, specs.Readings.{Read, part_value, readings}, specs.Turns.{entry_values}, specs.Routes.{same_range, has_range, range_words, unlike_number, address_words, unlike_address, unlike, line_if_unlike, line_beside, planned_lines, lines_if_extra, extra_lines, unlike_lines, reading_lines, begun_lines, readings_lines, routes_lines, incomplete_line, unlike_line}};
 
 use crate::failures::{failed_lines, failures_in};
 use crate::lines::{Line, add_difference, differences_or};

@@ -1,10 +1,7 @@
 //! Endpoint IDs that devices took and that no node of the plan holds (DSP0236, "Set Endpoint ID").
 ghost use Rattle.std.specs.Prelude.{◌≡◌, ◌∷◌, [], IfOk, MatchOption, map, option_map, string_bytes};
-ghost use Rattle.mctp_control.specs.Requests.{command_value};
-ghost use Rattle.mctp_control.specs.Responses.{answer_value};
-ghost use Rattle.audited_captures.specs.Exchanges.{exchange_value};
-ghost use Rattle.audited_captures.specs.Lines.{line_value, difference};
-ghost use Rattle.audited_captures.specs.Strangers.{asked_eid, taken_eid, IsStranger, IsOfNone, stranger_line, AreLinesOf, AreStrangerLines};
+ghost use Rattle.mctp_control.{specs.Requests.{command_value}, specs.Responses.{answer_value}};
+ghost use Rattle.audited_captures.{specs.Exchanges.{exchange_value}, specs.Lines.{line_value, difference}, specs.Strangers.{asked_eid, taken_eid, IsStranger, IsOfNone, stranger_line, AreLinesOf, AreStrangerLines}};
 
 use crate::exchanges::Exchange;
 use crate::lines::{Line, add_difference};

@@ -1,8 +1,7 @@
 //! Which packets a plan has on a bus.
 ghost use Rattle.std.specs.Prelude.{◌≡◌, ◌≢◌, ◌↔◌, IfOk, IsTrue, MatchOption, option_map, true, false};
 ghost use Rattle.net_tables.specs.Routing.{Holds};
-ghost use Rattle.audited_captures.specs.Judging.{unplanned_value, why_by};
-ghost use Rattle.audited_captures.specs.Traffic.{LacksSender, LacksReceiver, is_over, is_one_over, IsPlanned, IsJudged};
+ghost use Rattle.audited_captures.{specs.Judging.{unplanned_value, why_by}, specs.Traffic.{LacksSender, LacksReceiver, is_over, is_one_over, IsPlanned, IsJudged}};
 
 use mctp_transport::Eid;
 use net_check::Checked;

@@ -1,19 +1,13 @@
 //! What is told of packets that aren't planned.
-ghost use Rattle.std.specs.Prelude.{◌≡◌, ◌++◌, ◌==◌, IfOk, OnOk, List, map, length, option_map, string_bytes, codes};
-ghost use Rattle.std.specs.Fmt.{decimal};
-ghost use Rattle.std.specs.List.{flat_map};
+ghost use Rattle.std.{specs.Prelude.{◌≡◌, ◌++◌, ◌==◌, IfOk, OnOk, List, map, length, option_map, string_bytes, codes}, specs.Fmt.{decimal}, specs.List.{flat_map}};
 ghost use Rattle.bus_captures.specs.Values.{entry_value};
 ghost use Rattle.mctp_transport.specs.PacketValues.{IsUnit};
 ghost use Rattle.net_questions.specs.declared.step.WayStep.{WayStep};
 ghost use Rattle.net_tables.specs.Names.{node_name, bus_name};
-ghost use Rattle.audited_captures.specs.Counts.{AreCounts};
-ghost use Rattle.audited_captures.specs.Judging.{unplanned_value};
-ghost use Rattle.audited_captures.specs.Lines.{line_value, difference};
-ghost use Rattle.audited_captures.specs.Packets.{NumberedPacket, numbered_packet};
-ghost use Rattle.audited_captures.specs.TrafficLines.{IsNameOf, bus_text, step_bus, by_words, over_words, nobody_words, why_words, more_words, IsLineOf, IsOneLine, AreLinesOf, AreTrafficLines, IsTraffic};
+ghost use Rattle.audited_captures.{specs.Counts.{AreCounts}, specs.Judging.{unplanned_value}, specs.Lines.{line_value, difference}, specs.Packets.{NumberedPacket, numbered_packet}, specs.TrafficLines.{IsNameOf, bus_text, step_bus, by_words, over_words, nobody_words, why_words, more_words, IsLineOf, IsOneLine, AreLinesOf, AreTrafficLines, IsTrafficOf}};
 
 use crate::counts::{FirstPackets, first_packets};
-use crate::lines::{Line, add_difference};
+use crate::lines::{Counted, Line, add_difference};
 use crate::packets::{CapturedPacket, packets_of};
 use crate::traffic::{Unplanned, judged};
 use bus_captures::Capture;
@@ -25,22 +19,27 @@ use plan_values::Plan;
 use std::alloc::{AllocError, Global};
 
 /// What is told of the packets of a capture that a checked plan doesn't have on a bus, or on any bus where none is
-/// given. A line tells all packets from an endpoint ID to another, in the order of the first packets.
+/// given, and how many packets the capture has. A line tells all packets from an endpoint ID to another, in the order of
+/// the first packets.
 pub fn traffic_lines(
     alloc: Global,
     checked: &Checked,
     bus: Option<usize>,
     capture: &Capture,
-) -> Result<Vec<Line>, AllocError>
-    ensures { IfOk result (λ lines. IsTraffic checked.now.0 bus (map entry_value capture.now.entries.items) (map line_value lines.items)) }
+) -> Result<Counted, AllocError>
+    ensures { IfOk result (λ traffic. IsTrafficOf checked.now.0 bus (map entry_value capture.now.entries.items) (map line_value traffic.lines.items) traffic.count) }
 {
     let packets = packets_of(alloc, unit_of(checked), capture)?;
     let firsts = first_packets(alloc, &packets)?;
-    lines_of_firsts(alloc, checked, bus, &firsts)
+    let lines = lines_of_firsts(alloc, checked, bus, &firsts)?;
+    Ok(Counted {
+        lines,
+        count: packets.len(),
+    })
 }
 
 /// The transmission unit of a checked plan, in bytes.
-fn unit_of(checked: &Checked) -> usize
+pub fn unit_of(checked: &Checked) -> usize
     ensures unit { result ≡ checked.now.0.unit }
     ensures bounds { IsUnit result }
 {

@@ -2,9 +2,7 @@
 ghost use Rattle.std.specs.Prelude.{◌≡◌, ◌≤◌, true, Some, IfOk, map};
 ghost use Rattle.pldm_message.specs.PdrValues.{part_request};
 ghost use Rattle.pdr_repository.specs.WalkerStates.{state_of};
-ghost use Rattle.audited_captures.specs.RecordParts.{record_part_value};
-ghost use Rattle.audited_captures.specs.Walking.{walk_count, fresh_walk, asks_same, is_due, asking, walked_value, Walks};
-ghost use Rattle.audited_captures.specs.WalkTurns.{TakesAnswer, TakesPart, ending_of};
+ghost use Rattle.audited_captures.{specs.RecordParts.{record_part_value}, specs.Walking.{walk_count, fresh_walk, asks_same, is_due, asking, walked_value, Walks}, specs.WalkTurns.{TakesAnswer, TakesPart, ending_of}};
 
 use crate::record_parts::RecordPart;
 use mctp_transport::{Eid, Wire};

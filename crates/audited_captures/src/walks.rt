@@ -1,10 +1,7 @@
 //! What is told of the walks through a node's records.
 ghost use Rattle.std.specs.Prelude.{◌≡◌, IfOk, map};
 ghost use Rattle.pdr_repository.specs.Records.{entries};
-ghost use Rattle.audited_captures.specs.Lines.{line_value};
-ghost use Rattle.audited_captures.specs.RecordParts.{record_part_value};
-ghost use Rattle.audited_captures.specs.Walking.{begins};
-ghost use Rattle.audited_captures.specs.Walks.{IsWalkLines, AreWalksLines};
+ghost use Rattle.audited_captures.{specs.Lines.{line_value}, specs.RecordParts.{record_part_value}, specs.Walking.{begins}, specs.Walks.{IsWalkLines, AreWalksLines}};
 
 use crate::lines::Line;
 use crate::places::from_place;

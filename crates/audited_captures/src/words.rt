@@ -1,8 +1,7 @@
 //! Messages that were heard, by who asked whom: control messages, and requests for parts of records with their answers.
 ghost use Rattle.std.specs.Prelude.{◌≡◌, ◌++◌, ℕ, true, false, IfOk, OnOk, MatchOption, map};
 ghost use Rattle.heard_captures.specs.Messages.{message_value};
-ghost use Rattle.mctp_control.specs.Requests.{command_value};
-ghost use Rattle.mctp_control.specs.Responses.{answer_value};
+ghost use Rattle.mctp_control.{specs.Requests.{command_value}, specs.Responses.{answer_value}};
 ghost use Rattle.audited_captures.specs.Words.{WordValue, word_value, number_asked, number_answered, IsRequestWord, IsResponseWord, IsAskingWord, IsTellingWord, IsPartHeader, told_part, IsWord, IsNoWord, AddsWord, AreWords};
 ghost use Rattle.pldm_message.specs.HeaderValues.{header_value};
 

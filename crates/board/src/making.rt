@@ -1,5 +1,7 @@
 //! Making a plan of a board.
 mod eids;
+mod handles;
+mod keeping;
 mod pools;
 mod records;
 mod rows;
@@ -8,7 +10,7 @@ mod ways;
 use crate::board::{Board, BoardNode, BoardRow, RecordFile};
 use crate::writing::plan_text;
 use eids::choose_eids;
-use plan_values::Kind;
+use plan_values::{Kind, Plan};
 use pools::Runs;
 use records::make_records;
 pub use records::named_files;
@@ -103,14 +105,19 @@ pub struct Cut {
     pub to: usize,
 }
 
-/// The text of a plan that is made of a board, whose records may name these files, or why none is made. Nothing of the
-/// plan is promised here.
-pub fn made_plan(alloc: Global, board: &Board, files: &[RecordFile]) -> Result<Made, NoPlan> {
-    let first = made_with(alloc, board, files, Runs::Free)?;
+/// The text of a plan that is made of a board, whose records may name these files, or why none is made. What the board
+/// leaves open stays as in an earlier plan, where it can. Nothing of the plan is promised here.
+pub fn made_plan(
+    alloc: Global,
+    board: &Board,
+    files: &[RecordFile],
+    old: Option<&Plan>,
+) -> Result<Made, NoPlan> {
+    let first = made_with(alloc, board, files, Runs::Free, old)?;
     if first.cut.is_none() {
         return Ok(first);
     }
-    match made_with(alloc, board, files, Runs::Unrouted) {
+    match made_with(alloc, board, files, Runs::Unrouted, old) {
         Ok(other) if other.cut.is_none() => Ok(other),
         Err(NoPlan::OutOfMemory) => Err(NoPlan::OutOfMemory),
         _ => Ok(first),
@@ -123,11 +130,12 @@ fn made_with(
     board: &Board,
     files: &[RecordFile],
     runs: Runs,
+    old: Option<&Plan>,
 ) -> Result<Made, NoPlan> {
     let net = net_of(alloc, board)?;
-    let chosen = choose_eids(alloc, board, &net, runs)?;
+    let chosen = choose_eids(alloc, board, &net, runs, old)?;
     let made = make_rows(alloc, board, &net, &chosen)?;
-    let records = make_records(alloc, board, files, &chosen)?;
+    let records = make_records(alloc, board, files, &chosen, old)?;
     let text = plan_text(alloc, board, &chosen, &made.rows, &records)?;
     Ok(Made {
         text,
@@ -138,9 +146,9 @@ fn made_with(
 /// The text of a plan that a board gives as a whole, with the rows that it gives and no others.
 pub fn given_plan(alloc: Global, board: &Board) -> Result<String, NoPlan> {
     let net = net_of(alloc, board)?;
-    let chosen = choose_eids(alloc, board, &net, Runs::Free)?;
+    let chosen = choose_eids(alloc, board, &net, Runs::Free, None)?;
     let rows = given_rows(alloc, board)?;
-    let records = make_records(alloc, board, &[], &chosen)?;
+    let records = make_records(alloc, board, &[], &chosen, None)?;
     Ok(plan_text(alloc, board, &chosen, &rows, &records)?)
 }
 

@@ -15,7 +15,7 @@ const A_NAME: &str = "a name of 1 to 32 letters, digits, '-', '_' or '.'";
 
 const A_NODE: &str = "the name of a node";
 
-const A_PORT: &str = "a bus and an address in lower-case hex, as \"i2c0 1d\",";
+const A_PORT: &str = "a bus and an address in lower-case hex, as \"i2c0 3a\",";
 
 const A_ROW: &str = "endpoint IDs, a node and a port from 0 to 31, as \"16-31 via switch port 0\",";
 

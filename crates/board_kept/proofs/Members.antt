@@ -1,7 +1,6 @@
 -- The members of a table, one after another, and the values of a list.
 use Rattle.std.proofs.Common.{◌≡◌, ℕ, List, ◌∷◌, String, Global, string_bytes, sym, subst}
-use Rattle.toml.specs.View.{view, members_view}
-use Rattle.toml.specs.declared.value.Value.{Value}
+use Rattle.toml.{specs.View.{view, members_view}, specs.declared.value.Value.{Value}}
 use Rattle.plan_values.specs.declared.plan.Plan.{Plan}
 use Rattle.record_fields.specs.Named.{Named}
 use Rattle.board_values.specs.Said.{AreKeys}

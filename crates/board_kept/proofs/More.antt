@@ -1,16 +1,10 @@
 -- One index more, and one that is behind the end.
-use Rattle.std.proofs.Common.{◌≡◌, ℕ, ◌+◌, ◌<◌, List, Bool, false, Option, Some, None, IsTrue, IfSome, option_and_then, slice_get, string_bytes, refl, sym, subst, ◌∙◌, inl, inr, arith, codes}
-use Rattle.std.proofs.lemmas.Bool.{cases_lt, cases_Bool, false≢true}
-use Rattle.std.proofs.lemmas.Option.{none-some}
+use Rattle.std.{proofs.Common.{◌≡◌, ℕ, ◌+◌, ◌<◌, List, Bool, false, Option, Some, None, IsTrue, IfSome, option_and_then, slice_get, string_bytes, refl, sym, subst, ◌∙◌, inl, inr, arith, codes}, proofs.lemmas.Bool.{cases_lt, cases_Bool, false≢true}, proofs.lemmas.Option.{none-some}}
 use Rattle.mctp_transport.specs.declared.address.Eid.{Eid}
 use Rattle.toml.specs.Data.{Data, as_str}
-use Rattle.plan_values.specs.declared.plan.Plan.{Plan}
-use Rattle.plan_values.specs.declared.nodes.Node.{Node}
-use Rattle.board_values.specs.Said.{SaysText, item_at}
-use Rattle.plan_values.specs.declared.nodes.Row.{Row}
-use Rattle.board_kept.specs.Fields.{NamesHolder}
-use Rattle.board_kept.specs.Kept.{IsRowKeptAt, IsNameAt}
-use Rattle.board_values.proofs.Beyond.{item_beyond}
+use Rattle.plan_values.{specs.declared.plan.Plan.{Plan}, specs.declared.nodes.Node.{Node}, specs.declared.nodes.Row.{Row}}
+use Rattle.board_values.{specs.Said.{SaysText, item_at}, proofs.Beyond.{item_beyond}}
+use Rattle.board_kept.{specs.Fields.{NamesHolder}, specs.Kept.{IsRowKeptAt, IsNameAt}}
 
 pub one_more : (P : ℕ → Type 0) (i : ℕ) → ((k : ℕ) → k < i → P k) → P i → (k : ℕ) → k < i + 1 → P k
 one_more P i before here k within = elim (cases_lt k i) [

@@ -1,10 +1,7 @@
 -- Two plans of one frame, of whose nodes none is unlike.
 use Rattle.std.proofs.Common.{◌≡◌, ℕ, Option, Some, None, is_some, Bool, IsTrue, not}
-use Rattle.plan_values.specs.NodeValues.{but_rows}
-use Rattle.plan_values.specs.declared.plan.Plan.{Plan}
-use Rattle.plan_values.proofs.SameItems.{same_items}
-use Rattle.net_rules.specs.MoveRules.{HaveSameFrame, IsSameNode}
-use Rattle.net_rules.specs.MoveSearch.{IsFirstUnlike}
+use Rattle.plan_values.{specs.NodeValues.{but_rows}, specs.declared.plan.Plan.{Plan}, proofs.SameItems.{same_items}}
+use Rattle.net_rules.{specs.MoveRules.{HaveSameFrame, IsSameNode}, specs.MoveSearch.{IsFirstUnlike}}
 use Rattle.board_kept.specs.Rowed.{IsSameButRows}
 
 pub same_but_rows : (before after : Plan) (first : Option ℕ) (none : Bool) → HaveSameFrame before after → IsFirstUnlike before after first

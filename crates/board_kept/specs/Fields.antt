@@ -1,14 +1,9 @@
 -- Records that a board gives by the names of their fields.
-use Rattle.std.specs.Prelude.{◌≡◌, ◌≢◌, ◌⊎◌, ℕ, ℤ, nat_eq, if◌then◌else◌}
-use Rattle.std.specs.Prelude.{List, [], ◌∷◌, ◌++◌, codes, length, Option, Some}
-use Rattle.std.specs.Prelude.{None, is_some, slice_get, string_bytes, ⊤}
-use Rattle.std.specs.Fmt.{decimal, signed_decimal}
+use Rattle.std.{specs.Prelude.{◌≡◌, ◌≢◌, ◌⊎◌, ℕ, ℤ, nat_eq, if◌then◌else◌, List, [], ◌∷◌, ◌++◌, codes, length, Option, Some, None, is_some, slice_get, string_bytes, ⊤}, specs.Fmt.{decimal, signed_decimal}}
 use Rattle.toml.specs.Data.{Data, Members, no_members, member, table, at, as_str, as_integer, as_array}
-use Rattle.plan_values.specs.declared.plan.Plan.{Plan}
-use Rattle.plan_values.specs.declared.nodes.Node.{Node}
+use Rattle.plan_values.{specs.declared.plan.Plan.{Plan}, specs.declared.nodes.Node.{Node}}
 use Rattle.pdr_record.specs.Records.{RecordValue, Spelled, type_of}
-use Rattle.record_fields.specs.Named.{Named, named_fields}
-use Rattle.record_fields.specs.Said.{Says, IsTypeWord}
+use Rattle.record_fields.{specs.Named.{Named, named_fields}, specs.Said.{Says, IsTypeWord}}
 
 -- the word that says what the field of the name holds
 abbrev pub word_of : List ℕ → List ℕ → List ℕ

@@ -1,25 +1,12 @@
 -- Which plans keep all that a board gives.
-use Rattle.std.specs.Prelude.{◌≡◌, ◌⊎◌, ℕ, ◌+◌, List, codes, length, Option, Some, None, option_map, unwrap_or}
-use Rattle.std.specs.Prelude.{slice_get, string_bytes}
+use Rattle.std.specs.Prelude.{◌≡◌, ◌⊎◌, ℕ, ◌+◌, List, codes, length, Option, Some, None, option_map, unwrap_or, slice_get, string_bytes}
 use Rattle.hex.specs.Hex.{encode_lower}
 use Rattle.toml.specs.Data.{Data, get}
 use Rattle.board.specs.declared.board.RecordFile.{RecordFile}
-use Rattle.plan_values.specs.declared.plan.Plan.{Plan}
-use Rattle.plan_values.specs.declared.nodes.Bus.{Bus}
-use Rattle.plan_values.specs.declared.nodes.Kind.{Kind}
-use Rattle.plan_values.specs.declared.nodes.Node.{Node}
-use Rattle.plan_values.specs.declared.nodes.Pool.{Pool}
-use Rattle.plan_values.specs.declared.nodes.Port.{Port}
-use Rattle.plan_values.specs.declared.nodes.Row.{Row}
-use Rattle.plan_values.specs.declared.terminus.PlannedRecord.{PlannedRecord}
-use Rattle.plan_values.specs.declared.terminus.PlannedTerminus.{PlannedTerminus}
-use Rattle.board_values.specs.Said.{SaysText, SaysNumber, SaysOr, SaysNoneOr, item_at, IsListAt, HasOnlyKeys}
-use Rattle.board_values.specs.Said.{AreItemsKept}
-use Rattle.board_kept.specs.Keys.{IsBoardKey, IsBusKey, IsNodeKey, IsHexKey, IsFileKey}
-use Rattle.board_values.specs.Eids.{eids_text}
+use Rattle.plan_values.{specs.declared.plan.Plan.{Plan}, specs.declared.nodes.Bus.{Bus}, specs.declared.nodes.Kind.{Kind}, specs.declared.nodes.Node.{Node}, specs.declared.nodes.Pool.{Pool}, specs.declared.nodes.Port.{Port}, specs.declared.nodes.Row.{Row}, specs.declared.terminus.PlannedRecord.{PlannedRecord}, specs.declared.terminus.PlannedTerminus.{PlannedTerminus}}
+use Rattle.board_values.{specs.Said.{SaysText, SaysNumber, SaysOr, SaysNoneOr, item_at, IsListAt, HasOnlyKeys, AreItemsKept}, specs.Eids.{eids_text}}
+use Rattle.board_kept.{specs.Keys.{IsBoardKey, IsBusKey, IsNodeKey, IsHexKey, IsFileKey}, specs.Texts.{binding_word, port_text, row_text}, specs.Fields.{AreFieldsGiven}}
 use Rattle.net_tables.specs.Names.{kind_word, name_of_node}
-use Rattle.board_kept.specs.Texts.{binding_word, port_text, row_text}
-use Rattle.board_kept.specs.Fields.{AreFieldsGiven}
 
 -- the number of a binding, or its word
 abbrev pub SaysBinding : Option Data → ℕ → Type 0
@@ -108,11 +95,11 @@ AreFieldsKept plan bytes d =
 abbrev pub AreBytesKept : List RecordFile → Plan → List ℕ → Data → Type 0
 AreBytesKept files plan bytes d = IsHexKept bytes d ⊎ IsFileKept files bytes d ⊎ AreFieldsKept plan bytes d
 
--- A record, and its place in the list: handles that are left out count from 1, and next handles that are left out
--- follow the list.
+-- A record, and its place in the list: a handle that is left out may be any, and next handles that are left out follow
+-- the list.
 pub record IsRecordKept (files : List RecordFile) (plan : Plan) (records : List PlannedRecord) (j : ℕ)
     (r : PlannedRecord) (d : Data) : Type 0 where
-  pub handle : SaysOr (j + 1) (get (codes "handle") d) r.handle
+  pub handle : SaysNoneOr (get (codes "handle") d) r.handle
   pub next : SaysOr (next_handle records j) (get (codes "next") d) r.next
   pub bytes : AreBytesKept files plan r.bytes.items d
 

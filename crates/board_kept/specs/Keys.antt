@@ -1,7 +1,6 @@
 -- The keys of a board's tables.
 use Rattle.std.specs.Prelude.{◌≡◌, ◌⊎◌, ℕ, List, codes}
-use Rattle.board_kept.specs.declared.keys.Level.{Level}
-use Rattle.board_kept.specs.declared.keys.Level.TheVariants.{Top, OfBus, OfNode, OfHex, OfFile}
+use Rattle.board_kept.{specs.declared.keys.Level.{Level}, specs.declared.keys.Level.TheVariants.{Top, OfBus, OfNode, OfHex, OfFile}}
 
 -- at the top
 abbrev pub IsBoardKey : List ℕ → Type 0

@@ -2,8 +2,7 @@
 use Rattle.std.specs.Prelude.{◌≡◌, ◌⊎◌, ℕ, ◌<◌, List, codes, length, None, Some}
 use Rattle.toml.specs.Data.{Data, get}
 use Rattle.board.specs.declared.board.RecordFile.{RecordFile}
-use Rattle.plan_values.specs.declared.plan.Plan.{Plan}
-use Rattle.plan_values.specs.declared.certificate.Certificate.{Certificate}
+use Rattle.plan_values.{specs.declared.plan.Plan.{Plan}, specs.declared.certificate.Certificate.{Certificate}}
 use Rattle.net_rules.specs.Rules.{Accepts}
 use Rattle.board_values.specs.Said.{SaysText, item_at}
 use Rattle.net_tables.specs.Names.{name_of_node}

@@ -1,12 +1,8 @@
 -- Which plans are another one with rows.
 use Rattle.std.specs.Prelude.{◌≡◌, ℕ, ◌<◌, Some, length, map, slice_get}
-use Rattle.plan_values.specs.NodeValues.{bus_value, row_value}
-use Rattle.plan_values.specs.declared.plan.Plan.{Plan}
-use Rattle.plan_values.specs.declared.certificate.Certificate.{Certificate}
-use Rattle.plan_values.specs.declared.nodes.Row.{Row}
+use Rattle.plan_values.{specs.NodeValues.{bus_value, row_value, but_rows}, specs.declared.plan.Plan.{Plan}, specs.declared.certificate.Certificate.{Certificate}, specs.declared.nodes.Row.{Row}}
 use Rattle.net_tables.specs.Routing.{rows_of}
 use Rattle.net_rules.specs.Rules.{Accepts}
-use Rattle.plan_values.specs.NodeValues.{but_rows}
 use Rattle.net_reached.specs.Wishes.{ReachesNode}
 
 -- The transmission unit, the buses and the nodes are the same, these but for their rows.

@@ -1,11 +1,7 @@
 -- How a board writes what stands in a plan.
-use Rattle.std.specs.Prelude.{ℕ, nat_eq, if◌then◌else◌, List, [], ◌++◌, codes, length, Option, Some}
-use Rattle.std.specs.Prelude.{None, unwrap_or}
-use Rattle.std.specs.Fmt.{decimal}
+use Rattle.std.{specs.Prelude.{ℕ, nat_eq, if◌then◌else◌, List, [], ◌++◌, codes, length, Option, Some, None, unwrap_or}, specs.Fmt.{decimal}}
 use Rattle.hex.specs.Hex.{encode_lower}
-use Rattle.plan_values.specs.declared.plan.Plan.{Plan}
-use Rattle.plan_values.specs.declared.nodes.Port.{Port}
-use Rattle.plan_values.specs.declared.nodes.Row.{Row}
+use Rattle.plan_values.{specs.declared.plan.Plan.{Plan}, specs.declared.nodes.Port.{Port}, specs.declared.nodes.Row.{Row}}
 use Rattle.net_tables.specs.Names.{name_of_bus, name_of_node}
 use Rattle.board_values.specs.Eids.{eids_text}
 

@@ -1,13 +1,9 @@
 //! Whether a record is given by the names of its fields.
 ghost use Rattle.std.specs.Prelude.{◌≡◌, ◌⊎◌, ◌≢◌, ◌∷◌, ◌++◌, [], IfOk, IfSome, IsTrue, OnOk, codes, decimal, map, string_bytes, option_map, option_and_then, slice_get, Some, None};
-ghost use Rattle.toml.specs.Data.{as_str, get};
-ghost use Rattle.toml.specs.View.{view, table_view};
+ghost use Rattle.toml.{specs.Data.{as_str, get}, specs.View.{view, table_view}};
 ghost use Rattle.pdr_record.specs.RecordValues.{record_value};
-ghost use Rattle.record_fields.specs.Meanings.{named_of};
-ghost use Rattle.record_fields.specs.Named.{Named, named_fields};
-ghost use Rattle.record_fields.specs.Said.{Says};
-ghost use Rattle.board_kept.specs.Fields.{word_of, NamesHolder, StandsForText, IsSaidBy, value_at, AreNamed, AddsIfNamed, IsSaidOne, IsSaidAt, AreSaid, IsFieldGiven, IsMemberGiven, AreMembersGiven, IsRecordGiven, AreFieldsGiven};
-ghost use Rattle.board_kept.specs.Kept.{AreFieldsKept};
+ghost use Rattle.record_fields.{specs.Meanings.{named_of}, specs.Named.{Named, named_fields}, specs.Said.{Says}};
+ghost use Rattle.board_kept.{specs.Fields.{word_of, NamesHolder, StandsForText, IsSaidBy, value_at, AreNamed, AddsIfNamed, IsSaidOne, IsSaidAt, AreSaid, IsFieldGiven, IsMemberGiven, AreMembersGiven, IsRecordGiven, AreFieldsGiven}, specs.Kept.{AreFieldsKept}};
 
 use mctp_transport::{Eid, Wire};
 use pdr_record::Record;

@@ -1,7 +1,6 @@
 //! Whether a plan keeps what a board says.
 ghost use Rattle.std.specs.Prelude.{◌≡◌, IfOk, IsTrue, codes};
-ghost use Rattle.toml.specs.Data.{get};
-ghost use Rattle.toml.specs.View.{view};
+ghost use Rattle.toml.{specs.Data.{get}, specs.View.{view}};
 ghost use Rattle.board_values.specs.Said.{IsItemKept, AreItemsKept};
 ghost use Rattle.board_kept.specs.Kept.{SaysBinding, IsBusKept, IsNodeKept, Keeps};
 

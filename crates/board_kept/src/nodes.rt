@@ -1,7 +1,6 @@
 //! Whether a plan keeps what a board says of a node.
 ghost use Rattle.std.specs.Prelude.{◌≡◌, IfOk, IsTrue, codes, option_map, slice_get, Some};
-ghost use Rattle.toml.specs.Data.{get};
-ghost use Rattle.toml.specs.View.{view};
+ghost use Rattle.toml.{specs.Data.{get}, specs.View.{view}};
 ghost use Rattle.board_values.specs.Said.{IsItemKept, AreItemsKept};
 ghost use Rattle.board_kept.specs.Kept.{IsKindKept, IsOwnerKept, SaysPool, IsPoolKept, IsPortKept, IsAmongRows, IsRowKeptAt, AreRowsKept, NamesNode, IsNameAt, AreNamesKept, IsHeadKept, IsNodeKept};
 

@@ -1,14 +1,13 @@
 //! Whether a plan keeps what a board says of a terminus.
 ghost use Rattle.std.specs.Prelude.{◌≡◌, ◌+◌, ◌<◌, ℕ, List, IfOk, IsTrue, codes, length, option_map, slice_get, string_bytes};
-ghost use Rattle.toml.specs.Data.{get};
-ghost use Rattle.toml.specs.View.{view};
-ghost use Rattle.board_values.specs.Said.{SaysOr, SaysText};
+ghost use Rattle.toml.{specs.Data.{get}, specs.View.{view}};
+ghost use Rattle.board_values.specs.Said.{SaysNoneOr, SaysOr, SaysText};
 ghost use Rattle.board_kept.specs.Kept.{next_handle, HaveFile, IsHexKept, IsFileKept, AreBytesKept, IsRecordKept, IsRecordKeptAt, AreRecordsKept, HasNoTerminus, IsTerminusGiven, IsTerminusKept};
 
 use crate::fields::are_fields_given;
 use crate::keys::{Level, has_only_keys};
 use board::RecordFile;
-use board_values::{is_left_out, is_list_at, item, says_or, says_text};
+use board_values::{is_left_out, is_list_at, item, says_none_or, says_or, says_text};
 use plan_values::{Node, Plan, PlannedRecord, PlannedTerminus};
 use std::alloc::{AllocError, Global};
 use toml::Value;
@@ -113,24 +112,14 @@ fn keeps_record(
     )
 }
 
-/// Whether the handle and the next handle stand there, or nothing does and they are those of the list.
+/// Whether the handle stands there, or none does, and the next handle, or none does and it is that of the list.
 fn says_handles(records: &[PlannedRecord], index: usize, own: &PlannedRecord, given: &Value) -> bool
     requires { index < length records.now }
-    ensures handle { IsTrue result → SaysOr (index + 1) (get (codes "handle") (view given.now)) own.now.handle }
+    ensures handle { IsTrue result → SaysNoneOr (get (codes "handle") (view given.now)) own.now.handle }
     ensures next { IsTrue result → SaysOr (next_handle records.now index) (get (codes "next") (view given.now)) own.now.next }
 {
-    says_handle(given, own.handle, index)
+    says_none_or(given, "handle", own.handle)
         && says_or(given, "next", own.next, next_handle(records, index))
-}
-
-/// The most records of a terminus.
-const MOST_RECORDS: usize = 4096;
-
-/// Whether the handle stands there, or nothing does and it counts from 1.
-fn says_handle(given: &Value, handle: u32, index: usize) -> bool
-    ensures { IsTrue result → SaysOr (index + 1) (get (codes "handle") (view given.now)) handle }
-{
-    index < MOST_RECORDS && says_or(given, "handle", handle, index as u32 + 1)
 }
 
 /// The handle of the record that follows, 0 behind the last.

@@ -1,23 +1,17 @@
 -- What is answered for a board is answered to its text, and how lines are worded.
-use Rattle.std.proofs.Common.{◌≡◌, ◌≢◌, ℕ, List, ◌++◌, Some, Result, Ok, Err, subst, sym}
-use Rattle.std.specs.Prelude.{IfOk, codes}
+use Rattle.std.{proofs.Common.{◌≡◌, ◌≢◌, ℕ, List, ◌++◌, Some, Result, Ok, Err, subst, sym}, specs.Prelude.{IfOk, codes}}
 use Rattle.toml.specs.Data.{Data}
 use Rattle.plan_values.specs.declared.plan.Plan.{Plan}
-use Rattle.net_rules.specs.declared.certify_error.CertifyError.{CertifyError}
-use Rattle.net_rules.specs.declared.certify_error.CertifyError.TheVariants as error
-use Rattle.net_rules.specs.Certificates.{NamesObstacle, RulesOutCertificates}
+use Rattle.net_rules.{specs.declared.certify_error.CertifyError.{CertifyError}, specs.Certificates.{NamesObstacle, RulesOutCertificates}}
 use Rattle.plan_texts.specs.Lines.{obstacle_text}
 use Rattle.board.specs.declared.board.RecordFile.{RecordFile}
-use Rattle.board_values.specs.Said.{IsTomlOf}
-use Rattle.board_values.specs.Lines.{IsNodeTold}
-use Rattle.board_made.specs.declared.answer.BoardAnswer.{BoardAnswer}
-use Rattle.board_made.specs.declared.answer.BoardAnswer.TheVariants.{Made, NoPlan, Unread}
-use Rattle.board_made.specs.Made.{IsUnreadLine, IsAnswerTo, IsAnswerFor}
-use Rattle.board_made.specs.Reasons.{TellsObstacle, IsRuledOut, IsUnfound, IsWayLine, IsWayTold, reason_line, way_words}
+use Rattle.board_values.{specs.Said.{IsTomlOf}, specs.Lines.{IsNodeTold}}
+use Rattle.board_made.{specs.declared.answer.BoardAnswer.{BoardAnswer}, specs.declared.answer.BoardAnswer.TheVariants.{Made, NoPlan, Unread}, specs.Made.{IsUnreadLine, IsAnswerTo, IsAnswerFor}, specs.Reasons.{TellsObstacle, IsRuledOut, IsUnfound, IsWayLine, IsWayTold, reason_line, way_words}}
+use Rattle.net_rules.specs.declared.certify_error.CertifyError.TheVariants as error
 
 pub answered : (files : List RecordFile) (text : List ℕ) (board : Data) (answer : BoardAnswer) → IsTomlOf text board → IsAnswerFor files board answer
     → IsAnswerTo files text answer
-answered files text board (Made made) toml fit = record { board = board; toml = toml; fit = fit }
+answered files text board (Made made) toml fit = (record { board = board; toml = toml; fit = fit.0 }, fit.1)
 answered files text board (NoPlan reason) toml told = record { board = board; toml = toml; reason = told }
 answered files text board (Unread line) toml worded = worded
 

@@ -2,17 +2,12 @@
 use Rattle.std.specs.Prelude.{◌≡◌, ◌⊎◌, ℕ, List, ◌++◌, codes, Some}
 use Rattle.toml.specs.Data.{Data}
 use Rattle.plan_values.specs.declared.plan.Plan.{Plan}
-use Rattle.net_rules.specs.declared.certify_error.CertifyError.{CertifyError}
-use Rattle.net_rules.specs.Certificates.{NamesObstacle, HasNoCertificate}
+use Rattle.net_rules.{specs.declared.certify_error.CertifyError.{CertifyError}, specs.Certificates.{NamesObstacle, HasNoCertificate}}
 use Rattle.explanation_texts.specs.Explanations.{IsObstacleTold}
 use Rattle.plan_texts.specs.Lines.{obstacle_text}
-use Rattle.board.specs.declared.board.RecordFile.{RecordFile}
-use Rattle.board.specs.declared.making.NoPlan.{NoPlan}
-use Rattle.board_values.specs.Lacks.{Lacks}
-use Rattle.board_values.specs.Lines.{IsNodeTold, IsWorded}
-use Rattle.board_values.specs.Ways.{IsCutOff}
-use Rattle.board_kept.specs.Kept.{Keeps}
-use Rattle.board_kept.specs.Rowed.{IsSameButRows}
+use Rattle.board.{specs.declared.board.RecordFile.{RecordFile}, specs.declared.making.NoPlan.{NoPlan}}
+use Rattle.board_values.{specs.Lacks.{Lacks}, specs.Lines.{IsNodeTold, IsWorded}, specs.Ways.{IsCutOff}}
+use Rattle.board_kept.{specs.Kept.{Keeps}, specs.Rowed.{IsSameButRows}}
 
 -- The text tells this obstacle: its line, a place in the board or none, and an explanation.
 pub record TellsObstacle (plan : Plan) (obstacle : CertifyError) (text : List ℕ) : Type 0 where

@@ -1,14 +1,9 @@
 -- What is answered of a plan that is to have rows.
 use Rattle.std.specs.Prelude.{ℕ, List, string_bytes}
-use Rattle.plan_values.specs.declared.plan.Plan.{Plan}
-use Rattle.plan_values.specs.declared.certificate.Certificate.{Certificate}
-use Rattle.plan_values.specs.PlanValues.{plan_value}
-use Rattle.net_plan.specs.PlanText.{IsPlanOf}
-use Rattle.net_plan.specs.Texts.{IsJsonTextOf}
+use Rattle.plan_values.{specs.declared.plan.Plan.{Plan}, specs.declared.certificate.Certificate.{Certificate}, specs.PlanValues.{plan_value}}
+use Rattle.net_plan.{specs.PlanText.{IsPlanOf}, specs.Texts.{IsJsonTextOf}}
 use Rattle.board_kept.specs.Rowed.{IsRowedFrom}
-use Rattle.board_made.specs.declared.rowed.RowsAnswer.{RowsAnswer}
-use Rattle.board_made.specs.declared.rowed.RowsAnswer.TheVariants.{Made, NoPlan}
-use Rattle.board_made.specs.Reasons.{IsRowsReason}
+use Rattle.board_made.{specs.declared.rowed.RowsAnswer.{RowsAnswer}, specs.declared.rowed.RowsAnswer.TheVariants.{Made, NoPlan}, specs.Reasons.{IsRowsReason}}
 
 -- The text reads as a plan that is the given one with rows, by a certificate.
 pub record IsRowedText (before : Plan) (text : List ℕ) : Type 0 where

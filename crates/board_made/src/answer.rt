@@ -1,5 +1,5 @@
 //! What is answered of the text of a board.
-ghost use Rattle.std.specs.Prelude.{IfOk, string_bytes};
+ghost use Rattle.std.specs.Prelude.{IfOk, IfSome, string_bytes};
 ghost use Rattle.toml.specs.View.{view};
 ghost use Rattle.board_values.specs.Said.{IsTomlOf};
 ghost use Rattle.board_made.specs.Made.{IsAnswerTo, IsAnswerFor, IsUnreadLine};
@@ -8,6 +8,7 @@ use crate::judged::judged;
 use crate::reasons::{no_plan_line, place_line, unread_line};
 use board::{Board, BoardError, RecordFile, made_plan, named_files, read_board};
 use board_values::board_of_text;
+use plan_values::Plan;
 use std::alloc::{AllocError, Global};
 use toml::Value;
 
@@ -22,32 +23,40 @@ pub enum BoardAnswer {
     Unread(String),
 }
 
-/// The text of a plan that was made, and that of its certificate.
+/// The text of a plan that was made, what it reads as, and the text of its certificate.
 #[derive(Drop)]
 pub struct MadePlan {
     pub plan: String,
+    pub value: Plan,
     pub certificate: String,
 }
 
-/// The plan that is made of the text of a board, whose records may name these files, or why there is none.
+/// The plan that is made of the text of a board, whose records may name these files, or why there is none. What the
+/// board leaves open stays as in an earlier plan, where a plan is found so; which numbers stay is not promised.
 pub fn answer_board(
     alloc: Global,
     text: &[u8],
     files: &[RecordFile],
+    old: Option<&Plan>,
 ) -> Result<BoardAnswer, AllocError>
     ensures { IfOk result (λ answer. IsAnswerTo files.now text.now answer) }
 {
     match std::str::from_utf8(text) {
-        Ok(text) => answer_text(alloc, text, files),
+        Ok(text) => answer_text(alloc, text, files, old),
         Err(_) => Ok(BoardAnswer::Unread(unread_line(alloc, "the text is not UTF-8")?)),
     }
 }
 
-fn answer_text(alloc: Global, text: &str, files: &[RecordFile]) -> Result<BoardAnswer, AllocError>
+fn answer_text(
+    alloc: Global,
+    text: &str,
+    files: &[RecordFile],
+    old: Option<&Plan>,
+) -> Result<BoardAnswer, AllocError>
     ensures { IfOk result (λ answer. IsAnswerTo files.now text.now answer) }
 {
     match board_of_text(alloc, text) {
-        Ok(board) => Ok(answer_value(alloc, text, files, &board)?),
+        Ok(board) => Ok(answer_value(alloc, text, files, &board, old)?),
         Err(error) => Ok(BoardAnswer::Unread(syntax_line(alloc, text, &error)?)),
     }
 }
@@ -85,11 +94,12 @@ fn answer_value(
     text: &str,
     files: &[RecordFile],
     board: &Value,
+    old: Option<&Plan>,
 ) -> Result<BoardAnswer, AllocError>
     ensures { IfOk result (λ answer. IsAnswerFor files.now (view board.now) answer) }
 {
     match read_value(alloc, text, board) {
-        Ok(given) => answer_given(alloc, text, files, board, &given),
+        Ok(given) => answer_given(alloc, text, files, board, &given, old),
         Err(error) => Ok(BoardAnswer::Unread(error_line(alloc, error)?)),
     }
 }
@@ -115,16 +125,53 @@ fn error_line(alloc: Global, error: BoardError) -> Result<String, AllocError>
     }
 }
 
+/// The plan in which numbers of an earlier one stay; where none is found so, what is answered without that one.
 fn answer_given(
     alloc: Global,
     text: &str,
     files: &[RecordFile],
     board: &Value,
     given: &Board,
+    old: Option<&Plan>,
 ) -> Result<BoardAnswer, AllocError>
     ensures { IfOk result (λ answer. IsAnswerFor files.now (view board.now) answer) }
 {
-    match made_plan(alloc, given, files) {
+    if let Some(made) = kept_answer(alloc, text, files, board, given, old)? {
+        return Ok(made);
+    }
+    answer_with(alloc, text, files, board, given, None)
+}
+
+fn kept_answer(
+    alloc: Global,
+    text: &str,
+    files: &[RecordFile],
+    board: &Value,
+    given: &Board,
+    old: Option<&Plan>,
+) -> Result<Option<BoardAnswer>, AllocError>
+    ensures { IfOk result (λ found. IfSome found (λ answer. IsAnswerFor files.now (view board.now) answer)) }
+{
+    if old.is_none() {
+        return Ok(None);
+    }
+    match answer_with(alloc, text, files, board, given, old)? {
+        BoardAnswer::NoPlan(_) => Ok(None),
+        answer => Ok(Some(answer)),
+    }
+}
+
+fn answer_with(
+    alloc: Global,
+    text: &str,
+    files: &[RecordFile],
+    board: &Value,
+    given: &Board,
+    old: Option<&Plan>,
+) -> Result<BoardAnswer, AllocError>
+    ensures { IfOk result (λ answer. IsAnswerFor files.now (view board.now) answer) }
+{
+    match made_plan(alloc, given, files, old) {
         Ok(made) => judged(alloc, text, files, board, given, made),
         Err(why) => Ok(BoardAnswer::NoPlan(no_plan_line(alloc, text, files, board, given, why)?)),
     }

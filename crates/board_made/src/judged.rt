@@ -1,15 +1,11 @@
 //! A plan that was made, judged before it is answered.
 ghost use Rattle.std.specs.Prelude.{◌≡◌, IfOk, IfSome, None, string_bytes};
 ghost use Rattle.toml.specs.View.{view};
-ghost use Rattle.plan_values.specs.CertificateValues.{certificate_value};
-ghost use Rattle.plan_values.specs.PlanValues.{plan_value};
-ghost use Rattle.plan_values.specs.WellFormed.{IsWellFormed};
-ghost use Rattle.net_plan.specs.PlanText.{IsPlanOf};
-ghost use Rattle.net_plan.specs.Texts.{IsJsonTextOf};
+ghost use Rattle.plan_values.{specs.CertificateValues.{certificate_value}, specs.PlanValues.{plan_value}, specs.WellFormed.{IsWellFormed}};
+ghost use Rattle.net_plan.{specs.PlanText.{IsPlanOf}, specs.Texts.{IsJsonTextOf}};
 ghost use Rattle.net_rules.specs.Certificates.{IsExact, NamesObstacle, RulesOutCertificates};
 ghost use Rattle.board_kept.specs.Made.{IsFitFor};
-ghost use Rattle.board_made.specs.Made.{IsAnswerFor, IsCertificateText};
-ghost use Rattle.board_made.specs.Reasons.{IsCutTold, IsReason, IsUnfound};
+ghost use Rattle.board_made.{specs.Made.{IsAnswerFor, IsCertificateText}, specs.Reasons.{IsCutTold, IsReason, IsUnfound}};
 
 use crate::answer::{BoardAnswer, MadePlan};
 use crate::reasons::{lacking, obstacle_reason, unfit_line, unfound, way_line};
@@ -82,7 +78,7 @@ fn judged_text(
     ensures { IfOk result (λ answer. IsAnswerFor files.now (view board.now) answer) }
 {
     match plan_of_text(alloc, made.as_str().as_bytes()) {
-        Ok(plan) => Ok(judged_plan(alloc, text, files, board, made, &plan)?),
+        Ok(plan) => judged_plan(alloc, text, files, board, made, plan),
         Err(PlanError::OutOfMemory) => Err(AllocError),
         Err(_) => Ok(BoardAnswer::NoPlan(unfound(alloc, "text that was made reads as a plan")?)),
     }
@@ -94,15 +90,15 @@ fn judged_plan(
     files: &[RecordFile],
     board: &Value,
     made: String,
-    plan: &Plan,
+    plan: Plan,
 ) -> Result<BoardAnswer, AllocError>
-    requires { IsJsonTextOf IsPlanOf (string_bytes made) (plan_value plan.now) }
+    requires { IsJsonTextOf IsPlanOf (string_bytes made) (plan_value plan) }
     ensures { IfOk result (λ answer. IsAnswerFor files.now (view board.now) answer) }
 {
-    match certify(alloc, plan) {
-        Ok(certificate) => Ok(judged_with(alloc, text, files, board, made, plan, &certificate)?),
+    match certify(alloc, &plan) {
+        Ok(certificate) => judged_with(alloc, text, files, board, made, plan, &certificate),
         Err(obstacle) => Ok(BoardAnswer::NoPlan(why_ruled_out(
-            alloc, text, files, board, plan, &obstacle,
+            alloc, text, files, board, &plan, &obstacle,
         )?)),
     }
 }
@@ -133,19 +129,20 @@ fn judged_with(
     files: &[RecordFile],
     board: &Value,
     made: String,
-    plan: &Plan,
+    plan: Plan,
     certificate: &Certificate,
 ) -> Result<BoardAnswer, AllocError>
-    requires reads { IsJsonTextOf IsPlanOf (string_bytes made) (plan_value plan.now) }
-    requires exact { IsExact plan.now certificate.now }
-    requires well_formed { IsWellFormed (plan_value plan.now) (certificate_value certificate.now) }
+    requires reads { IsJsonTextOf IsPlanOf (string_bytes made) (plan_value plan) }
+    requires exact { IsExact plan certificate.now }
+    requires well_formed { IsWellFormed (plan_value plan) (certificate_value certificate.now) }
     ensures { IfOk result (λ answer. IsAnswerFor files.now (view board.now) answer) }
 {
-    let certified = certified_text(alloc, plan, certificate)?;
-    match why_unfit(alloc, text, files, board, plan, certificate)? {
+    let certified = certified_text(alloc, &plan, certificate)?;
+    match why_unfit(alloc, text, files, board, &plan, certificate)? {
         Some(reason) => Ok(BoardAnswer::NoPlan(reason)),
         None => Ok(BoardAnswer::Made(MadePlan {
             plan: made,
+            value: plan,
             certificate: certified,
         })),
     }

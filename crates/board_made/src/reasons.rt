@@ -2,8 +2,7 @@
 ghost use Rattle.std.specs.Prelude.{◌≡◌, IfOk, string_bytes};
 ghost use Rattle.toml.specs.View.{view};
 ghost use Rattle.net_rules.specs.Certificates.{NamesObstacle};
-ghost use Rattle.board_made.specs.Made.{IsUnreadLine};
-ghost use Rattle.board_made.specs.Reasons.{reason_line, way_words, IsReason, IsUnfound, IsWayLine, IsWayTold, TellsObstacle};
+ghost use Rattle.board_made.{specs.Made.{IsUnreadLine}, specs.Reasons.{reason_line, way_words, IsReason, IsUnfound, IsWayLine, IsWayTold, TellsObstacle}};
 
 use board::{Board, NoPlan, RecordFile};
 use board_kept::Unfit;

@@ -1,12 +1,10 @@
 //! A plan with rows, judged before it is answered.
 ghost use Rattle.std.specs.Prelude.{◌≡◌, IfOk, IfSome, None, string_bytes};
 ghost use Rattle.plan_values.specs.PlanValues.{plan_value};
-ghost use Rattle.net_plan.specs.PlanText.{IsPlanOf};
-ghost use Rattle.net_plan.specs.Texts.{IsJsonTextOf};
+ghost use Rattle.net_plan.{specs.PlanText.{IsPlanOf}, specs.Texts.{IsJsonTextOf}};
 ghost use Rattle.net_rules.specs.Certificates.{NamesObstacle, RulesOutCertificates};
 ghost use Rattle.board_kept.specs.Rowed.{IsRowedFrom};
-ghost use Rattle.board_made.specs.Reasons.{IsRowsReason, IsUnfound};
-ghost use Rattle.board_made.specs.Rowed.{IsRowsAnswer};
+ghost use Rattle.board_made.{specs.Reasons.{IsRowsReason, IsUnfound}, specs.Rowed.{IsRowsAnswer}};
 
 use crate::reasons::{lacking, no_rows_line, obstacle_reason, unfit_line, unfound, way_line_of};
 use board::{Made, board_of_plan, made_plan};
@@ -30,7 +28,7 @@ pub fn answer_rows(alloc: Global, before: &Plan) -> Result<RowsAnswer, AllocErro
     ensures { IfOk result (λ answer. IsRowsAnswer before.now answer) }
 {
     let board = board_of_plan(alloc, before)?;
-    match made_plan(alloc, &board, &[]) {
+    match made_plan(alloc, &board, &[], None) {
         Ok(made) => answer_made(alloc, before, made),
         Err(why) => Ok(RowsAnswer::NoPlan(no_rows_line(alloc, before, why)?)),
     }

@@ -1,13 +1,8 @@
 -- What stands among the first of a list, or there are more.
-use Rattle.std.proofs.Common.{◌≡◌, ◌≢◌, ℕ, ◌<◌, List, [], ◌∷◌, ◌++◌, length, Bool, false, Option, Some, None, IsTrue, IfSome, option_and_then, option_map, refl, sym, subst, ◌∙◌, inl, inr, arith, codes}
-use Rattle.std.proofs.lemmas.Bool.{cases_lt, cases_Bool, false≢true}
-use Rattle.std.proofs.lemmas.Option.{none-some, same_Some}
+use Rattle.std.{proofs.Common.{◌≡◌, ◌≢◌, ℕ, ◌<◌, List, [], ◌∷◌, ◌++◌, length, Bool, false, Option, Some, None, IsTrue, IfSome, option_and_then, option_map, refl, sym, subst, ◌∙◌, inl, inr, arith, codes}, proofs.lemmas.Bool.{cases_lt, cases_Bool, false≢true}, proofs.lemmas.Option.{none-some, same_Some}}
 use Rattle.mctp_transport.proofs.FirstIndexes.{get_cases}
 use Rattle.toml.specs.Data.{Data, as_str, get}
-use Rattle.board_values.specs.Said.{SaysText, item_at}
-use Rattle.board_values.specs.Owners.{at_node, Owns}
-use Rattle.board_values.specs.Ways.{bus_at, bus_name, IsMadeBridge, OwnsOrRoutes, TurnsIn}
-use Rattle.board_values.proofs.Beyond.{item_beyond}
+use Rattle.board_values.{specs.Said.{SaysText, item_at}, specs.Owners.{at_node, Owns}, specs.Ways.{bus_at, bus_name, IsMadeBridge, OwnsOrRoutes, TurnsIn}, proofs.Beyond.{item_beyond}}
 
 -- what a test denies is not so
 pub denied : {P : Type 0} (answer : Bool) → (P → IsTrue answer) → answer ≡ false → ¬ P

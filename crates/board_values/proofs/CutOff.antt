@@ -1,11 +1,7 @@
 -- Nodes that no hop leaves.
-use Rattle.std.proofs.Common.{◌≡◌, ◌≢◌, ◌⊎◌, ℕ, zero, suc, ◌<◌, List, length, Bool, true, false, not, Option, Some, None, slice_get, subst, sym, ◌∙◌, inl, inr, arith, codes}
-use Rattle.std.proofs.lemmas.Bool.{cases_lt}
-use Rattle.std.proofs.lemmas.Option.{none-some}
+use Rattle.std.{proofs.Common.{◌≡◌, ◌≢◌, ◌⊎◌, ℕ, zero, suc, ◌<◌, List, length, Bool, true, false, not, Option, Some, None, slice_get, subst, sym, ◌∙◌, inl, inr, arith, codes}, proofs.lemmas.Bool.{cases_lt}, proofs.lemmas.Option.{none-some}}
 use Rattle.toml.specs.Data.{Data}
-use Rattle.board_values.specs.Said.{item_at}
-use Rattle.board_values.specs.Ways.{AreClosed, AreTurns, ComesOver, HasNoWay, IsBridge, IsStepIn, SendsOn}
-use Rattle.board_values.proofs.Beyond.{item_beyond}
+use Rattle.board_values.{specs.Said.{item_at}, specs.Ways.{AreClosed, AreTurns, ComesOver, HasNoWay, IsBridge, IsStepIn, SendsOn}, proofs.Beyond.{item_beyond}}
 
 -- what has come to a node of a way that begins at a goes on where it began or at a bridge
 passes : (board : Data) (b a hops m : ℕ) → ComesOver board b a hops m → SendsOn board hops m → (m ≡ a) ⊎ IsBridge board m

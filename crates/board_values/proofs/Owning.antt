@@ -1,6 +1,5 @@
 -- Owners without end.
-use Rattle.std.proofs.Common.{◌≡◌, ℕ, zero, suc, List, Bool, true, Some, refl}
-use Rattle.std.specs.Prelude.{slice_get}
+use Rattle.std.{proofs.Common.{◌≡◌, ℕ, zero, suc, List, Bool, true, Some, refl}, specs.Prelude.{slice_get}}
 use Rattle.toml.specs.Data.{Data}
 use Rattle.board_values.specs.Owners.{IsOwnerAbove, AreOwnersFlagged}
 

@@ -1,7 +1,5 @@
 -- What the nodes take, one after another.
-use Rattle.std.proofs.Common.{◌≡◌, ℕ, ◌+◌, ◌≤◌, List, [], ◌∷◌, ◌++◌, sum, Option, subst, inl, inr, arith}
-use Rattle.std.proofs.lemmas.List.{length-append}
-use Rattle.std.proofs.lemmas.List.Sums.{fold-append}
+use Rattle.std.{proofs.Common.{◌≡◌, ℕ, ◌+◌, ◌≤◌, List, [], ◌∷◌, ◌++◌, sum, Option, subst, inl, inr, arith}, proofs.lemmas.List.{length-append}, proofs.lemmas.List.Sums.{fold-append}}
 use Rattle.mctp_transport.proofs.FirstIndexes.{get_cases}
 use Rattle.toml.specs.Data.{Data}
 use Rattle.board_values.specs.Owners.{Takes, HaveTaken}

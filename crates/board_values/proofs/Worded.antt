@@ -1,9 +1,7 @@
 -- How what is lacking is worded.
-use Rattle.std.proofs.Common.{◌≡◌, List, ◌++◌, codes, ℕ, String, Global, Option, Some, Result, Ok, Err, subst, sym, refl}
-use Rattle.std.specs.Prelude.{IfOk, string_bytes}
+use Rattle.std.{proofs.Common.{◌≡◌, List, ◌++◌, codes, ℕ, String, Global, Option, Some, Result, Ok, Err, subst, sym, refl}, specs.Prelude.{IfOk, string_bytes}}
 use Rattle.toml.specs.Data.{Data}
-use Rattle.board.specs.declared.making.NoPlan.{NoPlan}
-use Rattle.board.specs.declared.making.NoPlan.TheVariants.{OwnerLoop, NoPool, NoEid, NoRun, TooManyRows, WrongRecord}
+use Rattle.board.{specs.declared.making.NoPlan.{NoPlan}, specs.declared.making.NoPlan.TheVariants.{OwnerLoop, NoPool, NoEid, NoRun, TooManyRows, WrongRecord}}
 use Rattle.board_values.specs.Lines.{IsNodeTold, IsPoolTold, IsWorded, loop_words, pool_words, eid_words, run_words, rows_words, record_words}
 
 worded : {E : Type 0} (P : List ℕ → Type 0) (words : List ℕ) (r : Result (String Global) E) → P words

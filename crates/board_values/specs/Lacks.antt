@@ -1,11 +1,8 @@
 -- What a board lacks, so that no plan is made of it.
 use Rattle.std.specs.Prelude.{◌≡◌, ◌⊎◌, ℕ, codes, Option, None}
 use Rattle.toml.specs.Data.{Data}
-use Rattle.board.specs.declared.making.NoPlan.{NoPlan}
-use Rattle.board.specs.declared.making.NoPlan.TheVariants.{OwnerLoop, NoPool, NoEid, NoRun}
-use Rattle.board.specs.declared.making.NoPlan.TheVariants.{TooManyRows, WrongRecord, OutOfMemory}
-use Rattle.board_values.specs.Said.{SaysNumber}
-use Rattle.board_values.specs.Owners.{at_node, Owns, HasOwnersWithoutEnd, LeavesOut, IsOf, IsOverdrawn}
+use Rattle.board.{specs.declared.making.NoPlan.{NoPlan}, specs.declared.making.NoPlan.TheVariants.{OwnerLoop, NoPool, NoEid, NoRun, TooManyRows, WrongRecord, OutOfMemory}}
+use Rattle.board_values.{specs.Said.{SaysNumber}, specs.Owners.{at_node, Owns, HasOwnersWithoutEnd, LeavesOut, IsOf, IsOverdrawn}}
 
 -- n's endpoint ID or its pool are left to be chosen
 abbrev pub IsToTake : Data → ℕ → Type 0

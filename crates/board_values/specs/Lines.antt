@@ -1,10 +1,7 @@
 -- The words that say what a board lacks.
-use Rattle.std.specs.Prelude.{◌≡◌, ℕ, List, ◌++◌, codes, Option, Some, None}
-use Rattle.std.specs.Fmt.{decimal}
+use Rattle.std.{specs.Prelude.{◌≡◌, ℕ, List, ◌++◌, codes, Option, Some, None}, specs.Fmt.{decimal}}
 use Rattle.toml.specs.Data.{Data}
-use Rattle.board.specs.declared.making.NoPlan.{NoPlan}
-use Rattle.board.specs.declared.making.NoPlan.TheVariants.{OwnerLoop, NoPool, NoEid, NoRun}
-use Rattle.board.specs.declared.making.NoPlan.TheVariants.{TooManyRows, WrongRecord, OutOfMemory}
+use Rattle.board.{specs.declared.making.NoPlan.{NoPlan}, specs.declared.making.NoPlan.TheVariants.{OwnerLoop, NoPool, NoEid, NoRun, TooManyRows, WrongRecord, OutOfMemory}}
 use Rattle.board_values.specs.Owners.{IsNamed}
 
 -- a node by its name, and a line

@@ -1,9 +1,7 @@
 -- Who owns whom on a board, and what the nodes take of a pool.
-use Rattle.std.specs.Prelude.{◌≡◌, ◌⊎◌, ℕ, zero, suc, ◌+◌, ◌<◌, ◌≤◌, List, codes, length, sum, slice_get, Bool, true}
-use Rattle.std.specs.Prelude.{Option, Some, None, option_and_then}
+use Rattle.std.specs.Prelude.{◌≡◌, ◌⊎◌, ℕ, zero, suc, ◌+◌, ◌<◌, ◌≤◌, List, codes, length, sum, slice_get, Bool, true, Option, Some, None, option_and_then}
 use Rattle.toml.specs.Data.{Data, get}
-use Rattle.board_values.specs.Said.{SaysText, SaysNumber, item_at}
-use Rattle.board_values.specs.Eids.{eids_text}
+use Rattle.board_values.{specs.Said.{SaysText, SaysNumber, item_at}, specs.Eids.{eids_text}}
 
 -- what stands at a key of the node at an index
 abbrev pub at_node : List ℕ → ℕ → Data → Option Data

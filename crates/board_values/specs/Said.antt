@@ -1,7 +1,6 @@
 -- What the values of a board say.
 use Rattle.std.specs.Prelude.{◌≡◌, ◌⊎◌, ℕ, List, Option, Some, None, option_and_then, pos, length, slice_get, ⊤}
-use Rattle.toml.specs.Data.{Data, Items, Members, no_members, member, table, at, get, as_str, as_integer, as_array}
-use Rattle.toml.specs.Parse.{parse_document}
+use Rattle.toml.{specs.Data.{Data, Items, Members, no_members, member, table, at, get, as_str, as_integer, as_array}, specs.Parse.{parse_document}}
 
 -- the text is a TOML document, and this is its table
 abbrev pub IsTomlOf : List ℕ → Data → Type 0

@@ -1,12 +1,7 @@
 -- Ways over the buses and bridges of a board, whatever is chosen of what it leaves out.
-use Rattle.std.specs.Prelude.{◌≡◌, ◌≢◌, ◌⊎◌, ℕ, zero, suc, ◌+◌, ◌<◌, ◌≤◌, eqb, List, ◌++◌, codes, Bool, true}
-use Rattle.std.specs.Prelude.{Option, Some, None, option_and_then, option_map, slice_get}
-use Rattle.std.specs.Fmt.{decimal}
-use Rattle.std.specs.List.{before_first}
+use Rattle.std.{specs.Prelude.{◌≡◌, ◌≢◌, ◌⊎◌, ℕ, zero, suc, ◌+◌, ◌<◌, ◌≤◌, eqb, List, ◌++◌, codes, Bool, true, Option, Some, None, option_and_then, option_map, slice_get}, specs.Fmt.{decimal}, specs.List.{before_first}}
 use Rattle.toml.specs.Data.{Data, get, as_str}
-use Rattle.board_values.specs.Said.{SaysText, SaysNumber, item_at}
-use Rattle.board_values.specs.Eids.{eids_text}
-use Rattle.board_values.specs.Owners.{at_node, IsNamed, LeavesOut, Owns}
+use Rattle.board_values.{specs.Said.{SaysText, SaysNumber, item_at}, specs.Eids.{eids_text}, specs.Owners.{at_node, IsNamed, LeavesOut, Owns}}
 
 -- ---- buses
 

@@ -1,8 +1,7 @@
 //! Whether no way over the buses and bridges of a board leads from one node to another.
 ghost use Rattle.std.specs.Prelude.{◌≡◌, ◌≢◌, ◌↔◌, ℕ, List, IfOk, IsTrue, Some, codes, false, true, slice_get};
 ghost use Rattle.toml.specs.View.{view};
-ghost use Rattle.board_values.specs.Owners.{IsNamed};
-ghost use Rattle.board_values.specs.Ways.{HasNoWay, ListsNode, ListsText, AsksFor, IsCutOff, AreTurns, IsStepIn, IsPassing, IsClosedAt, AreClosed, TurnsIn};
+ghost use Rattle.board_values.{specs.Owners.{IsNamed}, specs.Ways.{HasNoWay, ListsNode, ListsText, AsksFor, IsCutOff, AreTurns, IsStepIn, IsPassing, IsClosedAt, AreClosed, TurnsIn}};
 
 use crate::owners::{leaves_out, name_of};
 use crate::said::{has_item, item};

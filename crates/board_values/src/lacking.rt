@@ -1,9 +1,7 @@
 //! Whether a board lacks what a plan needs.
 ghost use Rattle.std.specs.Prelude.{◌≡◌, ◌⊎◌, ℕ, IfOk, IsTrue, None, codes};
 ghost use Rattle.toml.specs.View.{view};
-ghost use Rattle.board_values.specs.Said.{SaysNumber};
-ghost use Rattle.board_values.specs.Owners.{at_node};
-ghost use Rattle.board_values.specs.Lacks.{IsToTake, IsWithoutPool, IsWithoutEid, IsWithoutRun, Lacks};
+ghost use Rattle.board_values.{specs.Said.{SaysNumber}, specs.Owners.{at_node}, specs.Lacks.{IsToTake, IsWithoutPool, IsWithoutEid, IsWithoutRun, Lacks}};
 
 use crate::owners::{at_node, has_owners_without_end, is_of, leaves_out, owns};
 use crate::said::is_number;

@@ -1,8 +1,7 @@
 //! Who owns whom on a board.
 ghost use Rattle.std.specs.Prelude.{◌≡◌, ℕ, IfOk, IfSome, IsTrue, Some, None, true, codes, option_map, option_copied, slice_get};
 ghost use Rattle.toml.specs.View.{view};
-ghost use Rattle.board_values.specs.Said.{SaysText};
-ghost use Rattle.board_values.specs.Owners.{at_node, IsNamed, Owns, HasOwnersWithoutEnd, LeavesOut, IsOf, IsOwnerFlagged, AreOwnersFlagged};
+ghost use Rattle.board_values.{specs.Said.{SaysText}, specs.Owners.{at_node, IsNamed, Owns, HasOwnersWithoutEnd, LeavesOut, IsOf, IsOwnerFlagged, AreOwnersFlagged}};
 
 use crate::said::{is_left_out, is_text, item};
 use board::Board;

@@ -1,7 +1,6 @@
 //! What the values of a board say.
 ghost use Rattle.std.specs.Prelude.{◌≡◌, ◌↔◌, IfOk, IsTrue, Some, None, false, option_map};
-ghost use Rattle.toml.specs.Data.{Items, at, get, as_array};
-ghost use Rattle.toml.specs.View.{view};
+ghost use Rattle.toml.{specs.Data.{Items, at, get, as_array}, specs.View.{view}};
 ghost use Rattle.board_values.specs.Said.{IsTomlOf, SaysText, SaysNumber, SaysOr, SaysNoneOr, IsListAt, item_at};
 
 use std::alloc::Global;

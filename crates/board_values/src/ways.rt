@@ -1,10 +1,7 @@
 //! Over which buses and bridges of a board ways lead, and where the rows lead that it gives.
 ghost use Rattle.std.specs.Prelude.{◌≡◌, ◌≢◌, ◌<◌, ◌≤◌, ◌+◌, ℕ, List, IfOk, IfSome, IsTrue, None, Some, codes, option_and_then, option_map, slice_get, string_bytes};
-ghost use Rattle.toml.specs.Data.{Data, as_str, get};
-ghost use Rattle.toml.specs.View.{view};
-ghost use Rattle.board_values.specs.Said.{SaysNumber, SaysText, item_at};
-ghost use Rattle.board_values.specs.Owners.{at_node, Owns};
-ghost use Rattle.board_values.specs.Ways.{bus_name, bus_at, IsOnBus, ShareBus, AreNear, OwnsOrRoutes, IsMadeBridge, IsSaidBridge, IsBridge, row_words, ListsText, ListsRow, GivesRow, TurnsTo, TurnsIn, AreTurns};
+ghost use Rattle.toml.{specs.Data.{Data, as_str, get}, specs.View.{view}};
+ghost use Rattle.board_values.{specs.Said.{SaysNumber, SaysText, item_at}, specs.Owners.{at_node, Owns}, specs.Ways.{bus_name, bus_at, IsOnBus, ShareBus, AreNear, OwnsOrRoutes, IsMadeBridge, IsSaidBridge, IsBridge, row_words, ListsText, ListsRow, GivesRow, TurnsTo, TurnsIn, AreTurns}};
 
 use crate::eids::eids_text;
 use crate::owners::{at_node, name_of};

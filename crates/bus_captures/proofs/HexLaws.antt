@@ -1,9 +1,6 @@
 -- Readings of a text in hex, by its front.
-use Rattle.std.proofs.Common.{◌≡◌, ℕ, ◌≤◌, ◌++◌, true, false, List, [], ◌∷◌, arith, inl, inr, refl, ap, append_assoc, sym, ◌∙◌}
-use Rattle.std.proofs.lemmas.Bool.Decides.{nat_tests}
-use Rattle.bus_captures.specs.Sorts.{is_space}
-use Rattle.bus_captures.specs.Hex.{IsDigit, IsByte, IsHex}
-use Rattle.bus_captures.specs.Fronts.{IsPassed, IsSplit}
+use Rattle.std.{proofs.Common.{◌≡◌, ℕ, ◌≤◌, ◌++◌, true, false, List, [], ◌∷◌, arith, inl, inr, refl, ap, append_assoc, sym, ◌∙◌}, proofs.lemmas.Bool.Decides.{nat_tests}}
+use Rattle.bus_captures.{specs.Sorts.{is_space}, specs.Hex.{IsDigit, IsByte, IsHex}, specs.Fronts.{IsPassed, IsSplit}}
 
 space_is_low : (b : ℕ) → is_space b ≡ true → b ≤ 32
 space_is_low b h = grind (arith, nat_tests)

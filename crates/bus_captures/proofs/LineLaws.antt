@@ -1,20 +1,10 @@
 -- Lines of a text, and where bytes stand in them.
-use Rattle.std.proofs.Common.{◌≡◌, ℕ, ◌<◌, ◌≤◌, ◌+◌, ◌-◌, ◌++◌, List, [], ◌∷◌, length, arith, refl, ap, sym, ◌∙◌, take, drop, true, false, get_or, not, Option, None, Some, MatchOption, inl, inr, map, append_assoc, length-append}
-use Rattle.std.proofs.lemmas.List.{length-map}
-use Rattle.std.proofs.lemmas.List.Sums.{position_or_len_is, suffix_len_is, fails_before_first}
-use Rattle.std.proofs.lemmas.List.Splits.{slice_split_first, slice_split_none}
-use Rattle.bus_captures.specs.declared.sort.Sort.{Sort}
+use Rattle.std.{proofs.Common.{◌≡◌, ℕ, ◌<◌, ◌≤◌, ◌+◌, ◌-◌, ◌++◌, List, [], ◌∷◌, length, arith, refl, ap, sym, ◌∙◌, take, drop, true, false, get_or, not, Option, None, Some, MatchOption, inl, inr, map, append_assoc, length-append}, proofs.lemmas.List.{length-map}, proofs.lemmas.List.Sums.{position_or_len_is, suffix_len_is, fails_before_first}, proofs.lemmas.List.Splits.{slice_split_first, slice_split_none}}
+use Rattle.bus_captures.{specs.declared.sort.Sort.{Sort}, specs.declared.capture.Entry.{Entry}, specs.Adding.{IsAdded}, specs.Hex.{IsHex}, specs.Captures.{lines_of, AreEntries, IsText}, specs.Lines.{IsNothing, IsEntryLine, IsEntryText, head_of}, specs.Sorts.{is_of, before, behind}, specs.Values.{EntryValue, entry_value}}
 use Rattle.bus_captures.specs.declared.sort.Sort.TheVariants as sort
 use Rattle.bus_captures.specs.declared.capture.CaptureFault.TheVariants as fault
-use Rattle.bus_captures.specs.declared.capture.Entry.{Entry}
 use Rattle.bus_captures.specs.declared.capture.End.TheVariants as end
 use Rattle.bus_captures.specs.declared.text.Added.TheVariants as added
-use Rattle.bus_captures.specs.Adding.{IsAdded}
-use Rattle.bus_captures.specs.Hex.{IsHex}
-use Rattle.bus_captures.specs.Captures.{lines_of, AreEntries, IsText}
-use Rattle.bus_captures.specs.Lines.{IsNothing, IsEntryLine, IsEntryText, head_of}
-use Rattle.bus_captures.specs.Sorts.{is_of, before, behind}
-use Rattle.bus_captures.specs.Values.{EntryValue, entry_value}
 
 -- the first byte of a sort, by what stands before it
 pub before_is : (s : Sort) (text : List ℕ) (n : ℕ) → n ≤ length text → ((k : ℕ) → k < n → is_of s (get_or text k 0) ≡ false) → (n < length text → is_of s (get_or text n 0) ≡ true) → n ≡ before s text

@@ -1,25 +1,8 @@
 -- A capture file that is written reads back.
-use Rattle.std.proofs.Common.{◌≡◌, ℕ, ◌+◌, ◌-◌, ◌<◌, ◌≤◌, ◌^◌, ◌++◌, List, [], ◌∷◌, length, map, arith, inl, inr, refl, ap, sym, ◌∙◌, append_assoc, drop, replicate, length-append, get_or}
-use Rattle.std.specs.List.{flat_map, AllZip, All}
-use Rattle.std.proofs.Math.Seq.{drop-append_seam}
-use Rattle.std.proofs.lemmas.List.Elements.{All-tail}
-use Rattle.bus_captures.specs.declared.capture.CaptureFault.{CaptureFault}
+use Rattle.std.{proofs.Common.{◌≡◌, ℕ, ◌+◌, ◌-◌, ◌<◌, ◌≤◌, ◌^◌, ◌++◌, List, [], ◌∷◌, length, map, arith, inl, inr, refl, ap, sym, ◌∙◌, append_assoc, drop, replicate, length-append, get_or}, specs.List.{flat_map, AllZip, All}, proofs.Math.Seq.{drop-append_seam}, proofs.lemmas.List.Elements.{All-tail}}
+use Rattle.bus_captures.{specs.declared.capture.CaptureFault.{CaptureFault}, specs.declared.capture.End.{End}, specs.declared.format.Order.{Order}, specs.declared.format.Order.TheVariants.{Little, Big}, specs.declared.format.TimeUnit.{TimeUnit}, specs.declared.format.TimeUnit.TheVariants.{Micro, Nano}, specs.declared.link.Link.{Link}, specs.declared.link.Link.TheVariants.{Raw, Cooked, CookedAgain}, specs.Files.{FileRecord, IsRecord, IsEntryOf, EndsFile, IsBody, IsFile, HasNoHeader, HasHeader, magic, record_bytes, Begins}, specs.Links.{link_number}, specs.Numbers.{number_bytes}, specs.Values.{EntryValue}, specs.Written.{CarriedValue, IsCarried, ReadsBack, carried_record, carried_entry, header_fields, link_header, written_bytes}, proofs.RecordLaws.{four, fronts, one_record, some_bytes}, proofs.WritingLaws.{before, filled}}
 use Rattle.bus_captures.specs.declared.capture.CaptureFault.TheVariants as fault
-use Rattle.bus_captures.specs.declared.capture.End.{End}
 use Rattle.bus_captures.specs.declared.capture.End.TheVariants as end
-use Rattle.bus_captures.specs.declared.format.Order.{Order}
-use Rattle.bus_captures.specs.declared.format.Order.TheVariants.{Little, Big}
-use Rattle.bus_captures.specs.declared.format.TimeUnit.{TimeUnit}
-use Rattle.bus_captures.specs.declared.format.TimeUnit.TheVariants.{Micro, Nano}
-use Rattle.bus_captures.specs.declared.link.Link.{Link}
-use Rattle.bus_captures.specs.declared.link.Link.TheVariants.{Raw, Cooked, CookedAgain}
-use Rattle.bus_captures.specs.Files.{FileRecord, IsRecord, IsEntryOf, EndsFile, IsBody, IsFile, HasNoHeader, HasHeader, magic, record_bytes, Begins}
-use Rattle.bus_captures.specs.Links.{link_number}
-use Rattle.bus_captures.specs.Numbers.{number_bytes}
-use Rattle.bus_captures.specs.Values.{EntryValue}
-use Rattle.bus_captures.specs.Written.{CarriedValue, IsCarried, ReadsBack, carried_record, carried_entry, header_fields, link_header, written_bytes}
-use Rattle.bus_captures.proofs.RecordLaws.{four, fronts, one_record, some_bytes}
-use Rattle.bus_captures.proofs.WritingLaws.{before, filled}
 
 -- the first four bytes say the order and the unit
 order_is : (order : Order) (unit : TimeUnit) (behind rest : List ℕ) → number_bytes Little (magic Nano) ++ rest ≡ number_bytes order (magic unit) ++ behind

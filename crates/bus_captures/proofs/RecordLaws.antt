@@ -1,15 +1,6 @@
 -- Records of a file, one behind the other.
-use Rattle.std.proofs.Common.{◌≡◌, ℕ, ◌<◌, ◌^◌, ◌/◌, ◌%◌, ◌++◌, List, [], ◌∷◌, length, arith, refl, ap, sym, ◌∙◌, append_assoc, drop}
-use Rattle.std.specs.List.{flat_map, AllZip, All}
-use Rattle.std.proofs.lemmas.List.{flat_map_more}
-use Rattle.std.proofs.lemmas.List.Elements.{All-push, All-tail}
-use Rattle.bus_captures.specs.declared.format.Order.{Order}
-use Rattle.bus_captures.specs.declared.format.Order.TheVariants.{Little, Big}
-use Rattle.bus_captures.specs.declared.format.TimeUnit.{TimeUnit}
-use Rattle.bus_captures.specs.declared.link.Link.{Link}
-use Rattle.bus_captures.specs.Files.{FileRecord, IsRecord, record_bytes, IsEntryOf, AreRead}
-use Rattle.bus_captures.specs.Numbers.{number_bytes}
-use Rattle.bus_captures.specs.Values.{EntryValue}
+use Rattle.std.{proofs.Common.{◌≡◌, ℕ, ◌<◌, ◌^◌, ◌/◌, ◌%◌, ◌++◌, List, [], ◌∷◌, length, arith, refl, ap, sym, ◌∙◌, append_assoc, drop}, specs.List.{flat_map, AllZip, All}, proofs.lemmas.List.{flat_map_more}, proofs.lemmas.List.Elements.{All-push, All-tail}}
+use Rattle.bus_captures.{specs.declared.format.Order.{Order}, specs.declared.format.Order.TheVariants.{Little, Big}, specs.declared.format.TimeUnit.{TimeUnit}, specs.declared.link.Link.{Link}, specs.Files.{FileRecord, IsRecord, record_bytes, IsEntryOf, AreRead}, specs.Numbers.{number_bytes}, specs.Values.{EntryValue}}
 
 zip_more : {A B : Type 0} (R : A → B → Type 0) (xs : List A) (ys : List B) (x : A) (y : B) → AllZip R xs ys → R x y → AllZip R (xs ++ x ∷ []) (ys ++ y ∷ [])
 zip_more R [] [] x y all is = (is, tt)

@@ -1,6 +1,5 @@
 -- What a capture file that is written holds, and that it reads back.
-use Rattle.std.proofs.Common.{◌≡◌, ℕ, suc, ◌+◌, ◌-◌, ◌≤◌, ◌++◌, List, length, arith, ap, ◌∙◌, append_assoc, replicate, length-append}
-use Rattle.std.proofs.lemmas.List.{length-replicate}
+use Rattle.std.{proofs.Common.{◌≡◌, ℕ, suc, ◌+◌, ◌-◌, ◌≤◌, ◌++◌, List, length, arith, ap, ◌∙◌, append_assoc, replicate, length-append}, proofs.lemmas.List.{length-replicate}}
 use Rattle.bus_captures.specs.Written.{CarriedValue, link_header}
 
 -- what is added to what was added

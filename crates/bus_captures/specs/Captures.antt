@@ -1,18 +1,9 @@
 -- Which entries a capture has, by all of its bytes.
-use Rattle.std.specs.Prelude.{◌≡◌, ◌⊎◌, ℕ, ◌+◌, List, [], ◌∷◌, ◌++◌, length, map}
-use Rattle.std.specs.List.{slice_split}
-use Rattle.bus_captures.specs.declared.capture.Capture.{Capture}
+use Rattle.std.{specs.Prelude.{◌≡◌, ◌⊎◌, ℕ, ◌+◌, List, [], ◌∷◌, ◌++◌, length, map}, specs.List.{slice_split}}
+use Rattle.bus_captures.{specs.declared.capture.Capture.{Capture}, specs.declared.capture.End.{End}, specs.declared.format.Order.{Order}, specs.declared.format.TimeUnit.{TimeUnit}, specs.Files.{magic, IsFile}, specs.Lines.{IsNothing, IsEntryLine, IsBad}, specs.Numbers.{number_bytes}, specs.Sorts.{is_of}, specs.Values.{most_entries, EntryValue, entry_value}}
 use Rattle.bus_captures.specs.declared.capture.CaptureFault.TheVariants as fault
-use Rattle.bus_captures.specs.declared.capture.End.{End}
 use Rattle.bus_captures.specs.declared.capture.End.TheVariants as end
-use Rattle.bus_captures.specs.declared.format.Order.{Order}
-use Rattle.bus_captures.specs.declared.format.TimeUnit.{TimeUnit}
-use Rattle.bus_captures.specs.Files.{magic, IsFile}
-use Rattle.bus_captures.specs.Lines.{IsNothing, IsEntryLine, IsBad}
-use Rattle.bus_captures.specs.Numbers.{number_bytes}
 use Rattle.bus_captures.specs.declared.sort.Sort.TheVariants as sort
-use Rattle.bus_captures.specs.Sorts.{is_of}
-use Rattle.bus_captures.specs.Values.{EntryValue, entry_value}
 
 -- the lines of a text: what stands between line ends
 abbrev pub lines_of : List ℕ → List (List ℕ)
@@ -29,7 +20,7 @@ AreEntries (line ∷ lines) entries =
 abbrev pub EndsText : ℕ → ℕ → List (List ℕ) → End → Type 0
 EndsText lines entries left end.Whole = left ≡ []
 EndsText lines entries left end.Full =
-    (entries ≡ 100000)
+    (entries ≡ most_entries)
     × ((line : List ℕ) × (more : List (List ℕ)) × (e : EntryValue) × (left ≡ line ∷ more) × IsEntryLine line e)
 EndsText lines entries left (end.Broken place why) =
     (place ≡ lines + 1) × (why ≡ fault.Line)

@@ -1,17 +1,9 @@
 -- Capture files: a header and records, one behind the other (libpcap's format, version 2.4).
-use Rattle.std.specs.Prelude.{◌≡◌, ◌≢◌, ◌⊎◌, ℕ, ◌+◌, ◌*◌, ◌<◌, ◌≤◌, ◌^◌, List, [], ◌++◌, length, drop, All}
-use Rattle.std.specs.List.{flat_map, AllZip}
-use Rattle.bus_captures.specs.declared.capture.CaptureFault.{CaptureFault}
+use Rattle.std.{specs.Prelude.{◌≡◌, ◌≢◌, ◌⊎◌, ℕ, ◌+◌, ◌*◌, ◌<◌, ◌≤◌, ◌^◌, List, [], ◌++◌, length, drop, All}, specs.List.{flat_map, AllZip}}
+use Rattle.bus_captures.{specs.declared.capture.CaptureFault.{CaptureFault}, specs.declared.capture.End.{End}, specs.declared.format.Order.{Order}, specs.declared.format.TimeUnit.{TimeUnit}, specs.declared.link.Link.{Link}, specs.Links.{link_number, link_length, direction_of, kind_in}, specs.Numbers.{number_bytes}, specs.Values.{most_entries, EntryValue, At}}
 use Rattle.bus_captures.specs.declared.capture.CaptureFault.TheVariants as fault
-use Rattle.bus_captures.specs.declared.capture.End.{End}
 use Rattle.bus_captures.specs.declared.capture.End.TheVariants as end
-use Rattle.bus_captures.specs.declared.format.Order.{Order}
-use Rattle.bus_captures.specs.declared.format.TimeUnit.{TimeUnit}
 use Rattle.bus_captures.specs.declared.format.TimeUnit.TheVariants as unit
-use Rattle.bus_captures.specs.declared.link.Link.{Link}
-use Rattle.bus_captures.specs.Links.{link_number, link_length, direction_of, kind_in}
-use Rattle.bus_captures.specs.Numbers.{number_bytes}
-use Rattle.bus_captures.specs.Values.{EntryValue, At}
 
 -- the number at the head of a file, by which its byte order and its unit of time are known
 abbrev pub magic : TimeUnit → ℕ
@@ -68,7 +60,7 @@ IsBrokenBy order link bytes fault.Line = ⊥
 -- how reading ends behind so many records, where these bytes are left
 abbrev pub EndsFile : Order → Link → ℕ → List ℕ → End → Type 0
 EndsFile order link count left end.Whole = left ≡ []
-EndsFile order link count left end.Full = (count ≡ 100000) × (left ≢ [])
+EndsFile order link count left end.Full = (count ≡ most_entries) × (left ≢ [])
 EndsFile order link count left (end.Broken place why) = (place ≡ count + 1) × IsBrokenBy order link left why
 
 -- The bytes are records, each of which is an entry, and then what is left.

@@ -1,8 +1,7 @@
 -- What stands at the front of a text in hex.
 use Rattle.std.specs.Prelude.{◌≡◌, ◌<◌, ℕ, List, [], ◌∷◌, length}
-use Rattle.bus_captures.specs.declared.hex_text.Front.{Front}
+use Rattle.bus_captures.{specs.declared.hex_text.Front.{Front}, specs.Hex.{IsHex}}
 use Rattle.bus_captures.specs.declared.hex_text.Front.TheVariants as front
-use Rattle.bus_captures.specs.Hex.{IsHex}
 
 -- the readings of the text are those of what is left
 pub record IsPassed (text left : List ℕ) : Type 0 where

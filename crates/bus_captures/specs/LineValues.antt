@@ -1,10 +1,7 @@
 -- Lines of the code.
 use Rattle.std.specs.Prelude.{◌≡◌, ◌<◌, List, ℕ, [], length}
-use Rattle.bus_captures.specs.declared.line.Line.{Line}
+use Rattle.bus_captures.{specs.declared.line.Line.{Line}, specs.declared.line.Head.{Head}, specs.Lines.{IsBlank, IsEntryText, IsBadText, HeadValue}, specs.Values.{entry_value, time_value}}
 use Rattle.bus_captures.specs.declared.line.Line.TheVariants as line
-use Rattle.bus_captures.specs.declared.line.Head.{Head}
-use Rattle.bus_captures.specs.Lines.{IsBlank, IsEntryText, IsBadText, HeadValue}
-use Rattle.bus_captures.specs.Values.{entry_value, time_value}
 
 -- what the text of a line says
 abbrev pub Says : List ℕ → Line → Type 0

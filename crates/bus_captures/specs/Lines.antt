@@ -1,15 +1,9 @@
 -- A line of a text capture: a time, words up to a colon, bytes in hex, and a comment. All but the bytes may be missing.
-use Rattle.std.specs.Prelude.{◌≡◌, ℕ, ◌+◌, ◌-◌, ◌<◌, ◌==◌, ◌&&◌, Bool, nat_lt, List, length}
-use Rattle.std.specs.Prelude.{take, drop, slice_index, codes, Option, None, Some, if◌then◌else◌}
-use Rattle.std.specs.List.{ends_with}
-use Rattle.bus_captures.specs.declared.capture.Direction.{Direction}
+use Rattle.std.{specs.Prelude.{◌≡◌, ℕ, ◌+◌, ◌-◌, ◌<◌, ◌==◌, ◌&&◌, Bool, nat_lt, List, length, take, drop, slice_index, codes, Option, None, Some, if◌then◌else◌}, specs.List.{ends_with}}
+use Rattle.bus_captures.{specs.declared.capture.Direction.{Direction}, specs.declared.capture.Kind.{Kind}, specs.Hex.{IsHex}, specs.Sorts.{before, behind}, specs.Values.{TimeValue, Unknown, Written, EntryValue}}
 use Rattle.bus_captures.specs.declared.capture.Direction.TheVariants as direction
-use Rattle.bus_captures.specs.declared.capture.Kind.{Kind}
 use Rattle.bus_captures.specs.declared.capture.Kind.TheVariants as kind
 use Rattle.bus_captures.specs.declared.sort.Sort.TheVariants as sort
-use Rattle.bus_captures.specs.Hex.{IsHex}
-use Rattle.bus_captures.specs.Sorts.{before, behind}
-use Rattle.bus_captures.specs.Values.{TimeValue, Unknown, Written, EntryValue}
 
 -- what stands before the comment
 abbrev pub uncommented : List ℕ → List ℕ

@@ -1,11 +1,9 @@
 -- What a record holds of the bus, by its link type (tcpdump.org, "Link-layer header types").
 use Rattle.std.specs.Prelude.{ℕ, ◌==◌, List, drop, slice_index, Option, None, Some, if◌then◌else◌}
 use Rattle.byteorder.specs.Endian.{big_number}
-use Rattle.bus_captures.specs.declared.capture.Direction.{Direction}
+use Rattle.bus_captures.{specs.declared.capture.Direction.{Direction}, specs.declared.capture.Kind.{Kind}, specs.declared.link.Link.{Link}}
 use Rattle.bus_captures.specs.declared.capture.Direction.TheVariants as direction
-use Rattle.bus_captures.specs.declared.capture.Kind.{Kind}
 use Rattle.bus_captures.specs.declared.capture.Kind.TheVariants as kind
-use Rattle.bus_captures.specs.declared.link.Link.{Link}
 use Rattle.bus_captures.specs.declared.link.Link.TheVariants as link
 
 -- the number of a link type in a file's header

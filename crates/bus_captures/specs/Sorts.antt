@@ -1,6 +1,5 @@
 -- What the bytes of a text capture may be, and where they stand.
-use Rattle.std.specs.Prelude.{ℕ, ◌==◌, ◌||◌, ◌&&◌, Bool, not, nat_le, List, reverse}
-use Rattle.std.specs.List.{position_or_len}
+use Rattle.std.{specs.Prelude.{ℕ, ◌==◌, ◌||◌, ◌&&◌, Bool, not, nat_le, List, reverse}, specs.List.{position_or_len}}
 use Rattle.bus_captures.specs.declared.sort.Sort.{Sort}
 use Rattle.bus_captures.specs.declared.sort.Sort.TheVariants as sort
 

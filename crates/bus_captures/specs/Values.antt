@@ -1,10 +1,11 @@
 -- What the entries of the code stand for, wherever their bytes lie.
 use Rattle.std.specs.Prelude.{◌≡◌, ℕ, List, [], ◌∷◌, ◌++◌, map, Option}
-use Rattle.bus_captures.specs.declared.capture.Direction.{Direction}
-use Rattle.bus_captures.specs.declared.capture.Kind.{Kind}
-use Rattle.bus_captures.specs.declared.capture.Entry.{Entry}
-use Rattle.bus_captures.specs.declared.capture.Time.{Time}
+use Rattle.bus_captures.{specs.declared.capture.Direction.{Direction}, specs.declared.capture.Kind.{Kind}, specs.declared.capture.Entry.{Entry}, specs.declared.capture.Time.{Time}}
 use Rattle.bus_captures.specs.declared.capture.Time.TheVariants as time
+
+-- the most entries of a capture
+abbrev pub most_entries : ℕ
+most_entries = 100000
 
 -- no time, a time as it is written, or seconds and nanoseconds
 pub data TimeValue : Type 0 where

@@ -1,20 +1,13 @@
 -- Capture files that are written: packets of MCTP alone, of the second cooked link type, with times in nanoseconds.
-use Rattle.std.specs.Prelude.{◌≡◌, ℕ, ◌+◌, ◌-◌, ◌<◌, ◌≤◌, ◌^◌, List, [], ◌∷◌, ◌++◌, length, map, Some, replicate}
-use Rattle.std.specs.List.{flat_map}
+use Rattle.std.{specs.Prelude.{◌≡◌, ℕ, ◌+◌, ◌-◌, ◌<◌, ◌≤◌, ◌^◌, List, [], ◌∷◌, ◌++◌, length, map, Some, replicate}, specs.List.{flat_map}}
 use Rattle.byteorder.specs.Endian.{big_bytes}
+use Rattle.bus_captures.{specs.declared.capture.End.{End}, specs.declared.carried.CarriedPacket.{CarriedPacket}, specs.Captures.{IsCapture}, specs.Files.{FileRecord, magic, record_bytes}, specs.Links.{link_number}, specs.Numbers.{number_bytes}, specs.Values.{EntryValue, At}}
 use Rattle.bus_captures.specs.declared.capture.Direction.TheVariants as direction
-use Rattle.bus_captures.specs.declared.capture.End.{End}
 use Rattle.bus_captures.specs.declared.capture.End.TheVariants as end
 use Rattle.bus_captures.specs.declared.capture.Kind.TheVariants as kind
 use Rattle.bus_captures.specs.declared.format.Order.TheVariants as order
 use Rattle.bus_captures.specs.declared.format.TimeUnit.TheVariants as unit
 use Rattle.bus_captures.specs.declared.link.Link.TheVariants as link
-use Rattle.bus_captures.specs.declared.carried.CarriedPacket.{CarriedPacket}
-use Rattle.bus_captures.specs.Captures.{IsCapture}
-use Rattle.bus_captures.specs.Files.{FileRecord, magic, record_bytes}
-use Rattle.bus_captures.specs.Links.{link_number}
-use Rattle.bus_captures.specs.Numbers.{number_bytes}
-use Rattle.bus_captures.specs.Values.{EntryValue, At}
 
 -- a packet that went over a bus: when, on which interface, from which physical address, and its bytes
 pub record CarriedValue : Type 0 where

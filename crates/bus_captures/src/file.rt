@@ -1,9 +1,6 @@
 //! Capture files: a header and records (libpcap's format, version 2.4).
 ghost use Rattle.std.specs.Prelude.{◌≡◌, ◌≤◌, [], length, map, IfOk, OnOk, MatchResult};
-ghost use Rattle.bus_captures.specs.Files.{IsBody, IsEntryOf, HasNoHeader, HasHeader, IsFile};
-ghost use Rattle.bus_captures.specs.Values.{entry_value, Adds};
-ghost use Rattle.bus_captures.specs.Links.{link_length};
-ghost use Rattle.bus_captures.specs.Records.{record_value};
+ghost use Rattle.bus_captures.{specs.Files.{IsBody, IsEntryOf, HasNoHeader, HasHeader, IsFile}, specs.Values.{entry_value, Adds}, specs.Links.{link_length}, specs.Records.{record_value}};
 
 use crate::capture::{Capture, CaptureFault, End, Entry, MAX_ENTRIES};
 use crate::format::{Order, TimeUnit, split_number};

@@ -1,9 +1,6 @@
 //! The byte order and the unit of time of a capture file, and numbers in that order.
 ghost use Rattle.std.specs.Prelude.{◌≡◌, ◌≢◌, ◌<◌, ◌^◌, ◌++◌, ℕ, List, length, MatchOption};
-ghost use Rattle.bus_captures.specs.Numbers.{number_bytes};
-ghost use Rattle.bus_captures.specs.Captures.{BeginsFile};
-ghost use Rattle.bus_captures.specs.declared.format.Order.{Order};
-ghost use Rattle.bus_captures.specs.declared.format.TimeUnit.{TimeUnit};
+ghost use Rattle.bus_captures.{specs.Numbers.{number_bytes}, specs.Captures.{BeginsFile}, specs.declared.format.Order.{Order}, specs.declared.format.TimeUnit.{TimeUnit}};
 
 use byteorder::{BigEndian, ByteOrder, LittleEndian};
 

@@ -1,7 +1,6 @@
 //! Bytes in hex, as a line has them.
 ghost use Rattle.std.specs.Prelude.{◌≡◌, ◌++◌, ◌∷◌, [], ℕ, ◌<◌, List, IfOk, MatchOption, length};
-ghost use Rattle.bus_captures.specs.Fronts.{IsFront};
-ghost use Rattle.bus_captures.specs.Hex.{IsDigit, IsByte, IsHex, IsOnlyHex, IsHexOrNot};
+ghost use Rattle.bus_captures.{specs.Fronts.{IsFront}, specs.Hex.{IsDigit, IsByte, IsHex, IsOnlyHex, IsHexOrNot}};
 
 use crate::sort::is_space;
 use std::alloc::{AllocError, Global};

@@ -1,8 +1,6 @@
 //! Laws of captures.
-ghost use Rattle.std.specs.Prelude.{◌≡◌, List, All};
-ghost use Rattle.std.specs.List.{flat_map};
-ghost use Rattle.bus_captures.specs.Files.{FileRecord, IsRecord, record_bytes};
-ghost use Rattle.bus_captures.specs.declared.format.Order.{Order};
+ghost use Rattle.std.{specs.Prelude.{◌≡◌, List, All}, specs.List.{flat_map}};
+ghost use Rattle.bus_captures.{specs.Files.{FileRecord, IsRecord, record_bytes}, specs.declared.format.Order.{Order}};
 
 /// Two lists of records that are the same bytes are equal.
 pub fn one_list_of_records()

@@ -1,8 +1,6 @@
 //! A line of a text capture.
 ghost use Rattle.std.specs.Prelude.{◌≡◌, IfOk};
-ghost use Rattle.bus_captures.specs.Lines.{uncommented, is_time, word, behind_word, time_of, untimed, direction_in, head_of, packet_head, message_head};
-ghost use Rattle.bus_captures.specs.LineValues.{Says, head_value, IsLineOf};
-ghost use Rattle.bus_captures.specs.Values.{time_value};
+ghost use Rattle.bus_captures.{specs.Lines.{uncommented, is_time, word, behind_word, time_of, untimed, direction_in, head_of, packet_head, message_head}, specs.LineValues.{Says, head_value, IsLineOf}, specs.Values.{time_value}};
 
 use crate::capture::{Direction, Entry, Kind, Time};
 use crate::hex_text::bytes_of_hex;

@@ -1,7 +1,6 @@
 //! What stands before the packet in a record of a capture file.
 ghost use Rattle.std.specs.Prelude.{◌≡◌, ◌≢◌, ◌≤◌, length, drop, MatchOption};
-ghost use Rattle.bus_captures.specs.Links.{link_number, link_length, sent_or_received, kind_of, direction_of, kind_in};
-ghost use Rattle.bus_captures.specs.declared.link.Link.{Link};
+ghost use Rattle.bus_captures.{specs.Links.{link_number, link_length, sent_or_received, kind_of, direction_of, kind_in}, specs.declared.link.Link.{Link}};
 
 use crate::capture::{Direction, Kind};
 use byteorder::{BigEndian, ByteOrder};

@@ -1,10 +1,6 @@
 //! Records of a capture file.
 ghost use Rattle.std.specs.Prelude.{◌≡◌, ◌≢◌, ◌≤◌, ◌<◌, ◌++◌, List, [], length, IfOk, MatchOption, MatchResult};
-ghost use Rattle.bus_captures.specs.Files.{FileRecord, IsRecord, record_bytes, Begins};
-ghost use Rattle.bus_captures.specs.Files.{IsBrokenBy, IsEntryOf};
-ghost use Rattle.bus_captures.specs.Links.{link_length};
-ghost use Rattle.bus_captures.specs.Records.{record_value};
-ghost use Rattle.bus_captures.specs.Values.{entry_value};
+ghost use Rattle.bus_captures.{specs.Files.{FileRecord, IsRecord, record_bytes, Begins, IsBrokenBy, IsEntryOf}, specs.Links.{link_length}, specs.Records.{record_value}, specs.Values.{entry_value}};
 
 use crate::capture::{CaptureFault, Entry, Time};
 use crate::format::{Order, TimeUnit, split_number};

@@ -1,8 +1,6 @@
 //! Text captures: a line an entry.
 ghost use Rattle.std.specs.Prelude.{◌≡◌, ◌∷◌, [], List, ℕ, IfOk, IfSome, map, MatchOption, length, ◌<◌};
-ghost use Rattle.bus_captures.specs.Captures.{lines_of, IsText};
-ghost use Rattle.bus_captures.specs.Values.{entry_value};
-ghost use Rattle.bus_captures.specs.Adding.{IsAdded, IsEntryAdded};
+ghost use Rattle.bus_captures.{specs.Captures.{lines_of, IsText}, specs.Values.{entry_value}, specs.Adding.{IsAdded, IsEntryAdded}};
 
 use crate::capture::{Capture, CaptureFault, End, Entry, MAX_ENTRIES};
 use crate::line::{Line, read_line};

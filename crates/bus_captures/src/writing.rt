@@ -1,9 +1,8 @@
 //! Capture files that are written: packets of MCTP of the second cooked link type, with times in nanoseconds.
 ghost use Rattle.std.specs.Prelude.{◌≡◌, ◌≤◌, ◌++◌, ◌-◌, [], List, All, length, replicate, IfOk, OnOk};
 ghost use Rattle.byteorder.specs.Endian.{big_bytes};
-ghost use Rattle.bus_captures.specs.Numbers.{number_bytes};
+ghost use Rattle.bus_captures.{specs.Numbers.{number_bytes}, specs.Written.{CarriedValue, IsCarried, ReadsBack, carried_value, link_header, written_bytes, written_file}, specs.Values.{most_entries}};
 ghost use Rattle.bus_captures.specs.declared.format.Order.TheVariants as order;
-ghost use Rattle.bus_captures.specs.Written.{CarriedValue, IsCarried, ReadsBack, carried_value, link_header, written_bytes, written_file};
 
 use crate::carried::CarriedPacket;
 use byteorder::{BigEndian, ByteOrder, LittleEndian};
@@ -110,5 +109,5 @@ fn add(file: &mut Vec<u8>, bytes: &[u8]) -> Result<(), AllocError>
 
 /// The packets of a file that is written are those that are read back, up to the most that are read.
 pub fn written_reads_back()
-    ensures { (ps : List CarriedValue) → All IsCarried ps → length ps ≤ 100000 → ReadsBack ps }
+    ensures { (ps : List CarriedValue) → All IsCarried ps → length ps ≤ most_entries → ReadsBack ps }
 {}

@@ -1,12 +1,9 @@
 -- Buses that lines name.
-use Rattle.std.proofs.Common.{◌≡◌, ◌≢◌, ℕ, ◌<◌, List, [], length, Option, None, Some, Result, Ok, Err, IfOk, option_map, slice_get, string_bytes, refl, sym, subst}
-use Rattle.std.proofs.lemmas.Option.{slice_get_within}
-use Rattle.plan_values.specs.declared.nodes.Bus.{Bus}
-use Rattle.plan_values.specs.declared.plan.Plan.{Plan}
+use Rattle.std.{proofs.Common.{◌≡◌, ◌≢◌, ℕ, ◌<◌, List, [], length, Option, None, Some, Result, Ok, Err, IfOk, option_map, slice_get, string_bytes, refl, sym, subst}, proofs.lemmas.Option.{slice_get_within}}
+use Rattle.plan_values.{specs.declared.nodes.Bus.{Bus}, specs.declared.plan.Plan.{Plan}}
 use Rattle.bus_captures.specs.Lines.{behind_word, uncommented, word}
-use Rattle.bus_commands.specs.PacketLines.{IsOtherText, IsPacketText, IsReadOver, NamesBus, Says, said_value}
+use Rattle.bus_commands.{specs.PacketLines.{IsOtherText, IsPacketText, IsReadOver, NamesBus, Says, said_value}, specs.declared.line.Said.{Said}}
 use Rattle.net_tables.specs.Names.{name_of_bus}
-use Rattle.bus_commands.specs.declared.line.Said.{Said}
 use Rattle.bus_commands.specs.declared.line.Said.TheVariants as said
 
 -- a bus with a name is one of the plan's

@@ -1,15 +1,9 @@
 -- What answers `capture` on what was read.
-use Rattle.std.proofs.Common.{◌≡◌, List, Result, Ok, Err, map, subst}
-use Rattle.std.specs.Prelude.{IfOk}
-use Rattle.command_answers.specs.Answers.{Stream, AreGiven}
-use Rattle.command_answers.specs.Inputs.{GaveEvents}
-use Rattle.command_answers.specs.declared.refused.Refused.{Refused}
-use Rattle.plan_values.specs.declared.certificate.Certificate.{Certificate}
-use Rattle.plan_values.specs.declared.event.Event.{Event}
-use Rattle.plan_values.specs.declared.plan.Plan.{Plan}
+use Rattle.std.{proofs.Common.{◌≡◌, List, Result, Ok, Err, map, subst}, specs.Prelude.{IfOk}}
+use Rattle.command_answers.{specs.Answers.{Stream, AreGiven}, specs.Inputs.{GaveEvents}, specs.declared.refused.Refused.{Refused}, specs.declared.bytes_answer.BytesAnswer.{BytesAnswer}}
+use Rattle.plan_values.{specs.declared.certificate.Certificate.{Certificate}, specs.declared.event.Event.{Event}, specs.declared.plan.Plan.{Plan}}
 use Rattle.net_sim.specs.Outcomes.{event_value}
 use Rattle.bus_commands.specs.Capturing.{AnswersCapture, AnswersRun}
-use Rattle.command_answers.specs.declared.bytes_answer.BytesAnswer.{BytesAnswer}
 
 pub answers_given : (plan : Plan) (cert : Certificate) (events given : List Event) (plans certificates happenings : Stream) (result : Result BytesAnswer Refused)
     → AreGiven plans certificates plan cert → GaveEvents plan happenings events → given ≡ events

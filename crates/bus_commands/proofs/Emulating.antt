@@ -1,24 +1,15 @@
 -- How a run of `emulate` ends.
-use Rattle.std.proofs.Common.{◌≡◌, ℕ, List, Result, Ok, Err, inl, inr, refl, sym, ◌∙◌, subst}
-use Rattle.std.specs.Io.KnownBytes.{Appends}
-use Rattle.command_answers.proofs.Telling.{breaks_off_also}
-use Rattle.command_answers.specs.Answers.{AreGiven, BreaksOff, IsErrorText, IsFaultText, Refuses, Stream}
-use Rattle.command_answers.specs.Naming.{IsFirstNamed}
-use Rattle.net_check.specs.Errors.{NamesFirstFault}
-use Rattle.net_check.specs.declared.check_error.CheckError.{CheckError}
-use Rattle.net_check.specs.declared.check_error.CheckError.TheVariants as check_error
+use Rattle.std.{proofs.Common.{◌≡◌, ℕ, List, Result, Ok, Err, inl, inr, refl, sym, ◌∙◌, subst}, specs.Io.KnownBytes.{Appends}}
+use Rattle.command_answers.{proofs.Telling.{breaks_off_also}, specs.Answers.{AreGiven, BreaksOff, IsErrorText, IsFaultText, Refuses, Stream}, specs.Naming.{IsFirstNamed}, specs.Statuses.{status_of}, specs.declared.refused.Refused.{Refused}, specs.declared.status.Status.{Status}}
+use Rattle.net_check.{specs.Errors.{NamesFirstFault}, specs.declared.check_error.CheckError.{CheckError}}
 use Rattle.net_plan.specs.Stream.{Account}
-use Rattle.plan_values.specs.declared.certificate.Certificate.{Certificate}
-use Rattle.plan_values.specs.declared.plan.Plan.{Plan}
+use Rattle.plan_values.{specs.declared.certificate.Certificate.{Certificate}, specs.declared.plan.Plan.{Plan}}
 use Rattle.net_rules.specs.Rules.{Accepts}
-use Rattle.command_answers.specs.Statuses.{status_of}
-use Rattle.command_answers.specs.declared.refused.Refused.{Refused}
-use Rattle.command_answers.specs.declared.refused.Refused.TheVariants as refused
-use Rattle.command_answers.specs.declared.status.Status.{Status}
-use Rattle.command_answers.specs.declared.status.Status.TheVariants as status
-use Rattle.bus_commands.specs.Emulating.{AnswersEmulation, AnswersNode, AnswersOn, EndsEmulation, Stops}
+use Rattle.bus_commands.{specs.Emulating.{AnswersEmulation, AnswersNode, AnswersOn, EndsEmulation, Stops}, specs.declared.playing.Stop.{Stop}}
 use Rattle.command_questions.specs.declared.emulation.Emulation.{Emulation}
-use Rattle.bus_commands.specs.declared.playing.Stop.{Stop}
+use Rattle.net_check.specs.declared.check_error.CheckError.TheVariants as check_error
+use Rattle.command_answers.specs.declared.refused.Refused.TheVariants as refused
+use Rattle.command_answers.specs.declared.status.Status.TheVariants as status
 use Rattle.bus_commands.specs.declared.playing.Stop.TheVariants as stop
 
 never_yes : (why : Refused) → status.Yes ≡ status_of why → ⊥

@@ -1,28 +1,14 @@
 -- The hops of a run that goes on, and the file that has them.
-use Rattle.std.proofs.Common.{◌≡◌, ℕ, ◌+◌, ◌<◌, ◌≤◌, Some, get_or, take, slice_get, length-take-le, List, [], ◌∷◌, ◌++◌, map, length, Option, refl, sym, ap, ◌∙◌, subst, append_assoc, append-nil, arith, option_to_list, option_map}
-use Rattle.std.specs.List.{flat_map}
-use Rattle.std.proofs.lemmas.Grind.{flat_map-append}
-use Rattle.std.proofs.lemmas.List.{length-map, map-append, take_all, take_more}
-use Rattle.std.proofs.lemmas.Option.{slice_get-map, slice_get-get_or, get_or_from_slice_get}
-use Rattle.bus_captures.specs.Files.{magic}
-use Rattle.bus_captures.specs.Links.{link_number}
-use Rattle.bus_captures.specs.Numbers.{number_bytes}
-use Rattle.bus_captures.specs.Written.{CarriedValue, header_fields, written_bytes, written_file}
+use Rattle.std.{proofs.Common.{◌≡◌, ℕ, ◌+◌, ◌<◌, ◌≤◌, Some, get_or, take, slice_get, length-take-le, List, [], ◌∷◌, ◌++◌, map, length, Option, refl, sym, ap, ◌∙◌, subst, append_assoc, append-nil, arith, option_to_list, option_map}, specs.List.{flat_map}, proofs.lemmas.Grind.{flat_map-append}, proofs.lemmas.List.{length-map, map-append, take_all, take_more}, proofs.lemmas.Option.{slice_get-map, slice_get-get_or, get_or_from_slice_get}}
+use Rattle.bus_captures.{specs.Files.{magic}, specs.Links.{link_number}, specs.Numbers.{number_bytes}, specs.Written.{CarriedValue, header_fields, written_bytes, written_file}}
+use Rattle.plan_values.{specs.declared.plan.Plan.{Plan}, specs.declared.certificate.Certificate.{Certificate}, specs.declared.event.Event.{Event}}
+use Rattle.net_runs.{specs.WalkedRuns.{WalkedRunFrom, WalkedStep, WalkedTurn, walked_after}, specs.Walkers.{WalkedEvent, WalkedOutcome, WalkedState, walked_at_start}}
+use Rattle.net_sim.{specs.Outcomes.{event_value}, proofs.PlayedWalks.{run_joins}, specs.WalkedStanding.{NetworkValue, StandsForWalked, WalkedPlays}}
+use Rattle.bus_commands.{specs.Capturing.{IsRunFile}, specs.Hops.{DepartureValue, IsDeparture, arriving, departing, departure_value, hop_between, hop_of, hops_from}, specs.declared.departure.Departure.{Departure}}
+use Rattle.net_tables.specs.TwoPlans.{one_plan}
 use Rattle.bus_captures.specs.declared.format.Order.TheVariants as order
 use Rattle.bus_captures.specs.declared.format.TimeUnit.TheVariants as unit
 use Rattle.bus_captures.specs.declared.link.Link.TheVariants as link
-use Rattle.plan_values.specs.declared.plan.Plan.{Plan}
-use Rattle.net_runs.specs.WalkedRuns.{WalkedRunFrom, WalkedStep, WalkedTurn, walked_after}
-use Rattle.net_runs.specs.Walkers.{WalkedEvent, WalkedOutcome, WalkedState, walked_at_start}
-use Rattle.plan_values.specs.declared.certificate.Certificate.{Certificate}
-use Rattle.plan_values.specs.declared.event.Event.{Event}
-use Rattle.net_sim.specs.Outcomes.{event_value}
-use Rattle.bus_commands.specs.Capturing.{IsRunFile}
-use Rattle.net_sim.proofs.PlayedWalks.{run_joins}
-use Rattle.net_sim.specs.WalkedStanding.{NetworkValue, StandsForWalked, WalkedPlays}
-use Rattle.net_tables.specs.TwoPlans.{one_plan}
-use Rattle.bus_commands.specs.Hops.{DepartureValue, IsDeparture, arriving, departing, departure_value, hop_between, hop_of, hops_from}
-use Rattle.bus_commands.specs.declared.departure.Departure.{Departure}
 
 -- the state behind one turn more
 after_more : (w : WalkedState) (turns : List WalkedTurn) (t : WalkedTurn) → walked_after w (turns ++ t ∷ []) ≡ t.after

@@ -1,22 +1,12 @@
 -- Lines that were played, and one more.
-use Rattle.std.proofs.Common.{◌≡◌, ℕ, ◌+◌, ◌-◌, ◌^◌, length, Bool, true, false, List, [], ◌∷◌, ◌++◌, Result, Ok, Err, inl, inr, refl, ap, ◌∙◌, subst, append_assoc}
-use Rattle.std.specs.Prelude.{⊤}
-use Rattle.std.specs.List.{flat_map}
-use Rattle.std.proofs.lemmas.List.{flat_map_more, length_push}
-use Rattle.std.proofs.lemmas.List.Elements.{All-nil, All-push}
-use Rattle.std.proofs.KnownBytes.{Appends-nil, Appends-trans, Consumes-nil, Consumes-trans}
-use Rattle.std.specs.Io.KnownBytes.{Appends, Consumes}
-use Rattle.command_answers.specs.Answers.{Stream}
-use Rattle.command_answers.specs.declared.refused.Input.TheVariants as input
-use Rattle.command_answers.specs.declared.refused.Refused.{Refused}
-use Rattle.command_answers.specs.declared.refused.Refused.TheVariants as refused
+use Rattle.std.{proofs.Common.{◌≡◌, ℕ, ◌+◌, ◌-◌, ◌^◌, length, Bool, true, false, List, [], ◌∷◌, ◌++◌, Result, Ok, Err, inl, inr, refl, ap, ◌∙◌, subst, append_assoc}, specs.Prelude.{⊤}, specs.List.{flat_map}, proofs.lemmas.List.{flat_map_more, length_push}, proofs.lemmas.List.Elements.{All-nil, All-push}, proofs.KnownBytes.{Appends-nil, Appends-trans, Consumes-nil, Consumes-trans}, specs.Io.KnownBytes.{Appends, Consumes}}
+use Rattle.command_answers.{specs.Answers.{Stream}, specs.declared.refused.Refused.{Refused}}
 use Rattle.emulated_node.specs.Nodes.{NodeState, Setting}
 use Rattle.net_plan.specs.Stream.{Account}
+use Rattle.bus_commands.{specs.Lines.{GaveLine, HasNoEnd}, specs.Playing.{LineTurn, TakesTurns, lines_of, IsGivenLine, BreaksAt, KeepsRoom, PlaysLine, Writes, PlaysWhole, PlaysAll, BreaksOff}, specs.Turns.{Takes}, specs.declared.playing.Stop.{Stop}}
+use Rattle.command_answers.specs.declared.refused.Input.TheVariants as input
+use Rattle.command_answers.specs.declared.refused.Refused.TheVariants as refused
 use Rattle.net_plan.specs.declared.error.PlanError.TheVariants as error
-use Rattle.bus_commands.specs.Lines.{GaveLine, HasNoEnd}
-use Rattle.bus_commands.specs.Playing.{LineTurn, TakesTurns, lines_of, IsGivenLine, BreaksAt, KeepsRoom, PlaysLine, Writes, PlaysWhole, PlaysAll, BreaksOff}
-use Rattle.bus_commands.specs.Turns.{Takes}
-use Rattle.bus_commands.specs.declared.playing.Stop.{Stop}
 use Rattle.bus_commands.specs.declared.playing.Stop.TheVariants as stop
 
 abbrev pub between : Account → Account → Stream

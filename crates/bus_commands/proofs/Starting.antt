@@ -1,37 +1,18 @@
 -- What the rules of an accepted plan say of a node that is emulated.
-use Rattle.std.proofs.Common.{◌≡◌, ℕ, Bool, List, [], Some, None, Option, Result, Ok, Err, IfOk, option_map, refl, sym, ap, subst, ◌∙◌, arith}
-use Rattle.plan_values.specs.declared.certificate.Certificate.{Certificate}
-use Rattle.plan_values.specs.declared.nodes.Kind.TheVariants as kind
-use Rattle.plan_values.specs.declared.nodes.Node.{Node}
-use Rattle.plan_values.specs.declared.nodes.Pool.{Pool}
-use Rattle.plan_values.specs.declared.plan.Plan.{Plan}
-use Rattle.net_rules.specs.Pools.{IsPoolInRange, IsLawfulPool, HasLawfulPool}
-use Rattle.net_rules.specs.Rules.{Accepts}
-use Rattle.net_rules.specs.declared.rule.Rule.TheVariants.{C02, C04, C05, C06, C09}
-use Rattle.plan_values.specs.declared.terminus.PlannedTerminus.{PlannedTerminus}
-use Rattle.net_tables.specs.Ownership.{pool_of}
-use Rattle.net_tables.specs.Repositories.{records_by_place, terminus_of}
-use Rattle.net_tables.specs.Routing.{node_at, rows_of}
-use Rattle.net_tables.specs.Tables.{AreRows}
-use Rattle.plan_exports.specs.PlannedTables.{HasLawfulRows}
-use Rattle.std.specs.Option.{option_and_then}
-use Rattle.mctp_control.specs.Ranges.{IsAssignableRange}
-use Rattle.emulated_node.specs.Nodes.{NodeState, Setting, TerminusValue}
-use Rattle.emulated_node.specs.Standing.{HasNodeState, at_start, setting_of}
-use Rattle.emulated_node.specs.Termini.{terminus_value}
-use Rattle.emulated_node.specs.declared.emulated.Emulated.{Emulated}
+use Rattle.std.{proofs.Common.{◌≡◌, ℕ, Bool, List, [], Some, None, Option, Result, Ok, Err, IfOk, option_map, refl, sym, ap, subst, ◌∙◌, arith}, specs.Option.{option_and_then}}
+use Rattle.plan_values.{specs.declared.certificate.Certificate.{Certificate}, specs.declared.nodes.Node.{Node}, specs.declared.nodes.Pool.{Pool}, specs.declared.plan.Plan.{Plan}, specs.declared.terminus.PlannedTerminus.{PlannedTerminus}}
+use Rattle.net_rules.{specs.Pools.{IsPoolInRange, IsLawfulPool, HasLawfulPool}, specs.Rules.{Accepts}, specs.declared.rule.Rule.TheVariants.{C02, C04, C05, C06, C09}}
+use Rattle.net_tables.{specs.Ownership.{pool_of}, specs.Repositories.{records_by_place, terminus_of}, specs.Routing.{node_at, rows_of}, specs.Tables.{AreRows}, specs.Names.{device_kind}}
+use Rattle.plan_exports.{specs.PlannedTables.{HasLawfulRows}, specs.PlannedRows.{IsOrdered}, specs.TableAnswers.{AreEntriesOf}}
+use Rattle.mctp_control.{specs.Ranges.{IsAssignableRange}, specs.Devices.{DeviceValue}, specs.RouteEntries.{EntryValue}}
+use Rattle.emulated_node.{specs.Nodes.{NodeState, Setting, TerminusValue}, specs.Standing.{HasNodeState, at_start, setting_of}, specs.Termini.{terminus_value}, specs.declared.emulated.Emulated.{Emulated}}
 use Rattle.mctp_transport.specs.declared.device_kind.DeviceKind.{DeviceKind}
 use Rattle.mctp_routing.specs.declared.row.TableRow.{TableRow}
-use Rattle.mctp_control.specs.Devices.{DeviceValue}
-use Rattle.mctp_control.specs.RouteEntries.{EntryValue}
 use Rattle.net_runs.specs.Termini.{TerminusState, terminus_at_start}
-use Rattle.net_tables.specs.Names.{device_kind}
 use Rattle.net_sim.specs.Dealing.{resting}
-use Rattle.pdr_repository.specs.BlockTermini.{block_tid, block_records}
-use Rattle.pdr_repository.specs.declared.block_terminus.BlockTerminus.{BlockTerminus}
-use Rattle.plan_exports.specs.PlannedRows.{IsOrdered}
-use Rattle.plan_exports.specs.TableAnswers.{AreEntriesOf}
+use Rattle.pdr_repository.{specs.BlockTermini.{block_tid, block_records}, specs.declared.block_terminus.BlockTerminus.{BlockTerminus}}
 use Rattle.bus_commands.specs.Starting.{HoldsLawfully, IsStart, device_at_start, planned_terminus}
+use Rattle.plan_values.specs.declared.nodes.Kind.TheVariants as kind
 
 -- by C04 and C05 the rows make a routing table
 pub are_rows : (plan : Plan) (cert : Certificate) (n : ℕ) → Accepts plan cert → AreRows (rows_of plan n)

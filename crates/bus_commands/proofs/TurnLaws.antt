@@ -1,14 +1,10 @@
 -- What becomes of lines that name a bus.
 use Rattle.std.proofs.Common.{◌≡◌, ℕ, List, Result, Ok, Err, IfOk, inl, sym, subst, string_bytes}
-use Rattle.emulated_node.specs.Nodes.{NodeState, Setting}
-use Rattle.emulated_node.specs.ReceivedValues.{ReceivedValue}
-use Rattle.emulated_node.specs.Receiving.{Receives}
+use Rattle.emulated_node.{specs.Nodes.{NodeState, Setting}, specs.ReceivedValues.{ReceivedValue}, specs.Receiving.{Receives}}
 use Rattle.mctp_transport.specs.PacketValues.{PacketValue, Spelled}
 use Rattle.plan_values.specs.declared.plan.Plan.{Plan}
+use Rattle.bus_commands.{specs.PacketLines.{Says}, specs.Turns.{IsToldOf, Takes, TakesBytes}, specs.declared.turn.Turn.{Turn}}
 use Rattle.bus_commands.specs.PacketLines as said
-use Rattle.bus_commands.specs.PacketLines.{Says}
-use Rattle.bus_commands.specs.Turns.{IsToldOf, Takes, TakesBytes}
-use Rattle.bus_commands.specs.declared.turn.Turn.{Turn}
 
 module _ {E : Type 0} (Before After : NodeState → Type 0) (set : Setting) (plan : Plan) (same : set.plan ≡ plan) where
   -- the bytes are a packet, and what the node does with it is told

@@ -1,16 +1,13 @@
 -- What the end of `capture` says of what it read and wrote.
 use Rattle.std.specs.Prelude.{◌≡◌, ℕ, List, map}
 use Rattle.bus_captures.specs.Written.{written_file}
-use Rattle.command_answers.specs.Answers.{IsFaultText, Stream}
-use Rattle.command_answers.specs.declared.status.Status.{Status}
-use Rattle.command_answers.specs.declared.status.Status.TheVariants as status
-use Rattle.plan_values.specs.declared.certificate.Certificate.{Certificate}
-use Rattle.plan_values.specs.declared.plan.Plan.{Plan}
+use Rattle.command_answers.{specs.Answers.{IsFaultText, Stream}, specs.declared.status.Status.{Status}}
+use Rattle.plan_values.{specs.declared.certificate.Certificate.{Certificate}, specs.declared.plan.Plan.{Plan}}
 use Rattle.net_rules.specs.Rules.{Accepts}
-use Rattle.net_runs.specs.WalkedRuns.{WalkedRun, WalkedTurn}
-use Rattle.net_runs.specs.Walkers.{WalkedEvent, walked_at_start}
+use Rattle.net_runs.{specs.WalkedRuns.{WalkedRun, WalkedTurn}, specs.Walkers.{WalkedEvent, walked_at_start}}
 use Rattle.play_commands.specs.Simulating.{AreOfFiles}
 use Rattle.bus_commands.specs.Hops.{hops_from}
+use Rattle.command_answers.specs.declared.status.Status.TheVariants as status
 
 -- The events are those of a run from the start, and the bytes are the capture file of its hops.
 pub record IsRunFile (plan : Plan) (cert : Certificate) (events : List WalkedEvent) (bytes : List ℕ) : Type 0 where

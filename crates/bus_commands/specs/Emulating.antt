@@ -1,22 +1,14 @@
 -- What the end of `emulate` says of what it read and wrote.
-use Rattle.std.specs.Prelude.{◌≡◌, ◌≢◌, ◌⊎◌, ℕ, Bool, List, Result, Ok, Err, Some, ⊤}
-use Rattle.std.specs.Io.KnownBytes.{Appends}
-use Rattle.command_answers.specs.Answers.{AreGiven, AreUnread, BreaksOff, IsFaultText, Refuses, Stream}
-use Rattle.command_answers.specs.Naming.{IsFirstNamed}
-use Rattle.command_answers.specs.declared.refused.Refused.{Refused}
-use Rattle.command_answers.specs.declared.refused.Refused.TheVariants as refused
-use Rattle.command_answers.specs.declared.status.Status.{Status}
-use Rattle.command_answers.specs.declared.status.Status.TheVariants as status
+use Rattle.std.{specs.Prelude.{◌≡◌, ◌≢◌, ◌⊎◌, ℕ, Bool, List, Result, Ok, Err, Some, ⊤}, specs.Io.KnownBytes.{Appends}}
+use Rattle.command_answers.{specs.Answers.{AreGiven, AreUnread, BreaksOff, IsFaultText, Refuses, Stream}, specs.Naming.{IsFirstNamed}, specs.declared.refused.Refused.{Refused}, specs.declared.status.Status.{Status}}
 use Rattle.emulated_node.specs.Nodes.{NodeState, Setting}
 use Rattle.net_plan.specs.Stream.{Account}
-use Rattle.plan_values.specs.declared.certificate.Certificate.{Certificate}
-use Rattle.plan_values.specs.declared.plan.Plan.{Plan}
-use Rattle.net_rules.specs.Names.{name_of}
-use Rattle.net_rules.specs.Rules.{Accepts}
-use Rattle.bus_commands.specs.Playing.{IsUnwritten, PlaysLines}
-use Rattle.bus_commands.specs.Starting.{IsStart}
+use Rattle.plan_values.{specs.declared.certificate.Certificate.{Certificate}, specs.declared.plan.Plan.{Plan}}
+use Rattle.net_rules.{specs.Names.{name_of}, specs.Rules.{Accepts}}
+use Rattle.bus_commands.{specs.Playing.{IsUnwritten, PlaysLines}, specs.Starting.{IsStart}, specs.declared.playing.Stop.{Stop}}
 use Rattle.command_questions.specs.declared.emulation.Emulation.{Emulation}
-use Rattle.bus_commands.specs.declared.playing.Stop.{Stop}
+use Rattle.command_answers.specs.declared.refused.Refused.TheVariants as refused
+use Rattle.command_answers.specs.declared.status.Status.TheVariants as status
 use Rattle.bus_commands.specs.declared.playing.Stop.TheVariants as stop
 
 -- no line was read, and nothing was written

@@ -1,16 +1,9 @@
 -- The hops of a run: each packet that an event moved from a node to the next one.
-use Rattle.std.specs.Prelude.{◌≡◌, ℕ, ◌+◌, ◌-◌, ◌^◌, ◌==◌, ◌&&◌, Bool, nat_le, nat_lt, min, List, []}
-use Rattle.std.specs.Prelude.{◌∷◌, ◌++◌, Option, Some, None, find, option_map, slice_get}
-use Rattle.std.specs.Option.{option_and_then, option_to_list}
+use Rattle.std.{specs.Prelude.{◌≡◌, ℕ, ◌+◌, ◌-◌, ◌^◌, ◌==◌, ◌&&◌, Bool, nat_le, nat_lt, min, List, [], ◌∷◌, ◌++◌, Option, Some, None, find, option_map, slice_get}, specs.Option.{option_and_then, option_to_list}}
 use Rattle.bus_captures.specs.Written.{CarriedValue}
 use Rattle.mctp_transport.specs.PacketValues.{packet_value_bytes}
-use Rattle.plan_values.specs.declared.nodes.Port.{Port}
-use Rattle.plan_values.specs.declared.nodes.Row.{Row}
-use Rattle.plan_values.specs.declared.plan.Plan.{Plan}
-use Rattle.net_runs.specs.Events.{Move, Moved, OutcomeValue}
-use Rattle.net_runs.specs.States.{Flight}
-use Rattle.net_runs.specs.WalkedRuns.{WalkedTurn}
-use Rattle.net_runs.specs.Walkers.{Happened, Happening, WalkedEvent, WalkedOutcome, WalkedState}
+use Rattle.plan_values.{specs.declared.nodes.Port.{Port}, specs.declared.nodes.Row.{Row}, specs.declared.plan.Plan.{Plan}}
+use Rattle.net_runs.{specs.Events.{Move, Moved, OutcomeValue}, specs.States.{Flight}, specs.WalkedRuns.{WalkedTurn}, specs.Walkers.{Happened, Happening, WalkedEvent, WalkedOutcome, WalkedState}}
 use Rattle.net_tables.specs.Routing.{ports_of, rows_of}
 use Rattle.bus_commands.specs.declared.departure.Departure.{Departure}
 

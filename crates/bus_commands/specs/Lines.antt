@@ -1,8 +1,6 @@
 -- Lines that a source gives, one at a time.
-use Rattle.std.specs.Prelude.{◌≡◌, ◌≢◌, ℕ, Bool, true, false, List, [], ◌∷◌, ◌++◌, All, length, Option}
-use Rattle.std.specs.Io.KnownBytes.{Consumes, IsAtEnd}
-use Rattle.net_plan.specs.declared.stream.TextFault.{TextFault}
-use Rattle.net_plan.specs.declared.stream.TextFault.TheVariants.{TooLong}
+use Rattle.std.{specs.Prelude.{◌≡◌, ◌≢◌, ℕ, Bool, true, false, List, [], ◌∷◌, ◌++◌, All, length, Option}, specs.Io.KnownBytes.{Consumes, IsAtEnd}}
+use Rattle.net_plan.{specs.declared.stream.TextFault.{TextFault}, specs.declared.stream.TextFault.TheVariants.{TooLong}}
 
 -- no line end is among the bytes
 abbrev pub HasNoEnd : List ℕ → Type 0

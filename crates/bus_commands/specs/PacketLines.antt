@@ -1,17 +1,13 @@
 -- What a line of the line protocol says to a node: the name of a bus, and behind it a packet as a line of a text
 -- capture has it.
 use Rattle.std.specs.Prelude.{◌≡◌, ◌≢◌, ℕ, List, [], ◌∷◌, Some}
-use Rattle.bus_captures.specs.Captures.{IsCapture}
-use Rattle.bus_captures.specs.Lines.{behind_word, uncommented, word}
-use Rattle.bus_captures.specs.Values.{EntryValue}
-use Rattle.bus_captures.specs.declared.capture.End.{End}
+use Rattle.bus_captures.{specs.Captures.{IsCapture}, specs.Lines.{behind_word, uncommented, word}, specs.Values.{EntryValue}, specs.declared.capture.End.{End}}
+use Rattle.bus_commands.specs.declared.line.Said.{Said}
+use Rattle.plan_values.specs.declared.plan.Plan.{Plan}
+use Rattle.net_tables.{specs.Names.{name_of_bus}, specs.Rows.{IsOnBus}}
 use Rattle.bus_captures.specs.declared.capture.End.TheVariants as end
 use Rattle.bus_captures.specs.declared.capture.Kind.TheVariants as kind
-use Rattle.bus_commands.specs.declared.line.Said.{Said}
 use Rattle.bus_commands.specs.declared.line.Said.TheVariants as said
-use Rattle.plan_values.specs.declared.plan.Plan.{Plan}
-use Rattle.net_tables.specs.Names.{name_of_bus}
-use Rattle.net_tables.specs.Rows.{IsOnBus}
 
 -- nothing but a comment; no bus on which the node has a port; no packet; or these bytes, which came over the bus
 pub data SaidValue : Type 0 where

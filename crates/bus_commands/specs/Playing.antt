@@ -1,20 +1,12 @@
 -- Lines that a node is given, one after another, and what was written for them.
-use Rattle.std.specs.Prelude.{◌≡◌, ◌⊎◌, ℕ, Bool, List, [], ◌∷◌, ◌++◌, All, Result, Ok, Err}
-use Rattle.std.specs.Prelude.{◌-◌, ◌^◌, length, ⊤}
-use Rattle.std.specs.Io.KnownBytes.{Appends, Consumes, IsAtEnd}
-use Rattle.std.specs.List.{flat_map}
+use Rattle.std.{specs.Prelude.{◌≡◌, ◌⊎◌, ℕ, Bool, List, [], ◌∷◌, ◌++◌, All, Result, Ok, Err, ◌-◌, ◌^◌, length, ⊤}, specs.Io.KnownBytes.{Appends, Consumes, IsAtEnd}, specs.List.{flat_map}}
 use Rattle.command_answers.specs.Answers.{Fails, Stream}
+use Rattle.emulated_node.specs.Nodes.{NodeState, Setting}
+use Rattle.net_plan.{specs.Stream.{Account, AppendsBeginning, HasFailed}, specs.TextFaults.{fault_count, text_error}, specs.declared.error.PlanError.{PlanError}, specs.declared.stream.TextFault.{TextFault}}
+use Rattle.bus_commands.{specs.Lines.{GaveLine, GavePart, HasNoEnd}, specs.Turns.{Takes}, specs.declared.playing.Stop.{Stop}}
 use Rattle.command_answers.specs.declared.refused.Input.TheVariants as input
 use Rattle.command_answers.specs.declared.refused.Refused.TheVariants as refused
-use Rattle.emulated_node.specs.Nodes.{NodeState, Setting}
-use Rattle.net_plan.specs.Stream.{Account, AppendsBeginning, HasFailed}
-use Rattle.net_plan.specs.TextFaults.{fault_count, text_error}
-use Rattle.net_plan.specs.declared.error.PlanError.{PlanError}
 use Rattle.net_plan.specs.declared.error.PlanError.TheVariants as error
-use Rattle.net_plan.specs.declared.stream.TextFault.{TextFault}
-use Rattle.bus_commands.specs.Lines.{GaveLine, GavePart, HasNoEnd}
-use Rattle.bus_commands.specs.Turns.{Takes}
-use Rattle.bus_commands.specs.declared.playing.Stop.{Stop}
 use Rattle.bus_commands.specs.declared.playing.Stop.TheVariants as stop
 
 -- a line, the lines that are sent for it, and what is noted of it

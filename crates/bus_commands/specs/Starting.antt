@@ -1,21 +1,13 @@
 -- A planned node before a packet has come to it.
 use Rattle.std.specs.Prelude.{◌≡◌, ℕ, Bool, true, false, Option, Some, None, option_map}
-use Rattle.emulated_node.specs.Nodes.{NodeState, Setting, TerminusValue}
-use Rattle.emulated_node.specs.Standing.{at_start}
-use Rattle.mctp_control.specs.Devices.{DeviceValue}
-use Rattle.mctp_control.specs.Ranges.{IsAssignableRange}
+use Rattle.emulated_node.{specs.Nodes.{NodeState, Setting, TerminusValue}, specs.Standing.{at_start}}
+use Rattle.mctp_control.{specs.Devices.{DeviceValue}, specs.Ranges.{IsAssignableRange}}
 use Rattle.mctp_transport.specs.PacketValues.{IsAssignable}
-use Rattle.plan_values.specs.declared.certificate.Certificate.{Certificate}
-use Rattle.plan_values.specs.declared.nodes.Kind.TheVariants as kind
-use Rattle.plan_values.specs.declared.nodes.Node.{Node}
-use Rattle.plan_values.specs.declared.nodes.Pool.{Pool}
-use Rattle.plan_values.specs.declared.plan.Plan.{Plan}
-use Rattle.net_tables.specs.Names.{device_kind}
+use Rattle.plan_values.{specs.declared.certificate.Certificate.{Certificate}, specs.declared.nodes.Node.{Node}, specs.declared.nodes.Pool.{Pool}, specs.declared.plan.Plan.{Plan}}
+use Rattle.net_tables.{specs.Names.{device_kind}, specs.Repositories.{records_by_place, terminus_of}, specs.Routing.{node_at}}
 use Rattle.net_sim.specs.AssignmentRuns.{holding, starting}
-use Rattle.net_tables.specs.Repositories.{records_by_place, terminus_of}
-use Rattle.net_tables.specs.Routing.{node_at}
-use Rattle.plan_exports.specs.PlannedRows.{IsOrdered}
-use Rattle.plan_exports.specs.TableAnswers.{AreEntriesOf}
+use Rattle.plan_exports.{specs.PlannedRows.{IsOrdered}, specs.TableAnswers.{AreEntriesOf}}
+use Rattle.plan_values.specs.declared.nodes.Kind.TheVariants as kind
 
 -- its device: configured with what is planned, or as an assignment finds it
 abbrev pub device_at_start : Bool → Node → DeviceValue

@@ -1,22 +1,16 @@
 -- What becomes of a line that a node is given: the lines that it sends, and what is noted of what it drops.
-use Rattle.std.specs.Prelude.{◌≡◌, ◌⊎◌, ℕ, ◌&&◌, nat_le, List, [], ◌++◌, map, codes, if◌then◌else◌}
-use Rattle.std.specs.List.{flat_map}
+use Rattle.std.{specs.Prelude.{◌≡◌, ◌⊎◌, ℕ, ◌&&◌, nat_le, List, [], ◌++◌, map, codes, if◌then◌else◌}, specs.List.{flat_map}}
 use Rattle.hex.specs.Hex.{encode_lower}
-use Rattle.emulated_node.specs.Nodes.{NodeState, Setting}
-use Rattle.emulated_node.specs.ReceivedValues.{ReceivedValue, Sent, Held, Dropped}
-use Rattle.emulated_node.specs.Receiving.{Receives}
-use Rattle.emulated_node.specs.declared.received.Reason.{Reason}
-use Rattle.emulated_node.specs.declared.received.Reason.TheVariants as reason
+use Rattle.emulated_node.{specs.Nodes.{NodeState, Setting}, specs.ReceivedValues.{ReceivedValue, Sent, Held, Dropped}, specs.Receiving.{Receives}, specs.declared.received.Reason.{Reason}}
 use Rattle.mctp_routing.specs.Decisions.{forward_fault_code}
-use Rattle.mctp_transport.specs.Causes.{cause_code}
-use Rattle.mctp_transport.specs.PacketValues.{PacketValue, Spelled}
-use Rattle.mctp_transport.specs.Refusals as refusals
-use Rattle.mctp_transport.specs.declared.packet_error.PacketError.{PacketError}
-use Rattle.mctp_transport.specs.declared.packet_error.PacketError.TheVariants as packet
+use Rattle.mctp_transport.{specs.Causes.{cause_code}, specs.PacketValues.{PacketValue, Spelled}, specs.declared.packet_error.PacketError.{PacketError}}
 use Rattle.plan_values.specs.declared.plan.Plan.{Plan}
 use Rattle.net_tables.specs.Names.{bus_name}
-use Rattle.bus_commands.specs.PacketLines as said
 use Rattle.bus_commands.specs.PacketLines.{SaidValue, Says}
+use Rattle.emulated_node.specs.declared.received.Reason.TheVariants as reason
+use Rattle.mctp_transport.specs.Refusals as refusals
+use Rattle.mctp_transport.specs.declared.packet_error.PacketError.TheVariants as packet
+use Rattle.bus_commands.specs.PacketLines as said
 
 -- why bytes are no packet under a transmission unit: the first of the causes
 abbrev pub IsNoPacketFor : ℕ → PacketError → List ℕ → Type 0

@@ -1,12 +1,11 @@
 //! The command `capture`: the hops of a run as a capture file.
 ghost use Rattle.std.specs.Prelude.{◌≡◌, IfOk, IfErr, map};
-ghost use Rattle.command_answers.specs.Answers.{stream, IsWithoutPlan, AreWithoutCertificate};
-ghost use Rattle.command_answers.specs.Told.{Concludes};
-ghost use Rattle.command_answers.specs.declared.refused.Refused.TheVariants as refused;
+ghost use Rattle.command_answers.{specs.Answers.{stream, IsWithoutPlan, AreWithoutCertificate}, specs.Told.{Concludes}};
 ghost use Rattle.net_plan.specs.Stream.{HasRoom};
 ghost use Rattle.net_sim.specs.Outcomes.{event_value};
 ghost use Rattle.play_commands.specs.Simulating.{AreUnreadAmong};
 ghost use Rattle.bus_commands.specs.Capturing.{AnswersCapture, AnswersRun, IsRunFile};
+ghost use Rattle.command_answers.specs.declared.refused.Refused.TheVariants as refused;
 
 use crate::hops::{add_hop, departing};
 use bus_captures::begin_file;

@@ -1,10 +1,8 @@
 //! The command `emulate`: a planned node on a line protocol.
 ghost use Rattle.std.specs.Prelude.{◌≡◌, ◌<◌, Ok, length};
-ghost use Rattle.command_answers.specs.Answers.{stream, IsWithoutPlan, AreWithoutCertificate};
-ghost use Rattle.command_answers.specs.declared.status.Status.TheVariants.{Fault};
+ghost use Rattle.command_answers.{specs.Answers.{stream, IsWithoutPlan, AreWithoutCertificate}, specs.declared.status.Status.TheVariants.{Fault}};
 ghost use Rattle.net_plan.specs.Stream.{HasRoom};
-ghost use Rattle.bus_commands.specs.Emulating.{AnswersEmulation, AnswersNode, AnswersOn, EndsEmulation};
-ghost use Rattle.bus_commands.specs.Playing.{KeepsRoom};
+ghost use Rattle.bus_commands.{specs.Emulating.{AnswersEmulation, AnswersNode, AnswersOn, EndsEmulation}, specs.Playing.{KeepsRoom}};
 
 use crate::playing::{Stop, play_lines};
 use crate::start::start;

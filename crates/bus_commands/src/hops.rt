@@ -1,13 +1,8 @@
 //! Hops of packets, as a capture file has them.
-ghost use Rattle.std.specs.Prelude.{◌≡◌, ◌++◌, ◌≤◌, IfOk, OnOk, find, length, option_map};
-ghost use Rattle.std.specs.Option.{option_to_list};
-ghost use Rattle.std.specs.List.{flat_map};
+ghost use Rattle.std.{specs.Prelude.{◌≡◌, ◌++◌, ◌≤◌, IfOk, OnOk, find, length, option_map}, specs.Option.{option_to_list}, specs.List.{flat_map}};
 ghost use Rattle.bus_captures.specs.Written.{written_bytes};
 ghost use Rattle.net_runs.specs.Walkers.{WalkedState};
-ghost use Rattle.net_sim.specs.Effects.{effect_value};
-ghost use Rattle.net_sim.specs.Networks.{network_value};
-ghost use Rattle.net_sim.specs.Outcomes.{event_value, outcome_value};
-ghost use Rattle.net_sim.specs.WalkedStanding.{StandsForWalked};
+ghost use Rattle.net_sim.{specs.Effects.{effect_value}, specs.Networks.{network_value}, specs.Outcomes.{event_value, outcome_value}, specs.WalkedStanding.{StandsForWalked}};
 ghost use Rattle.net_tables.specs.Routing.{rows_of};
 ghost use Rattle.bus_commands.specs.Hops.{IsDeparture, address_of, arriving, carried, departure_value, hop_between, interface_of, leads, moving, port_towards, reached, stamp};
 

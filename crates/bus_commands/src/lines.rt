@@ -1,8 +1,6 @@
 //! Lines of a source, one at a time: no more bytes are taken than those up to a line's end.
-ghost use Rattle.std.specs.Prelude.{◌≡◌, ◌∷◌, [], List, ℕ, IfOk, IfErr, OnErr, MatchOption};
-ghost use Rattle.std.specs.Io.KnownBytes.{Consumes, IsAtEnd, Keeps};
-ghost use Rattle.net_plan.specs.Stream.{HasRoom, HasFailed, failure_count};
-ghost use Rattle.net_plan.specs.TextFaults.{device_count};
+ghost use Rattle.std.{specs.Prelude.{◌≡◌, ◌∷◌, [], List, ℕ, IfOk, IfErr, OnErr, MatchOption}, specs.Io.KnownBytes.{Consumes, IsAtEnd, Keeps}};
+ghost use Rattle.net_plan.{specs.Stream.{HasRoom, HasFailed, failure_count}, specs.TextFaults.{device_count}};
 ghost use Rattle.bus_commands.specs.Lines.{GaveLine, GavePart};
 
 use net_plan::{Failed, Source, TextFault};

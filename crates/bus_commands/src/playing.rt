@@ -1,8 +1,7 @@
 //! Lines that a node is given, one after another, and what is written for each.
 ghost use Rattle.std.specs.Prelude.{◌≡◌, OnOk, string_bytes};
 ghost use Rattle.command_answers.specs.Answers.{stream};
-ghost use Rattle.emulated_node.specs.Nodes.{NodeState};
-ghost use Rattle.emulated_node.specs.Standing.{HasNodeState, setting_of};
+ghost use Rattle.emulated_node.{specs.Nodes.{NodeState}, specs.Standing.{HasNodeState, setting_of}};
 ghost use Rattle.net_plan.specs.Stream.{HasRoom};
 ghost use Rattle.bus_commands.specs.Playing.{KeepsRoom, PlaysLine, PlaysLines, Writes};
 

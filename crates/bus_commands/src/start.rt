@@ -1,7 +1,6 @@
 //! A planned node to which no packet has come yet.
 ghost use Rattle.std.specs.Prelude.{◌≡◌, ◌<◌, IfOk, length, None};
-ghost use Rattle.emulated_node.specs.Nodes.{NodeState};
-ghost use Rattle.emulated_node.specs.Standing.{HasNodeState, setting_of};
+ghost use Rattle.emulated_node.{specs.Nodes.{NodeState}, specs.Standing.{HasNodeState, setting_of}};
 ghost use Rattle.mctp_control.specs.Devices.{configured_pool, device_value, size_of};
 ghost use Rattle.net_tables.specs.Names.{device_kind};
 ghost use Rattle.net_sim.specs.AssignmentRuns.{empty, holding, planned_pool, planned_size};

@@ -1,9 +1,6 @@
 //! What becomes of a line: the lines that are sent for it, and what is noted of it.
-ghost use Rattle.std.specs.Prelude.{◌≡◌, ◌<◌, ◌++◌, [], IfOk, length, map, string_bytes};
-ghost use Rattle.std.specs.List.{flat_map};
-ghost use Rattle.emulated_node.specs.Nodes.{NodeState};
-ghost use Rattle.emulated_node.specs.ReceivedValues.{received_value};
-ghost use Rattle.emulated_node.specs.Standing.{HasNodeState, setting_of};
+ghost use Rattle.std.{specs.Prelude.{◌≡◌, ◌<◌, ◌++◌, [], IfOk, length, map, string_bytes}, specs.List.{flat_map}};
+ghost use Rattle.emulated_node.{specs.Nodes.{NodeState}, specs.ReceivedValues.{received_value}, specs.Standing.{HasNodeState, setting_of}};
 ghost use Rattle.bus_commands.specs.Turns.{IsToldOf, Takes, TakesBytes, answer_line, note_line, reason_words, shown_byte};
 
 use crate::line::{Said, read_line};

@@ -1,15 +1,12 @@
 -- What the end of `decode` tells of an answer.
-use Rattle.std.proofs.Common.{◌≡◌, ◌≢◌, ℕ, List, Ok, refl, sym, subst}
-use Rattle.std.specs.Prelude.{Option, Some}
-use Rattle.bus_captures.specs.Captures.{IsCapture}
-use Rattle.bus_captures.specs.Values.{EntryValue}
-use Rattle.bus_captures.specs.declared.capture.End.{End}
-use Rattle.bus_captures.specs.declared.capture.End.TheVariants as end
+use Rattle.std.{proofs.Common.{◌≡◌, ◌≢◌, ℕ, List, Ok, refl, sym, subst}, specs.Prelude.{Option, Some}}
+use Rattle.bus_captures.{specs.Captures.{IsCapture}, specs.Values.{EntryValue}, specs.declared.capture.End.{End}}
 use Rattle.decoded_texts.specs.Decoding.{IsDecodedBy}
 use Rattle.plan_values.specs.declared.plan.Plan.{Plan}
 use Rattle.byte_commands.specs.Decoding.{IsDecodedSo}
-use Rattle.command_answers.specs.declared.refused.Refused.TheVariants as refused
 use Rattle.command_answers.specs.declared.status.Status.{Status}
+use Rattle.bus_captures.specs.declared.capture.End.TheVariants as end
+use Rattle.command_answers.specs.declared.refused.Refused.TheVariants as refused
 use Rattle.command_answers.specs.declared.status.Status.TheVariants as status
 
 pub decoded_so : (plan : Option Plan) (bytes : List ℕ) (entries : List EntryValue) (how : End) (text : List ℕ) (ended : Status) → IsCapture bytes entries how → IsDecodedBy plan entries how text

@@ -1,18 +1,13 @@
 -- What `decode` prints.
 use Rattle.std.specs.Prelude.{◌≡◌, ◌≢◌, ◌⊎◌, ℕ, List, Option, Some, None, codes}
-use Rattle.bus_captures.specs.Captures.{IsCapture}
-use Rattle.bus_captures.specs.Values.{EntryValue}
-use Rattle.bus_captures.specs.declared.capture.End.{End}
-use Rattle.bus_captures.specs.declared.capture.End.TheVariants as end
+use Rattle.bus_captures.{specs.Captures.{IsCapture}, specs.Values.{EntryValue}, specs.declared.capture.End.{End}}
 use Rattle.decoded_texts.specs.Decoding.{IsDecodedBy}
-use Rattle.net_plan.specs.Stream.{TakesMoreThan}
-use Rattle.net_plan.specs.Texts.{Gave}
-use Rattle.net_plan.specs.declared.stream.TextFault.{TextFault}
-use Rattle.net_plan.specs.declared.stream.TextFault.TheVariants as fault
-use Rattle.command_answers.specs.declared.status.Status.{Status}
-use Rattle.command_answers.specs.declared.status.Status.TheVariants as status
-use Rattle.command_answers.specs.Answers.{Stream, Fails, GavePlan}
+use Rattle.net_plan.{specs.Stream.{TakesMoreThan}, specs.Texts.{Gave}, specs.declared.stream.TextFault.{TextFault}, specs.Limits.{most_text_bytes}}
+use Rattle.command_answers.{specs.declared.status.Status.{Status}, specs.Answers.{Stream, Fails, GavePlan}}
 use Rattle.plan_values.specs.declared.plan.Plan.{Plan}
+use Rattle.bus_captures.specs.declared.capture.End.TheVariants as end
+use Rattle.net_plan.specs.declared.stream.TextFault.TheVariants as fault
+use Rattle.command_answers.specs.declared.status.Status.TheVariants as status
 
 -- the text tells of the entries of the capture that the bytes are, with the names that a plan has, where reading them
 -- ends so
@@ -35,14 +30,14 @@ not_given fault.OutOfMemory = None
 
 -- the source failed, or gave more bytes than a capture may have
 abbrev pub IsNotGiven : TextFault → Stream → Type 0
-IsNotGiven fault.TooLong source = TakesMoreThan 16777216 source.before.bytes source.after.bytes
+IsNotGiven fault.TooLong source = TakesMoreThan most_text_bytes source.before.bytes source.after.bytes
 IsNotGiven fault.Device source = Fails source
 IsNotGiven fault.OutOfMemory source = ⊥
 
 -- the text tells of the capture that the source gave, with the names that a plan has, or why it gave none
 abbrev pub DecodesBy : Option Plan → Stream → Status → List ℕ → Type 0
 DecodesBy plan source ended text =
-    Gave 16777216 source.before.bytes source.after.bytes (λ bytes. IsDecodedSo plan bytes ended text)
+    Gave most_text_bytes source.before.bytes source.after.bytes (λ bytes. IsDecodedSo plan bytes ended text)
     ⊎ ((ended ≡ status.Unreadable)
     × ((why : TextFault) × IsNotGiven why source × (not_given why ≡ Some text)))
 

@@ -1,22 +1,17 @@
 -- What the end of `show` says of the bytes that it was given.
 use Rattle.std.specs.Prelude.{◌≡◌, ℕ, List, Ok, Err}
-use Rattle.hex.specs.Hex.{decode_of}
-use Rattle.hex.specs.declared.error.FromHexError.{FromHexError}
-use Rattle.mctp_transport.specs.declared.packet_error.PacketError.{PacketError}
-use Rattle.mctp_transport.specs.declared.packet_error.PacketError.TheVariants as packet
-use Rattle.mctp_transport.specs.PacketValues.{PacketValue, Spelled}
-use Rattle.mctp_transport.specs.Refusals as refusals
-use Rattle.pdr_record.specs.declared.record_error.RecordError.{RecordError}
-use Rattle.pdr_record.specs.Codes as records
-use Rattle.pdr_record.specs.Faults.{IsFault}
-use Rattle.pdr_record.specs.Records as record_of
+use Rattle.hex.{specs.Hex.{decode_of}, specs.declared.error.FromHexError.{FromHexError}}
+use Rattle.mctp_transport.{specs.declared.packet_error.PacketError.{PacketError}, specs.PacketValues.{PacketValue, Spelled}}
+use Rattle.pdr_record.{specs.declared.record_error.RecordError.{RecordError}, specs.Faults.{IsFault}}
 use Rattle.command_questions.specs.declared.words.ShownKind.{ShownKind}
-use Rattle.command_questions.specs.declared.words.ShownKind.TheVariants as kind
-use Rattle.command_answers.specs.declared.refused.Refused.{Refused}
-use Rattle.command_answers.specs.declared.status.Status.{Status}
-use Rattle.command_answers.specs.declared.status.Status.TheVariants as status
-use Rattle.command_answers.specs.Statuses.{HasCause}
+use Rattle.command_answers.{specs.declared.refused.Refused.{Refused}, specs.declared.status.Status.{Status}, specs.Statuses.{HasCause}}
 use Rattle.plan_texts.specs.Shown.{refused_bytes, packet_bytes, record_text_bytes}
+use Rattle.mctp_transport.specs.declared.packet_error.PacketError.TheVariants as packet
+use Rattle.mctp_transport.specs.Refusals as refusals
+use Rattle.pdr_record.specs.Codes as records
+use Rattle.pdr_record.specs.Records as record_of
+use Rattle.command_questions.specs.declared.words.ShownKind.TheVariants as kind
+use Rattle.command_answers.specs.declared.status.Status.TheVariants as status
 
 -- the hex text, in digits of either case, is that of the bytes
 abbrev pub IsDecoded : List ℕ → List ℕ → Type 0

@@ -1,22 +1,15 @@
 -- What the end of `describe` and of `record` says of the words that they were given.
-use Rattle.std.specs.Prelude.{◌≡◌, ◌⊎◌, ℕ, List, [], ◌∷◌, ◌++◌, codes, nat_eq, ◌&&◌, if◌then◌else◌}
-use Rattle.std.specs.List.{flat_map}
+use Rattle.std.{specs.Prelude.{◌≡◌, ◌⊎◌, ℕ, List, [], ◌∷◌, ◌++◌, codes, nat_eq, ◌&&◌, if◌then◌else◌}, specs.List.{flat_map}}
 use Rattle.hex.specs.Hex.{encode_lower}
-use Rattle.pdr_record.specs.declared.record_error.RecordError.{RecordError}
-use Rattle.pdr_record.specs.Codes.{code_of}
-use Rattle.pdr_record.specs.Faults.{IsFault}
-use Rattle.pdr_record.specs.Records.{RecordValue, Spelled}
-use Rattle.record_fields.specs.Named.{named_fields}
-use Rattle.record_fields.specs.Said.{IsRecordOfWords}
-use Rattle.record_fields.specs.Texts.{AreFieldLines}
+use Rattle.pdr_record.{specs.declared.record_error.RecordError.{RecordError}, specs.Codes.{code_of}, specs.Faults.{IsFault}, specs.Records.{RecordValue, Spelled}}
+use Rattle.record_fields.{specs.Named.{named_fields}, specs.Said.{IsRecordOfWords}, specs.Texts.{AreFieldLines}}
 use Rattle.command_questions.specs.declared.words.WordQuestion.{WordQuestion}
-use Rattle.command_questions.specs.declared.words.WordQuestion.TheVariants as question
-use Rattle.command_answers.specs.declared.refused.Refused.{Refused}
-use Rattle.command_answers.specs.declared.refused.Refused.TheVariants as refused
-use Rattle.command_answers.specs.declared.status.Status.{Status}
-use Rattle.command_answers.specs.declared.status.Status.TheVariants as status
+use Rattle.command_answers.{specs.declared.refused.Refused.{Refused}, specs.declared.status.Status.{Status}}
 use Rattle.byte_commands.specs.Show.{IsDecoded, IsNoHex}
 use Rattle.plan_texts.specs.Shown.{refused_bytes}
+use Rattle.command_questions.specs.declared.words.WordQuestion.TheVariants as question
+use Rattle.command_answers.specs.declared.refused.Refused.TheVariants as refused
+use Rattle.command_answers.specs.declared.status.Status.TheVariants as status
 
 -- ---- describe
 

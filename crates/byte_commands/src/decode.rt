@@ -1,12 +1,9 @@
 //! The command `decode`: what became of each entry of a capture, and what its messages say.
-ghost use Rattle.std.specs.Prelude.{◌≡◌, ◌≢◌, IfOk, IfErr, string_bytes, Option, Some};
-ghost use Rattle.std.specs.Cow.{cow_str_bytes};
+ghost use Rattle.std.{specs.Prelude.{◌≡◌, ◌≢◌, IfOk, IfErr, string_bytes, Option, Some}, specs.Cow.{cow_str_bytes}};
 ghost use Rattle.net_plan.specs.Stream.{HasRoom};
-ghost use Rattle.command_answers.specs.declared.refused.Refused.TheVariants as refused;
-ghost use Rattle.command_answers.specs.declared.status.Status.TheVariants.{Yes, Unreadable};
-ghost use Rattle.command_answers.specs.Answers.{stream, IsPlanUnread, IsWithoutPlan};
+ghost use Rattle.command_answers.{specs.declared.status.Status.TheVariants.{Yes, Unreadable}, specs.Answers.{stream, IsPlanUnread, IsWithoutPlan}, specs.Told.{ConcludesOnBoth, ConcludesOnOutput}};
 ghost use Rattle.byte_commands.specs.Decoding.{DecodesBy, DecodesSo, DecodesNamedSo, IsDecodedSo, not_given};
-ghost use Rattle.command_answers.specs.Told.{ConcludesOnBoth, ConcludesOnOutput};
+ghost use Rattle.command_answers.specs.declared.refused.Refused.TheVariants as refused;
 
 use bus_captures::{End, read_capture};
 use command_answers::{Answer, Refused, Status, given_plan, refuse, tell};

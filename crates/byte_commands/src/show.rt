@@ -1,10 +1,8 @@
 //! The command `show`: what bytes are, or why they are nothing.
-ghost use Rattle.std.specs.Prelude.{◌≡◌, IfOk, IfErr};
-ghost use Rattle.std.specs.Cow.{cow_str_bytes};
+ghost use Rattle.std.{specs.Prelude.{◌≡◌, IfOk, IfErr}, specs.Cow.{cow_str_bytes}};
 ghost use Rattle.net_plan.specs.Stream.{HasRoom};
-ghost use Rattle.command_answers.specs.Answers.{stream};
+ghost use Rattle.command_answers.{specs.Answers.{stream}, specs.Told.{Concludes}};
 ghost use Rattle.byte_commands.specs.Show.{IsDecoded, IsNotShown, IsShown, ShowsSo};
-ghost use Rattle.command_answers.specs.Told.{Concludes};
 
 use command_answers::{Answer, Refused, Status, tell};
 use command_questions::ShownKind;

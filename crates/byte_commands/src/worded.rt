@@ -1,9 +1,7 @@
 //! Commands that answer on words alone: `describe` and `record`.
-ghost use Rattle.std.specs.Prelude.{◌≡◌, IfOk, IfErr, map, string_bytes};
-ghost use Rattle.std.specs.Cow.{cow_str_bytes};
+ghost use Rattle.std.{specs.Prelude.{◌≡◌, IfOk, IfErr, map, string_bytes}, specs.Cow.{cow_str_bytes}};
 ghost use Rattle.net_plan.specs.Stream.{HasRoom};
-ghost use Rattle.command_answers.specs.Answers.{stream};
-ghost use Rattle.command_answers.specs.Told.{Concludes};
+ghost use Rattle.command_answers.{specs.Answers.{stream}, specs.Told.{Concludes}};
 ghost use Rattle.byte_commands.specs.Worded.{AnswersWords, IsUnansweredByWords};
 
 pub mod cleaned;

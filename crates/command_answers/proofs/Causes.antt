@@ -1,9 +1,7 @@
 -- Causes of refusals that are causes of others.
 use Rattle.net_plan.specs.declared.error.PlanError.{PlanError}
-use Rattle.command_answers.specs.declared.refused.Input.{Input}
-use Rattle.command_answers.specs.declared.refused.Refused.{Refused}
+use Rattle.command_answers.{specs.declared.refused.Input.{Input}, specs.declared.refused.Refused.{Refused}, specs.Statuses.{HasCause}}
 use Rattle.command_answers.specs.declared.refused.Refused.TheVariants as refused
-use Rattle.command_answers.specs.Statuses.{HasCause}
 
 -- the cause of an unread input may be told otherwise
 pub unread_also : (U V : Input → PlanError → Type 0) (why : Refused) → ((unread : Input) (cause : PlanError) → U unread cause → V unread cause)

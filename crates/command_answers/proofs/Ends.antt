@@ -1,16 +1,9 @@
 -- What words name as the ends of a way.
-use Rattle.std.proofs.Common.{rules, ◌≡◌, ◌≢◌, ◌<◌, ◌≤◌, ℕ, true, List, [], ◌∷◌, length, Option, Some, None, option_map, Err, inl, inr, sym, arith, string_bytes}
-use Rattle.std.specs.Prelude.{MatchOption}
-use Rattle.std.specs.Char.{is_ascii_digit}
-use Rattle.std.specs.List.{list_all}
-use Rattle.std.specs.Str.Parse.{digits_value, ParsesUnsigned}
-use Rattle.std.proofs.lemmas.Option.{none-some}
-use Rattle.std.proofs.lemmas.Str.Parse.{IsNumeralModel, numerals_by_value, parse_digits}
+use Rattle.std.{proofs.Common.{rules, ◌≡◌, ◌≢◌, ◌<◌, ◌≤◌, ℕ, true, List, [], ◌∷◌, length, Option, Some, None, option_map, Err, inl, inr, sym, arith, string_bytes}, specs.Prelude.{MatchOption}, specs.Char.{is_ascii_digit}, specs.List.{list_all}, specs.Str.Parse.{digits_value, ParsesUnsigned}, proofs.lemmas.Option.{none-some}, proofs.lemmas.Str.Parse.{IsNumeralModel, numerals_by_value, parse_digits}}
 use Rattle.mctp_transport.specs.declared.address.Eid.{Eid}
 use Rattle.net_tables.specs.Routing.{eid_number, node_at, eid_of}
 use Rattle.net_rules.specs.Names.{name_of}
-use Rattle.plan_values.specs.declared.nodes.Node.{Node}
-use Rattle.plan_values.specs.declared.plan.Plan.{Plan}
+use Rattle.plan_values.{specs.declared.nodes.Node.{Node}, specs.declared.plan.Plan.{Plan}}
 use Rattle.command_answers.specs.Naming.{IsFirstNamed, IsEidWord, IsDestination, NameTheEnds}
 
 pub no_sender : (plan : Plan) (from to : List ℕ) → ((n : ℕ) → name_of plan n ≢ Some from) → ¬ NameTheEnds from to plan

@@ -1,17 +1,11 @@
 -- What is told of the first fault.
-use Rattle.std.proofs.Common.{◌≡◌, Result, Ok, Err}
-use Rattle.std.specs.Prelude.{IfOk}
-use Rattle.std.specs.Cow.{cow_str_bytes}
-use Rattle.plan_values.specs.declared.plan.Plan.{Plan}
-use Rattle.plan_values.specs.declared.certificate.Certificate.{Certificate}
-use Rattle.net_check.specs.declared.check_error.CheckError.{CheckError}
-use Rattle.net_check.specs.declared.check_error.CheckError.TheVariants as check_error
-use Rattle.net_check.specs.Errors.{NamesFirstFault}
+use Rattle.std.{proofs.Common.{◌≡◌, Result, Ok, Err}, specs.Prelude.{IfOk}, specs.Cow.{cow_str_bytes}}
+use Rattle.plan_values.{specs.declared.plan.Plan.{Plan}, specs.declared.certificate.Certificate.{Certificate}}
+use Rattle.net_check.{specs.declared.check_error.CheckError.{CheckError}, specs.Errors.{NamesFirstFault}}
 use Rattle.net_rules.specs.declared.fault.Fault.{Fault}
-use Rattle.command_answers.specs.declared.answer.Answer.{Answer}
-use Rattle.command_answers.specs.declared.refused.Refused.{Refused}
+use Rattle.command_answers.{specs.declared.answer.Answer.{Answer}, specs.declared.refused.Refused.{Refused}, specs.Answers.{IsErrorText, IsFaultText}}
+use Rattle.net_check.specs.declared.check_error.CheckError.TheVariants as check_error
 use Rattle.command_answers.specs.declared.status.Status.TheVariants as status
-use Rattle.command_answers.specs.Answers.{IsErrorText, IsFaultText}
 
 -- the line of an error of `check` is that of the first fault
 pub first_told : (plan : Plan) (cert : Certificate) (error : CheckError) (result : Result Answer Refused) → NamesFirstFault plan cert error

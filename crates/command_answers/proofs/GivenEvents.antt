@@ -1,16 +1,9 @@
 -- Why a source gave no events, or no lines.
 use Rattle.std.proofs.Common.{refl}
-use Rattle.plan_values.specs.declared.plan.Plan.{Plan}
-use Rattle.net_plan.specs.Stream.{HasFailed}
+use Rattle.plan_values.{specs.declared.plan.Plan.{Plan}, specs.PlanValues.{plan_value}}
+use Rattle.net_plan.{specs.Stream.{HasFailed}, specs.declared.error.PlanError.{PlanError}, specs.TextFaults.{error_count}, specs.Unread.{GaveNoEvents}}
+use Rattle.command_answers.{specs.Answers.{Stream}, specs.Statuses.{refused_at}, proofs.Telling.{refusal_at}, specs.Inputs.{AreEventsUnread}}
 use Rattle.command_answers.specs.declared.refused.Input.TheVariants as input
-use Rattle.command_answers.specs.Answers.{Stream}
-use Rattle.command_answers.specs.Statuses.{refused_at}
-use Rattle.command_answers.proofs.Telling.{refusal_at}
-use Rattle.net_plan.specs.declared.error.PlanError.{PlanError}
-use Rattle.plan_values.specs.PlanValues.{plan_value}
-use Rattle.net_plan.specs.TextFaults.{error_count}
-use Rattle.net_plan.specs.Unread.{GaveNoEvents}
-use Rattle.command_answers.specs.Inputs.{AreEventsUnread}
 use Rattle.net_plan.specs.declared.stream.TextFault.TheVariants as fault
 
 -- of events at the nodes of a plan, so that the refusal has its cause

@@ -1,19 +1,10 @@
 -- A plan that was given with its text, or was not.
-use Rattle.std.proofs.Common.{◌≤◌, List, length, ℕ, Result, Err, refl}
-use Rattle.std.specs.Io.KnownBytes.{Consumes, IsAtEnd}
-use Rattle.net_plan.specs.declared.error.PlanError.{PlanError}
+use Rattle.std.{proofs.Common.{◌≤◌, List, length, ℕ, Result, Err, refl}, specs.Io.KnownBytes.{Consumes, IsAtEnd}}
+use Rattle.net_plan.{specs.declared.error.PlanError.{PlanError}, specs.PlanReading.{plan}, specs.PlanText.{IsPlanOf}, specs.Refusals.{IsRefused}, specs.Unread.{GaveNoPlan}, proofs.Refusing.{answer_given}}
+use Rattle.plan_values.{specs.declared.certificate.Certificate.{Certificate}, specs.declared.plan.Plan.{Plan}}
+use Rattle.command_answers.{specs.declared.refused.Refused.{Refused}, specs.Answers.{Stream, GavePlan, GavePlanText, AreGiven, AreTextsGiven, IsPlanUnread, IsCertificateUnread, AreUnread}, specs.Statuses.{refused_at}}
 use Rattle.net_plan.specs.declared.error.PlanError.TheVariants as cause_of
-use Rattle.net_plan.specs.PlanReading.{plan}
-use Rattle.net_plan.specs.PlanText.{IsPlanOf}
-use Rattle.net_plan.specs.Refusals.{IsRefused}
-use Rattle.net_plan.specs.Unread.{GaveNoPlan}
-use Rattle.net_plan.proofs.Refusing.{answer_given}
-use Rattle.plan_values.specs.declared.certificate.Certificate.{Certificate}
-use Rattle.plan_values.specs.declared.plan.Plan.{Plan}
 use Rattle.command_answers.specs.declared.refused.Input.TheVariants as input
-use Rattle.command_answers.specs.declared.refused.Refused.{Refused}
-use Rattle.command_answers.specs.Answers.{Stream, GavePlan, GavePlanText, AreGiven, AreTextsGiven, IsPlanUnread, IsCertificateUnread, AreUnread}
-use Rattle.command_answers.specs.Statuses.{refused_at}
 use Rattle.command_answers.proofs.Telling as telling
 
 pub gave_plan : (plans : Stream) (text : List ℕ) (p : Plan) → GavePlanText plans text p → GavePlan plans p

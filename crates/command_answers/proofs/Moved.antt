@@ -2,12 +2,8 @@
 use Rattle.std.proofs.Common.{inl, inr}
 use Rattle.plan_values.specs.declared.plan.Plan.{Plan}
 use Rattle.net_plan.specs.declared.error.PlanError.{PlanError}
-use Rattle.command_answers.specs.declared.refused.Input.{Input}
+use Rattle.command_answers.{specs.declared.refused.Input.{Input}, specs.declared.refused.Refused.{Refused}, specs.Answers.{Stream, GavePlan, IsUnreadPlan, IsPlanUnread, IsUnreadCertificate, IsCertificateUnread}, specs.Moves.{IsUnreadInMove, IsMoveUnread, IsUnreadOfPlans, ArePlansUnread}, proofs.Causes.{unread_also}}
 use Rattle.command_answers.specs.declared.refused.Input.TheVariants as input
-use Rattle.command_answers.specs.declared.refused.Refused.{Refused}
-use Rattle.command_answers.specs.Answers.{Stream, GavePlan, IsUnreadPlan, IsPlanUnread, IsUnreadCertificate, IsCertificateUnread}
-use Rattle.command_answers.specs.Moves.{IsUnreadInMove, IsMoveUnread, IsUnreadOfPlans, ArePlansUnread}
-use Rattle.command_answers.proofs.Causes.{unread_also}
 
 -- the plan before was not read
 pub before_unread : (why : Refused) (befores afters certificates : Stream) → IsPlanUnread why befores → IsMoveUnread why befores afters certificates

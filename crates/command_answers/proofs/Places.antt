@@ -1,24 +1,12 @@
 -- Records one place after another.
-use Rattle.std.proofs.Common.{◌≡◌, ◌≢◌, ℕ, zero, suc, ◌+◌, Bool, cond, ◌==◌, ◌<◌, List, [], ◌∷◌, ◌++◌, length, map, take, get_or, true, false, position, Option, Some, None, Result, Ok, Err, refl, sym, ◌∙◌, ap, subst, add-one, add-zero, arith, inl, inr, Bor}
-use Rattle.std.specs.Prelude.{◌≤◌, not, nat_lt, option_map, unwrap_or, IfOk}
-use Rattle.std.specs.List.{position_or_len, cons_option, filter_map, range_with_len}
-use Rattle.std.specs.Option.{option_or, option_to_list}
-use Rattle.std.proofs.lemmas.Bool.{cond-true, cond-false, lt-ltb, le-ltb, cases_lt}
-use Rattle.std.proofs.lemmas.List.{length-map, length-take-le, map-append, take_more}
-use Rattle.plan_values.specs.declared.certificate.Certificate.{Certificate}
-use Rattle.plan_values.specs.declared.plan.Plan.{Plan}
-use Rattle.plan_values.specs.declared.terminus.PlannedRecord.{PlannedRecord}
-use Rattle.plan_values.specs.declared.terminus.PlannedTerminus.{PlannedTerminus}
-use Rattle.pdr_repository.specs.declared.list_terminus.ListTerminus.{ListTerminus}
-use Rattle.pdr_repository.specs.ListTermini.{list_records}
-use Rattle.pdr_repository.specs.Records.{Entry, IsLawful}
-use Rattle.net_tables.specs.Repositories.{terminus_of, records_of, places_of, entry_of, record_at, records_by_place, RecordsHaveOrder}
+use Rattle.std.{proofs.Common.{◌≡◌, ◌≢◌, ℕ, zero, suc, ◌+◌, Bool, cond, ◌==◌, ◌<◌, List, [], ◌∷◌, ◌++◌, length, map, take, get_or, true, false, position, Option, Some, None, Result, Ok, Err, refl, sym, ◌∙◌, ap, subst, add-one, add-zero, arith, inl, inr, Bor}, specs.Prelude.{◌≤◌, not, nat_lt, option_map, unwrap_or, IfOk}, specs.List.{position_or_len, cons_option, filter_map, range_with_len}, specs.Option.{option_or, option_to_list}, proofs.lemmas.Bool.{cond-true, cond-false, lt-ltb, le-ltb, cases_lt}, proofs.lemmas.List.{length-map, length-take-le, map-append, take_more}}
+use Rattle.plan_values.{specs.declared.certificate.Certificate.{Certificate}, specs.declared.plan.Plan.{Plan}, specs.declared.terminus.PlannedRecord.{PlannedRecord}, specs.declared.terminus.PlannedTerminus.{PlannedTerminus}}
+use Rattle.pdr_repository.{specs.declared.list_terminus.ListTerminus.{ListTerminus}, specs.ListTermini.{list_records}, specs.Records.{Entry, IsLawful}}
+use Rattle.net_tables.{specs.Repositories.{terminus_of, records_of, places_of, entry_of, record_at, records_by_place, RecordsHaveOrder}, specs.TwoPlans.{Tables}}
 use Rattle.net_rules.specs.Rules.{Accepts}
-use Rattle.net_tables.specs.TwoPlans.{Tables}
-use Rattle.net_runs.specs.Walkers.{walked_at_start}
+use Rattle.net_runs.{specs.Walkers.{walked_at_start}, proofs.ByPlace.{by_place_length, is_lawful}}
 use Rattle.net_sim.specs.WalkedStanding.{NetworkValue, StandsForWalked}
 use Rattle.net_check.proofs.Accepted.{accepted_orders}
-use Rattle.net_runs.proofs.ByPlace.{by_place_length, is_lawful}
 
 -- where the first of a list stands, the list is one longer
 position_more : (here : Bool) (n l : ℕ) → cond (nat_lt (cond (not here) (1 + n) 0) (suc l)) (Some (cond (not here) (1 + n) 0)) None

@@ -1,19 +1,11 @@
 -- Why an input is not read, by the reader's error, and what a printed fault tells.
 use Rattle.std.proofs.Common.{ℕ, List, Option}
-use Rattle.plan_values.specs.declared.plan.Plan.{Plan}
-use Rattle.net_plan.specs.declared.error.PlanError.{PlanError}
+use Rattle.plan_values.{specs.declared.plan.Plan.{Plan}, specs.PlanValues.{plan_value}}
+use Rattle.net_plan.{specs.declared.error.PlanError.{PlanError}, specs.Stream.{HasFailed}, specs.TextFaults.{error_count}, specs.Unread.{GaveNoCertificate}}
+use Rattle.command_answers.{specs.declared.refused.Input.{Input}, specs.declared.refused.Refused.{Refused}, specs.Answers.{Stream, BreaksOff, GavePlan, GaveNothing, IsUnread, AreUnread, IsUnreadCertificate, IsCertificateUnread}, specs.Statuses.{refused_at}, proofs.Causes.{unread_also}}
 use Rattle.net_plan.specs.declared.error.PlanError.TheVariants as error
-use Rattle.plan_values.specs.PlanValues.{plan_value}
-use Rattle.net_plan.specs.Stream.{HasFailed}
-use Rattle.net_plan.specs.TextFaults.{error_count}
-use Rattle.net_plan.specs.Unread.{GaveNoCertificate}
-use Rattle.command_answers.specs.declared.refused.Input.{Input}
 use Rattle.command_answers.specs.declared.refused.Input.TheVariants as input
-use Rattle.command_answers.specs.declared.refused.Refused.{Refused}
 use Rattle.command_answers.specs.declared.refused.Refused.TheVariants as refused
-use Rattle.command_answers.specs.Answers.{Stream, BreaksOff, GavePlan, GaveNothing, IsUnread, AreUnread, IsUnreadCertificate, IsCertificateUnread}
-use Rattle.command_answers.specs.Statuses.{refused_at}
-use Rattle.command_answers.proofs.Causes.{unread_also}
 
 -- of a refusal that an error leads to, what holds of no memory and of each cause of an unreadable input
 pub refusal_at : (Is : Refused → Type 0) (GaveNone : Option (List ℕ) → Option (List ℕ) → PlanError → Type 0) (stream : Stream) (unread : Input) (e : PlanError)

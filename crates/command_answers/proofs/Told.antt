@@ -1,19 +1,9 @@
 -- What the end of a run tells of an answer.
-use Rattle.std.proofs.Common.{◌≡◌, ◌≢◌, ◌⊎◌, ℕ, List, Result, Ok, Err, inl, inr, refl, sym, ◌∙◌, ap, subst}
-use Rattle.std.specs.Prelude.{IfOk, IfErr, OnErr}
-use Rattle.std.specs.Cow.{cow_str_bytes}
-use Rattle.std.specs.declared.alloc.AllocError.{AllocError}
+use Rattle.std.{proofs.Common.{◌≡◌, ◌≢◌, ◌⊎◌, ℕ, List, Result, Ok, Err, inl, inr, refl, sym, ◌∙◌, ap, subst}, specs.Prelude.{IfOk, IfErr, OnErr}, specs.Cow.{cow_str_bytes}, specs.declared.alloc.AllocError.{AllocError}}
 use Rattle.net_plan.specs.declared.error.PlanError.{PlanError}
-use Rattle.command_answers.specs.declared.answer.Answer.{Answer}
-use Rattle.command_answers.specs.declared.bytes_answer.BytesAnswer.{BytesAnswer}
-use Rattle.command_answers.specs.declared.refused.Input.{Input}
-use Rattle.command_answers.specs.declared.refused.Refused.{Refused}
+use Rattle.command_answers.{specs.declared.answer.Answer.{Answer}, specs.declared.bytes_answer.BytesAnswer.{BytesAnswer}, specs.declared.refused.Input.{Input}, specs.declared.refused.Refused.{Refused}, specs.declared.status.Status.{Status}, specs.Answers.{Stream, IsReported, Refuses, BreaksOff}, specs.Statuses.{status_of, IsReportedFor, HasCause}, specs.Told.{IsTold, IsSomeAnswer, Gives, Ends, Concludes, ConcludesOnBoth, ConcludesOnOutput}}
 use Rattle.command_answers.specs.declared.refused.Refused.TheVariants as refused
-use Rattle.command_answers.specs.declared.status.Status.{Status}
 use Rattle.command_answers.specs.declared.status.Status.TheVariants as status
-use Rattle.command_answers.specs.Answers.{Stream, IsReported, Refuses, BreaksOff}
-use Rattle.command_answers.specs.Statuses.{status_of, IsReportedFor, HasCause}
-use Rattle.command_answers.specs.Told.{IsTold, IsSomeAnswer, Gives, Ends, Concludes, ConcludesOnBoth, ConcludesOnOutput}
 
 module _ (Ends : Status → Type 0) (errors : Stream) where
   -- a refusal ends a run with status 2, or 3 where memory lacks

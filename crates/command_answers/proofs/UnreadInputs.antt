@@ -1,14 +1,9 @@
 -- What is known of a source that gave no plan, or no certificate.
-use Rattle.std.proofs.Common.{◌≤◌, List, length, ℕ, Result, Ok, Err}
-use Rattle.std.specs.Prelude.{IfErr}
-use Rattle.std.specs.Io.KnownBytes.{Consumes, IsAtEnd}
+use Rattle.std.{proofs.Common.{◌≤◌, List, length, ℕ, Result, Ok, Err}, specs.Prelude.{IfErr}, specs.Io.KnownBytes.{Consumes, IsAtEnd}}
 use Rattle.serde_json.specs.Data.{Data}
 use Rattle.net_plan.specs.declared.error.ValueFault.{ValueFault}
 use Rattle.net_pointers.specs.Asks.{Sort}
-use Rattle.command_answers.specs.declared.inputs.Unread.{Unread}
-use Rattle.command_answers.specs.declared.inputs.Unread.TheVariants.{NoMemory, Failed, TooLong, Text}
-use Rattle.command_answers.specs.Answers.{Stream}
-use Rattle.command_answers.specs.UnreadInputs.{IsUnreadAs, IsUnreadBy}
+use Rattle.command_answers.{specs.declared.inputs.Unread.{Unread}, specs.declared.inputs.Unread.TheVariants.{NoMemory, Failed, TooLong, Text}, specs.Answers.{Stream}, specs.UnreadInputs.{IsUnreadAs, IsUnreadBy}}
 
 -- by why its text is none
 pub unread_by : {A T : Type 0} (s : Sort) (said : Data → Result A ValueFault) (R : Data → A → Type 0) (source : Stream) (bytes : List ℕ) (r : Result T Unread)

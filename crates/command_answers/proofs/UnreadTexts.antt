@@ -1,33 +1,14 @@
 -- What is explained of a source that gave no plan, no certificate or no events.
-use Rattle.std.proofs.Common.{◌≡◌, ◌≢◌, ◌≤◌, List, length, ℕ, Result, Err, string_bytes, refl, inl, inr}
-use Rattle.std.specs.Io.KnownBytes.{Consumes, IsAtEnd}
-use Rattle.std.specs.Cow.{cow_str_bytes}
+use Rattle.std.{proofs.Common.{◌≡◌, ◌≢◌, ◌≤◌, List, length, ℕ, Result, Err, string_bytes, refl, inl, inr}, specs.Io.KnownBytes.{Consumes, IsAtEnd}, specs.Cow.{cow_str_bytes}}
 use Rattle.serde_json.specs.Data.{Data}
-use Rattle.net_plan.specs.CertificateReading.{certificate}
-use Rattle.net_plan.specs.CertificateText.{IsCertificateOf}
-use Rattle.net_plan.specs.EventReading.{events}
-use Rattle.net_plan.specs.EventText.{AreEventsOf}
-use Rattle.net_plan.specs.PlanReading.{plan}
-use Rattle.net_plan.specs.PlanText.{IsPlanOf}
-use Rattle.net_plan.specs.declared.error.PlanError.{PlanError}
+use Rattle.net_plan.{specs.CertificateReading.{certificate}, specs.CertificateText.{IsCertificateOf}, specs.EventReading.{events}, specs.EventText.{AreEventsOf}, specs.PlanReading.{plan}, specs.PlanText.{IsPlanOf}, specs.declared.error.PlanError.{PlanError}, specs.declared.error.ValueFault.{ValueFault}, specs.Refusals.{IsRefused, GaveNone}, proofs.Refusing.{answer_given}}
+use Rattle.plan_values.{specs.declared.plan.Plan.{Plan}, specs.PlanValues.{plan_value, node_names}}
+use Rattle.net_pointers.{specs.Asks.{Sort, plan_text, certificate_text, events_text}, specs.TextTroubles.{cause_of}}
+use Rattle.command_answers.{specs.declared.answer.Answer.{Answer}, specs.declared.inputs.Unread.{Unread}, specs.declared.inputs.Unread.TheVariants.{NoMemory, Failed, TooLong, Text}, specs.declared.refused.Input.{Input}, specs.Answers.{Stream, GaveNothing}, specs.UnreadInputs.{IsUnreadBy, IsNoPlanBy, IsNoCertificateBy, AreNoEventsBy}, specs.UnreadTexts.{IsTextOfUnread, IsWrittenOf, IsUnreadText, IsUnreadCertificateText, IsUnreadEventsText, failed_line, long_line}}
+use Rattle.reading_texts.specs.TroubleLines.{IsTextTold}
 use Rattle.net_plan.specs.declared.error.PlanError.TheVariants as error_of
-use Rattle.net_plan.specs.declared.error.ValueFault.{ValueFault}
-use Rattle.net_plan.specs.Refusals.{IsRefused, GaveNone}
-use Rattle.net_plan.proofs.Refusing.{answer_given}
-use Rattle.plan_values.specs.declared.plan.Plan.{Plan}
-use Rattle.plan_values.specs.PlanValues.{plan_value, node_names}
-use Rattle.net_pointers.specs.Asks.{Sort, plan_text, certificate_text, events_text}
-use Rattle.net_pointers.specs.TextTroubles.{cause_of}
-use Rattle.command_answers.specs.declared.answer.Answer.{Answer}
-use Rattle.command_answers.specs.declared.inputs.Unread.{Unread}
-use Rattle.command_answers.specs.declared.inputs.Unread.TheVariants.{NoMemory, Failed, TooLong, Text}
-use Rattle.command_answers.specs.declared.refused.Input.{Input}
 use Rattle.command_answers.specs.declared.refused.Input.TheVariants as input
 use Rattle.command_answers.specs.declared.status.Status.TheVariants as status
-use Rattle.command_answers.specs.Answers.{Stream, GaveNothing}
-use Rattle.command_answers.specs.UnreadInputs.{IsUnreadBy, IsNoPlanBy, IsNoCertificateBy, AreNoEventsBy}
-use Rattle.command_answers.specs.UnreadTexts.{IsTextOfUnread, IsWrittenOf, IsUnreadText, IsUnreadCertificateText, IsUnreadEventsText, failed_line, long_line}
-use Rattle.reading_texts.specs.TroubleLines.{IsTextTold}
 
 module _ {A : Type 0} (said : Data → Result A ValueFault) (R : Data → A → Type 0) where
   -- a text that is refused, as a cause

@@ -1,9 +1,5 @@
 -- What an output took while lines waited, and what it takes with them.
-use Rattle.std.proofs.Common.{◌≡◌, ◌+◌, ℕ, List, [], ◌++◌, length, take, Option, Result, Ok, Err, sym, ◌∙◌, ap, subst, append_assoc, append-nil, length-append, arith}
-use Rattle.std.proofs.Math.Seq.{take-append-add}
-use Rattle.std.specs.Prelude.{OnOk, OnErr}
-use Rattle.std.specs.Io.KnownBytes.{Appends}
-use Rattle.std.proofs.KnownBytes.{Appends-trans}
+use Rattle.std.{proofs.Common.{◌≡◌, ◌+◌, ℕ, List, [], ◌++◌, length, take, Option, Result, Ok, Err, sym, ◌∙◌, ap, subst, append_assoc, append-nil, length-append, arith}, proofs.Math.Seq.{take-append-add}, specs.Prelude.{OnOk, OnErr}, specs.Io.KnownBytes.{Appends}, proofs.KnownBytes.{Appends-trans}}
 use Rattle.net_plan.specs.Stream.{AppendsBeginning}
 use Rattle.command_answers.specs.Gathering.{AppendsAllBut}
 

@@ -1,28 +1,15 @@
 -- What the end of a run of the program says of the bytes that it read and wrote.
-use Rattle.std.specs.Prelude.{◌≡◌, ℕ, List, Option, ◌⊎◌}
-use Rattle.std.specs.Io.KnownBytes.{Appends}
+use Rattle.std.{specs.Prelude.{◌≡◌, ℕ, List, Option, ◌⊎◌}, specs.Io.KnownBytes.{Appends}}
 use Rattle.net_check.specs.declared.check_error.CheckError.{CheckError}
-use Rattle.net_check.specs.declared.check_error.CheckError.TheVariants as check_error
-use Rattle.net_rules.specs.declared.fault.Fault.{Fault}
-use Rattle.plan_values.specs.declared.plan.Plan.{Plan}
-use Rattle.plan_values.specs.declared.certificate.Certificate.{Certificate}
-use Rattle.net_plan.specs.declared.error.PlanError.{PlanError}
-use Rattle.net_plan.specs.declared.error.PlanError.TheVariants as error
-use Rattle.net_plan.specs.CertificateText.{IsCertificateOf}
-use Rattle.plan_values.specs.CertificateValues.{certificate_value}
-use Rattle.net_rules.specs.Faults.{IsFirstFault, site_of}
-use Rattle.net_plan.specs.PlanText.{IsPlanOf}
-use Rattle.net_plan.specs.Stream.{Account, HasFailed, AppendsBeginning}
-use Rattle.plan_values.specs.PlanValues.{plan_value}
-use Rattle.net_plan.specs.Unread.{GaveNoPlan, GaveNoCertificate}
-use Rattle.net_plan.specs.Texts.{Gave, IsJsonTextOf}
-use Rattle.command_answers.specs.declared.refused.Input.{Input}
-use Rattle.command_answers.specs.declared.refused.Input.TheVariants as input
-use Rattle.command_answers.specs.declared.refused.Refused.{Refused}
-use Rattle.command_answers.specs.declared.status.Status.{Status}
-use Rattle.command_answers.specs.declared.status.Status.TheVariants as status
+use Rattle.net_rules.{specs.declared.fault.Fault.{Fault}, specs.Faults.{IsFirstFault, site_of}}
+use Rattle.plan_values.{specs.declared.plan.Plan.{Plan}, specs.declared.certificate.Certificate.{Certificate}, specs.CertificateValues.{certificate_value}, specs.PlanValues.{plan_value}}
+use Rattle.net_plan.{specs.declared.error.PlanError.{PlanError}, specs.CertificateText.{IsCertificateOf}, specs.PlanText.{IsPlanOf}, specs.Stream.{Account, HasFailed, AppendsBeginning}, specs.Unread.{GaveNoPlan, GaveNoCertificate}, specs.Texts.{Gave, IsJsonTextOf}, specs.Limits.{most_text_bytes}}
+use Rattle.command_answers.{specs.declared.refused.Input.{Input}, specs.declared.refused.Refused.{Refused}, specs.declared.status.Status.{Status}, specs.Statuses.{status_of, refusal_text, IsReportedFor, HasCause}}
 use Rattle.plan_texts.specs.Lines.{fault_text}
-use Rattle.command_answers.specs.Statuses.{status_of, refusal_text, IsReportedFor, HasCause}
+use Rattle.net_check.specs.declared.check_error.CheckError.TheVariants as check_error
+use Rattle.net_plan.specs.declared.error.PlanError.TheVariants as error
+use Rattle.command_answers.specs.declared.refused.Input.TheVariants as input
+use Rattle.command_answers.specs.declared.status.Status.TheVariants as status
 
 -- the accounts of a source or a sink before a call and after it
 pub record Stream : Type 0 where
@@ -63,11 +50,11 @@ SaysWhy IsWhy errors = (why : Refused) × (status_of why ≡ status.Unreadable) 
 -- the source gave the text of the plan
 abbrev pub GavePlan : Stream → Plan → Type 0
 GavePlan stream plan =
-    Gave 16777216 stream.before.bytes stream.after.bytes (λ text. IsJsonTextOf IsPlanOf text (plan_value plan))
+    Gave most_text_bytes stream.before.bytes stream.after.bytes (λ text. IsJsonTextOf IsPlanOf text (plan_value plan))
 
 -- the source gave this text, which is that of the plan
 abbrev pub GavePlanText : Stream → List ℕ → Plan → Type 0
-GavePlanText stream text plan = Gave 16777216 stream.before.bytes stream.after.bytes
+GavePlanText stream text plan = Gave most_text_bytes stream.before.bytes stream.after.bytes
     (λ bytes. (bytes ≡ text) × IsJsonTextOf IsPlanOf bytes (plan_value plan))
 
 -- the source gave the text of no plan
@@ -77,7 +64,7 @@ IsWithoutPlan stream = (plan : Plan) → ¬ GavePlan stream plan
 -- the source gave the text of the plan's certificate
 abbrev pub GaveCertificate : Plan → Stream → Certificate → Type 0
 GaveCertificate plan stream certificate =
-    Gave 16777216 stream.before.bytes stream.after.bytes
+    Gave most_text_bytes stream.before.bytes stream.after.bytes
     (λ text. IsJsonTextOf (IsCertificateOf (plan_value plan)) text (certificate_value certificate))
 
 -- Why a source gave nothing, by the error: it failed, it gave too many bytes, it gave no JSON, or JSON at whose first

@@ -1,20 +1,12 @@
 -- What `certify` prints of a plan.
 use Rattle.std.specs.Prelude.{◌≡◌, ◌≤◌, ◌-◌, ℕ, List, length, Some}
-use Rattle.plan_values.specs.declared.plan.Plan.{Plan}
-use Rattle.plan_values.specs.declared.certificate.Certificate.{Certificate}
-use Rattle.net_plan.specs.CertificateJson.{certificate_text}
-use Rattle.net_plan.specs.CertificateText.{IsCertificateOf}
-use Rattle.plan_values.specs.CertificateValues.{certificate_value}
-use Rattle.plan_values.specs.PlanValues.{node_names, plan_value}
-use Rattle.net_plan.specs.Texts.{IsJsonTextOf}
-use Rattle.plan_values.specs.WellFormed.{IsWellFormed}
-use Rattle.net_rules.specs.declared.certify_error.CertifyError.{CertifyError}
-use Rattle.net_rules.specs.declared.certify_error.CertifyError.TheVariants as error
-use Rattle.net_rules.specs.Certificates.{IsExact, NamesObstacle, HasNoCertificate}
-use Rattle.net_rules.specs.Rules.{Accepts}
+use Rattle.plan_values.{specs.declared.plan.Plan.{Plan}, specs.declared.certificate.Certificate.{Certificate}, specs.CertificateValues.{certificate_value}, specs.PlanValues.{node_names, plan_value}, specs.WellFormed.{IsWellFormed}}
+use Rattle.net_plan.{specs.CertificateJson.{certificate_text}, specs.CertificateText.{IsCertificateOf}, specs.Texts.{IsJsonTextOf}}
+use Rattle.net_rules.{specs.declared.certify_error.CertifyError.{CertifyError}, specs.Certificates.{IsExact, NamesObstacle, HasNoCertificate}, specs.Rules.{Accepts}}
 use Rattle.command_answers.specs.declared.status.Status.{Status}
-use Rattle.command_answers.specs.declared.status.Status.TheVariants as status
 use Rattle.plan_texts.specs.Lines.{obstacle_text}
+use Rattle.net_rules.specs.declared.certify_error.CertifyError.TheVariants as error
+use Rattle.command_answers.specs.declared.status.Status.TheVariants as status
 
 -- Every rule holds of the plan and the certificate; the certificate gives each level, place and rank as
 -- the plan has them; and the text is the certificate's, read for the plan it stands for the

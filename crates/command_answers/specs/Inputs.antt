@@ -1,26 +1,15 @@
 -- Events and lines that sources gave, or why they gave none.
 use Rattle.std.specs.Prelude.{◌≡◌, ℕ, List, map, IsUtf8}
-use Rattle.plan_values.specs.declared.plan.Plan.{Plan}
-use Rattle.plan_values.specs.declared.certificate.Certificate.{Certificate}
-use Rattle.net_plan.specs.declared.error.PlanError.{PlanError}
-use Rattle.plan_values.specs.declared.event.Event.{Event}
-use Rattle.net_plan.specs.EventText.{AreEventsOf}
-use Rattle.plan_values.specs.EventValues.{event_entry}
-use Rattle.plan_values.specs.PlanValues.{plan_value}
-use Rattle.net_plan.specs.Texts.{Gave, IsJsonTextOf}
-use Rattle.net_plan.specs.Unread.{GaveNoEvents}
-use Rattle.command_answers.specs.declared.refused.Input.{Input}
+use Rattle.plan_values.{specs.declared.plan.Plan.{Plan}, specs.declared.certificate.Certificate.{Certificate}, specs.declared.event.Event.{Event}, specs.EventValues.{event_entry}, specs.PlanValues.{plan_value}}
+use Rattle.net_plan.{specs.declared.error.PlanError.{PlanError}, specs.EventText.{AreEventsOf}, specs.Texts.{Gave, IsJsonTextOf}, specs.Unread.{GaveNoEvents}, specs.Stream.{TakesMoreThan}, specs.Limits.{most_text_bytes}}
+use Rattle.command_answers.{specs.declared.refused.Input.{Input}, specs.declared.refused.Refused.{Refused}, specs.Answers.{Stream, GaveNothing, Fails}, specs.Statuses.{HasCause}}
 use Rattle.command_answers.specs.declared.refused.Input.TheVariants as input
-use Rattle.command_answers.specs.declared.refused.Refused.{Refused}
-use Rattle.command_answers.specs.Answers.{Stream, GaveNothing, Fails}
-use Rattle.command_answers.specs.Statuses.{HasCause}
 use Rattle.net_plan.specs.declared.error.PlanError.TheVariants as error
-use Rattle.net_plan.specs.Stream.{TakesMoreThan}
 
 -- the source gave the events at the nodes of the plan
 abbrev pub GaveEvents : Plan → Stream → List Event → Type 0
 GaveEvents plan stream events =
-    Gave 16777216 stream.before.bytes stream.after.bytes
+    Gave most_text_bytes stream.before.bytes stream.after.bytes
     (λ text. IsJsonTextOf (AreEventsOf (plan_value plan)) text (map event_entry events))
 
 -- why an input, which is the events at the nodes of the plan, can't be read
@@ -37,13 +26,13 @@ AreEventsUnread why plan happenings =
 
 -- the source gave this text of lines
 abbrev pub GaveLines : Stream → List ℕ → Type 0
-GaveLines stream wanted = Gave 16777216 stream.before.bytes stream.after.bytes (λ text. text ≡ wanted)
+GaveLines stream wanted = Gave most_text_bytes stream.before.bytes stream.after.bytes (λ text. text ≡ wanted)
 
 -- why a source gave no text of lines: it failed, it gave too many bytes, or they are no UTF-8
 abbrev pub GaveNoLines : Stream → PlanError → Type 0
 GaveNoLines stream error.Device = Fails stream
-GaveNoLines stream error.OverLimit = TakesMoreThan 16777216 stream.before.bytes stream.after.bytes
-GaveNoLines stream error.NotJson = Gave 16777216 stream.before.bytes stream.after.bytes (λ text. ¬ IsUtf8 text)
+GaveNoLines stream error.OverLimit = TakesMoreThan most_text_bytes stream.before.bytes stream.after.bytes
+GaveNoLines stream error.NotJson = Gave most_text_bytes stream.before.bytes stream.after.bytes (λ text. ¬ IsUtf8 text)
 GaveNoLines stream _ = ⊥
 
 -- why an input, which is the lines, can't be read

@@ -1,19 +1,11 @@
 -- What is read for a move from one plan to another, and the line of its fault.
 use Rattle.std.specs.Prelude.{◌≡◌, ◌⊎◌, ℕ, List, Some}
-use Rattle.net_rules.specs.declared.move_error.MoveError.{MoveError}
-use Rattle.net_rules.specs.MoveFaults.{NamesFirstMoveFault}
-use Rattle.plan_values.specs.declared.plan.Plan.{Plan}
-use Rattle.plan_values.specs.declared.certificate.Certificate.{Certificate}
-use Rattle.net_plan.specs.declared.error.PlanError.{PlanError}
-use Rattle.plan_values.specs.PlanValues.{plan_value}
-use Rattle.net_plan.specs.Unread.{GaveNoPlan, GaveNoCertificate}
-use Rattle.command_answers.specs.declared.refused.Input.{Input}
-use Rattle.command_answers.specs.declared.refused.Input.TheVariants as input
-use Rattle.command_answers.specs.declared.refused.Refused.{Refused}
-use Rattle.command_answers.specs.Answers.{Stream, GavePlan, GaveCertificate, GaveNothing}
-use Rattle.command_answers.specs.Statuses.{HasCause}
+use Rattle.net_rules.{specs.declared.move_error.MoveError.{MoveError}, specs.MoveFaults.{NamesFirstMoveFault}}
+use Rattle.plan_values.{specs.declared.plan.Plan.{Plan}, specs.declared.certificate.Certificate.{Certificate}, specs.PlanValues.{plan_value}}
+use Rattle.net_plan.{specs.declared.error.PlanError.{PlanError}, specs.Unread.{GaveNoPlan, GaveNoCertificate}, specs.CertificateJson.{certificate_text}}
+use Rattle.command_answers.{specs.declared.refused.Input.{Input}, specs.declared.refused.Refused.{Refused}, specs.Answers.{Stream, GavePlan, GaveCertificate, GaveNothing}, specs.Statuses.{HasCause}}
 use Rattle.plan_texts.specs.MoveLines.{move_error_text}
-use Rattle.net_plan.specs.CertificateJson.{certificate_text}
+use Rattle.command_answers.specs.declared.refused.Input.TheVariants as input
 
 -- one source gave the plan before, one the plan after, and one the certificate, which is read for the plan before
 pub record IsMoveGiven (befores afters certificates : Stream) (before after : Plan)

@@ -1,13 +1,9 @@
 -- What words name: nodes, termini, endpoint IDs, and the ends of a way.
-use Rattle.std.specs.Prelude.{◌≡◌, ◌≢◌, ◌<◌, ℕ, List, Some, None, ◌⊎◌, true}
+use Rattle.std.{specs.Prelude.{◌≡◌, ◌≢◌, ◌<◌, ℕ, List, Some, None, ◌⊎◌, true}, specs.Char.{is_ascii_digit}, specs.List.{list_all}, specs.Str.Parse.{digits_value}}
 use Rattle.net_rules.specs.Names.{name_of}
-use Rattle.net_tables.specs.Repositories.{terminus_of}
+use Rattle.net_tables.{specs.Repositories.{terminus_of}, specs.Routing.{Holds}}
 use Rattle.plan_values.specs.declared.plan.Plan.{Plan}
-use Rattle.std.specs.Char.{is_ascii_digit}
-use Rattle.std.specs.List.{list_all}
-use Rattle.std.specs.Str.Parse.{digits_value}
 use Rattle.mctp_transport.specs.PacketValues.{IsAssignable}
-use Rattle.net_tables.specs.Routing.{Holds}
 
 -- n is the first node of the name
 pub record IsFirstNamed (plan : Plan) (name : List ℕ) (n : ℕ) : Type 0 where

@@ -1,14 +1,11 @@
 -- How the runs of the program end.
 use Rattle.std.specs.Prelude.{◌≡◌, ◌⊎◌, ℕ, List, codes, ⊤}
-use Rattle.command_answers.specs.declared.status.Status.{Status}
-use Rattle.command_answers.specs.declared.status.Status.TheVariants.{Yes, Fault, Unreadable, NoMemory}
-use Rattle.command_answers.specs.declared.refused.Refused.{Refused}
-use Rattle.command_answers.specs.declared.refused.Input.{Input}
-use Rattle.command_answers.specs.declared.refused.Input.TheVariants as input
+use Rattle.command_answers.{specs.declared.status.Status.{Status}, specs.declared.status.Status.TheVariants.{Yes, Fault, Unreadable, NoMemory}, specs.declared.refused.Refused.{Refused}, specs.declared.refused.Input.{Input}}
 use Rattle.net_plan.specs.declared.error.PlanError.{PlanError}
-use Rattle.net_plan.specs.declared.error.PlanError.TheVariants as error
 use Rattle.reading_texts.specs.ReadingLines.{unread_line}
 use Rattle.plan_values.specs.declared.plan.Plan.{Plan}
+use Rattle.command_answers.specs.declared.refused.Input.TheVariants as input
+use Rattle.net_plan.specs.declared.error.PlanError.TheVariants as error
 
 -- the exit status
 abbrev pub number_of : Status → ℕ

@@ -1,12 +1,9 @@
 -- How an answer is told, and what the end of a run says of it.
-use Rattle.std.specs.Prelude.{◌≡◌, ◌⊎◌, ℕ, List}
-use Rattle.std.specs.Io.KnownBytes.{Appends}
+use Rattle.std.{specs.Prelude.{◌≡◌, ◌⊎◌, ℕ, List}, specs.Io.KnownBytes.{Appends}}
 use Rattle.net_plan.specs.Stream.{AppendsBeginning}
-use Rattle.command_answers.specs.declared.refused.Refused.{Refused}
+use Rattle.command_answers.{specs.declared.refused.Refused.{Refused}, specs.declared.status.Status.{Status}, specs.Answers.{Stream, Fails, BreaksOff, IsReported, SaysWhy}}
 use Rattle.command_answers.specs.declared.refused.Refused.TheVariants as refused
-use Rattle.command_answers.specs.declared.status.Status.{Status}
 use Rattle.command_answers.specs.declared.status.Status.TheVariants as status
-use Rattle.command_answers.specs.Answers.{Stream, Fails, BreaksOff, IsReported, SaysWhy}
 
 -- The output was given the text, and the run ended as is due; or the output failed in the text, and this is reported.
 abbrev pub IsTold : Status → List ℕ → Status → (output errors : Stream) → Type 0

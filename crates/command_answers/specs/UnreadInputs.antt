@@ -1,25 +1,12 @@
 -- What is known of a source that gave no plan, no certificate or no events.
 use Rattle.std.specs.Prelude.{◌≡◌, ℕ, List, ⊤, Result}
 use Rattle.serde_json.specs.Data.{Data}
-use Rattle.net_plan.specs.CertificateReading.{certificate}
-use Rattle.net_plan.specs.CertificateText.{IsCertificateOf}
-use Rattle.net_plan.specs.EventReading.{events}
-use Rattle.net_plan.specs.EventText.{AreEventsOf}
-use Rattle.net_plan.specs.declared.error.ValueFault.{ValueFault}
-use Rattle.plan_values.specs.declared.plan.Plan.{Plan}
-use Rattle.net_plan.specs.declared.stream.TextFault.{TextFault}
-use Rattle.net_plan.specs.declared.stream.TextFault.TheVariants as text_fault
-use Rattle.net_plan.specs.PlanReading.{plan}
-use Rattle.net_plan.specs.PlanText.{IsPlanOf}
-use Rattle.plan_values.specs.PlanValues.{plan_value, node_names}
-use Rattle.net_plan.specs.Stream.{TakesMoreThan}
-use Rattle.net_plan.specs.Texts.{Gave, IsJsonTextOf}
-use Rattle.command_answers.specs.declared.inputs.Unread.{Unread}
-use Rattle.command_answers.specs.declared.inputs.Unread.TheVariants.{NoMemory, Failed, TooLong, Text}
+use Rattle.net_plan.{specs.CertificateReading.{certificate}, specs.CertificateText.{IsCertificateOf}, specs.EventReading.{events}, specs.EventText.{AreEventsOf}, specs.declared.error.ValueFault.{ValueFault}, specs.declared.stream.TextFault.{TextFault}, specs.PlanReading.{plan}, specs.PlanText.{IsPlanOf}, specs.Stream.{TakesMoreThan}, specs.Texts.{Gave, IsJsonTextOf}, specs.Limits.{most_text_bytes}}
+use Rattle.plan_values.{specs.declared.plan.Plan.{Plan}, specs.PlanValues.{plan_value, node_names}}
+use Rattle.command_answers.{specs.declared.inputs.Unread.{Unread}, specs.declared.inputs.Unread.TheVariants.{NoMemory, Failed, TooLong, Text}, specs.Answers.{Stream, Fails}}
 use Rattle.net_pointers.specs.Asks.{Sort, plan_text, certificate_text, events_text}
-use Rattle.reading_texts.specs.TextErrors.{IsToldAs}
-use Rattle.reading_texts.specs.declared.text_error.TextError.TheVariants.{Faulty}
-use Rattle.command_answers.specs.Answers.{Stream, Fails}
+use Rattle.reading_texts.{specs.TextErrors.{IsToldAs}, specs.declared.text_error.TextError.TheVariants.{Faulty}}
+use Rattle.net_plan.specs.declared.stream.TextFault.TheVariants as text_fault
 
 -- the text is that of the plan
 abbrev pub IsTextOf : List ℕ → Plan → Type 0
@@ -44,9 +31,9 @@ abbrev pub IsUnreadBy : {A : Type 0} → Sort → (Data → Result A ValueFault)
     → Type 0
 IsUnreadBy s said R source NoMemory = ⊤
 IsUnreadBy s said R source Failed = Fails source
-IsUnreadBy s said R source TooLong = TakesMoreThan 16777216 source.before.bytes source.after.bytes
+IsUnreadBy s said R source TooLong = TakesMoreThan most_text_bytes source.before.bytes source.after.bytes
 IsUnreadBy s said R source (Text text fault) =
-    Gave 16777216 source.before.bytes source.after.bytes (λ bytes. IsUnreadAs s said R bytes (Text text fault))
+    Gave most_text_bytes source.before.bytes source.after.bytes (λ bytes. IsUnreadAs s said R bytes (Text text fault))
 
 abbrev pub IsNoPlanIn : List ℕ → Unread → Type 0
 IsNoPlanIn bytes unread = IsUnreadAs plan_text plan IsPlanOf bytes unread

@@ -1,22 +1,13 @@
 -- What is explained where a file can't be read.
 use Rattle.std.specs.Prelude.{◌≡◌, ◌⊎◌, ℕ, List, ◌++◌, codes, Option, string_bytes}
-use Rattle.net_plan.specs.declared.error.PlanError.{PlanError}
+use Rattle.net_plan.{specs.declared.error.PlanError.{PlanError}, specs.Stream.{TakesMoreThan}, specs.Texts.{Gave}, specs.Unread.{GaveNoPlan, GaveNoCertificate, GaveNoEvents}, specs.Limits.{most_text_bytes}}
+use Rattle.plan_values.{specs.declared.plan.Plan.{Plan}, specs.PlanValues.{plan_value, node_names}}
+use Rattle.net_pointers.{specs.Asks.{plan_text, certificate_text, events_text}, specs.TextTroubles.{cause_of}}
+use Rattle.command_answers.{specs.declared.inputs.Unread.{Unread}, specs.declared.refused.Input.{Input}, specs.Answers.{Stream, Fails, GaveNothing}, specs.Statuses.{role_of}}
+use Rattle.reading_texts.{specs.ReadingLines.{unread_line}, specs.TroubleLines.{IsTextTold}}
 use Rattle.net_plan.specs.declared.error.PlanError.TheVariants as error_of
-use Rattle.plan_values.specs.declared.plan.Plan.{Plan}
-use Rattle.plan_values.specs.PlanValues.{plan_value, node_names}
-use Rattle.net_plan.specs.Stream.{TakesMoreThan}
-use Rattle.net_plan.specs.Texts.{Gave}
-use Rattle.net_plan.specs.Unread.{GaveNoPlan, GaveNoCertificate, GaveNoEvents}
-use Rattle.net_pointers.specs.Asks.{plan_text, certificate_text, events_text}
-use Rattle.net_pointers.specs.TextTroubles.{cause_of}
-use Rattle.command_answers.specs.declared.inputs.Unread.{Unread}
 use Rattle.command_answers.specs.declared.inputs.Unread.TheVariants as why
-use Rattle.command_answers.specs.declared.refused.Input.{Input}
 use Rattle.command_answers.specs.declared.refused.Input.TheVariants as input
-use Rattle.command_answers.specs.Answers.{Stream, Fails, GaveNothing}
-use Rattle.command_answers.specs.Statuses.{role_of}
-use Rattle.reading_texts.specs.ReadingLines.{unread_line}
-use Rattle.reading_texts.specs.TroubleLines.{IsTextTold}
 
 abbrev pub failed_line : List ℕ
 failed_line = codes "The file can't be opened or read.\n"
@@ -36,13 +27,14 @@ IsWrittenOf role (why.Text bytes fault) text =
 abbrev pub IsNoTextTold : Stream → PlanError → List ℕ → Type 0
 IsNoTextTold source error_of.Device line = Fails source × (line ≡ failed_line)
 IsNoTextTold source error_of.OverLimit line =
-    TakesMoreThan 16777216 source.before.bytes source.after.bytes × (line ≡ long_line)
+    TakesMoreThan most_text_bytes source.before.bytes source.after.bytes × (line ≡ long_line)
 IsNoTextTold source _ line = ⊥
 
 -- the lines tell of a source that gave nothing for this cause: of the text that it gave, or that it gave none
 abbrev pub IsUnreadTold : (List ℕ → List ℕ → Type 0) → Stream → PlanError → List ℕ → Type 0
 IsUnreadTold IsTold source cause lines =
-    IsNoTextTold source cause lines ⊎ Gave 16777216 source.before.bytes source.after.bytes (λ bytes. IsTold bytes lines)
+    IsNoTextTold source cause lines
+    ⊎ Gave most_text_bytes source.before.bytes source.after.bytes (λ bytes. IsTold bytes lines)
 
 -- The text is the line by which `certify` and `check` tell why a file of this role can't be read, and then the lines
 -- that tell where its text has its first fault.

@@ -1,13 +1,7 @@
 //! What a command answers, and how it is told.
-ghost use Rattle.std.specs.Prelude.{◌≡◌, ◌≢◌, ◌⊎◌, IfOk, IfErr, OnOk, OnErr, string_bytes};
-ghost use Rattle.std.specs.Cow.{cow_str_bytes};
-ghost use Rattle.std.specs.Io.KnownBytes.{Appends};
+ghost use Rattle.std.{specs.Prelude.{◌≡◌, ◌≢◌, ◌⊎◌, IfOk, IfErr, OnOk, OnErr, string_bytes}, specs.Cow.{cow_str_bytes}, specs.Io.KnownBytes.{Appends}};
 ghost use Rattle.net_plan.specs.Stream.{HasRoom, HasFailed, AppendsBeginning};
-ghost use Rattle.command_answers.specs.declared.refused.Refused.TheVariants.{Unwritten};
-ghost use Rattle.command_answers.specs.declared.status.Status.TheVariants.{Yes, Fault, Unreadable, NoMemory};
-ghost use Rattle.command_answers.specs.Answers.{stream, BreaksOff, Refuses};
-ghost use Rattle.command_answers.specs.Statuses.{clean_line, status_of, refusal_text, IsReportedFor, yes_line};
-ghost use Rattle.command_answers.specs.Told.{IsTold};
+ghost use Rattle.command_answers.{specs.declared.refused.Refused.TheVariants.{Unwritten}, specs.declared.status.Status.TheVariants.{Yes, Fault, Unreadable, NoMemory}, specs.Answers.{stream, BreaksOff, Refuses}, specs.Statuses.{clean_line, status_of, refusal_text, IsReportedFor, yes_line}, specs.Told.{IsTold}};
 
 use crate::refused::{NO_MEMORY, Refused, refusal_line};
 use crate::status::Status;

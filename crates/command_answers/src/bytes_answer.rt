@@ -1,8 +1,6 @@
 //! Answers that are bytes, and how they are told.
 ghost use Rattle.std.specs.Prelude.{◌≡◌, ◌≢◌, ◌⊎◌, IfOk, IfErr, OnErr, string_bytes};
-ghost use Rattle.command_answers.specs.Answers.{stream, Refuses};
-ghost use Rattle.command_answers.specs.Told.{IsTold};
-ghost use Rattle.command_answers.specs.declared.status.Status.TheVariants.{Yes, Fault, NoMemory};
+ghost use Rattle.command_answers.{specs.Answers.{stream, Refuses}, specs.Told.{IsTold}, specs.declared.status.Status.TheVariants.{Yes, Fault, NoMemory}};
 ghost use Rattle.net_plan.specs.Stream.{HasRoom};
 
 use crate::answer::refuse;

@@ -1,6 +1,5 @@
 //! The command `certify`: the certificate of a plan, or why there is none, and how many faults are there beside.
-ghost use Rattle.std.specs.Prelude.{◌≡◌, IfOk};
-ghost use Rattle.std.specs.Cow.{cow_str_bytes};
+ghost use Rattle.std.{specs.Prelude.{◌≡◌, IfOk}, specs.Cow.{cow_str_bytes}};
 ghost use Rattle.command_answers.specs.Certifying.{Certifies, others_of};
 ghost use Rattle.net_rules.specs.Rules.{Accepts};
 

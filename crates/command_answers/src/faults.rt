@@ -1,9 +1,6 @@
 //! The fault for which a plan and its certificate, or a move, are not accepted.
-ghost use Rattle.std.specs.Prelude.{◌≡◌, IfOk, IfErr, string_bytes};
-ghost use Rattle.std.specs.Cow.{cow_str_bytes};
-ghost use Rattle.command_answers.specs.declared.status.Status.TheVariants.{Fault};
-ghost use Rattle.command_answers.specs.Answers.{IsErrorText};
-ghost use Rattle.command_answers.specs.Moves.{IsMoveErrorText};
+ghost use Rattle.std.{specs.Prelude.{◌≡◌, IfOk, IfErr, string_bytes}, specs.Cow.{cow_str_bytes}};
+ghost use Rattle.command_answers.{specs.declared.status.Status.TheVariants.{Fault}, specs.Answers.{IsErrorText}, specs.Moves.{IsMoveErrorText}};
 
 use crate::answer::Answer;
 use crate::refused::Refused;

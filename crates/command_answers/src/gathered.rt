@@ -1,9 +1,7 @@
 //! Lines that are gathered, so that many are written at once.
-ghost use Rattle.std.specs.Prelude.{◌≡◌, ◌++◌, [], OnOk, OnErr, IfErr, string_bytes};
-ghost use Rattle.std.specs.Io.KnownBytes.{Appends};
+ghost use Rattle.std.{specs.Prelude.{◌≡◌, ◌++◌, [], OnOk, OnErr, IfErr, string_bytes}, specs.Io.KnownBytes.{Appends}};
 ghost use Rattle.net_plan.specs.Stream.{HasRoom, HasFailed, AppendsBeginning};
-ghost use Rattle.command_answers.specs.declared.refused.Refused.TheVariants.{Unwritten};
-ghost use Rattle.command_answers.specs.Gathering.{AppendsAllBut};
+ghost use Rattle.command_answers.{specs.declared.refused.Refused.TheVariants.{Unwritten}, specs.Gathering.{AppendsAllBut}};
 
 use crate::answer::print;
 use crate::refused::Refused;

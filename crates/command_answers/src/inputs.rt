@@ -1,15 +1,8 @@
 //! The files that commands read.
 ghost use Rattle.std.specs.Prelude.{◌≡◌, IfOk, IfErr, string_bytes};
-ghost use Rattle.net_plan.specs.Stream.{HasRoom};
-ghost use Rattle.command_answers.specs.Answers.{stream, IsWithoutPlan, GavePlan, GavePlanText, GaveCertificate, IsPlanUnread, IsCertificateUnread, AreGiven, AreTextsGiven, AreUnread};
-ghost use Rattle.net_plan.specs.CertificateText.{IsCertificateOf};
-ghost use Rattle.plan_values.specs.CertificateValues.{certificate_value};
-ghost use Rattle.net_plan.specs.PlanText.{IsPlanOf};
-ghost use Rattle.plan_values.specs.PlanValues.{plan_value};
-ghost use Rattle.net_plan.specs.Texts.{IsJsonTextOf};
-ghost use Rattle.command_answers.specs.UnreadInputs.{IsNoPlanIn, IsNoPlanBy, IsNoCertificateIn, IsNoCertificateBy, IsTextOf, unread_of};
-ghost use Rattle.command_answers.specs.Moves.{IsMoveGiven, IsMoveUnread, ArePlansUnread};
-ghost use Rattle.command_answers.specs.Inputs.{GaveLines, AreLinesUnread, GaveEvents, AreEventsUnread};
+ghost use Rattle.net_plan.{specs.Stream.{HasRoom}, specs.CertificateText.{IsCertificateOf}, specs.PlanText.{IsPlanOf}, specs.Texts.{IsJsonTextOf}};
+ghost use Rattle.command_answers.{specs.Answers.{stream, IsWithoutPlan, GavePlan, GavePlanText, GaveCertificate, IsPlanUnread, IsCertificateUnread, AreGiven, AreTextsGiven, AreUnread}, specs.UnreadInputs.{IsNoPlanIn, IsNoPlanBy, IsNoCertificateIn, IsNoCertificateBy, IsTextOf, unread_of}, specs.Moves.{IsMoveGiven, IsMoveUnread, ArePlansUnread}, specs.Inputs.{GaveLines, AreLinesUnread, GaveEvents, AreEventsUnread}};
+ghost use Rattle.plan_values.{specs.CertificateValues.{certificate_value}, specs.PlanValues.{plan_value}};
 
 use crate::refused::{Input, Refused};
 use net_plan::{

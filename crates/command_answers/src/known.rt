@@ -1,9 +1,7 @@
 //! The commands `guide` and `code`, whose texts stand in the program.
 ghost use Rattle.std.specs.Prelude.{◌≡◌};
 ghost use Rattle.net_plan.specs.Stream.{HasRoom};
-ghost use Rattle.command_answers.specs.declared.status.Status.TheVariants.{Yes};
-ghost use Rattle.command_answers.specs.Answers.{stream};
-ghost use Rattle.command_answers.specs.Told.{IsTold};
+ghost use Rattle.command_answers.{specs.declared.status.Status.TheVariants.{Yes}, specs.Answers.{stream}, specs.Told.{IsTold}};
 
 use crate::answer::{Answer, tell};
 use crate::status::Status;

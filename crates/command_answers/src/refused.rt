@@ -1,6 +1,5 @@
 //! Why the program gives no answer.
-ghost use Rattle.std.specs.Prelude.{◌≡◌, IfOk, IfErr};
-ghost use Rattle.std.specs.Cow.{cow_str_bytes};
+ghost use Rattle.std.{specs.Prelude.{◌≡◌, IfOk, IfErr}, specs.Cow.{cow_str_bytes}};
 ghost use Rattle.command_answers.specs.Statuses.{refusal_text, IsReportedFor};
 
 use crate::status::Status;

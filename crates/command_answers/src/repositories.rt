@@ -1,6 +1,5 @@
 //! The records of a plan's termini, in the order of the certificate's places.
-ghost use Rattle.std.specs.Prelude.{◌≡◌, ◌==◌, ◌++◌, ◌<◌, ℕ, if◌then◌else◌, Some, None, IfOk, OnOk, length, map, option_map, slice_get, slice_index_or};
-ghost use Rattle.std.specs.Option.{option_and_then, option_or, option_to_list};
+ghost use Rattle.std.{specs.Prelude.{◌≡◌, ◌==◌, ◌++◌, ◌<◌, ℕ, if◌then◌else◌, Some, None, IfOk, OnOk, length, map, option_map, slice_get, slice_index_or}, specs.Option.{option_and_then, option_or, option_to_list}};
 ghost use Rattle.pdr_repository.specs.Records.{entries};
 ghost use Rattle.net_tables.specs.Repositories.{entry_of, records_by_place};
 ghost use Rattle.command_answers.specs.Ordering.{AreFirstAt};

@@ -1,14 +1,10 @@
 //! The termini of a plan, as they are planned, and the network of them.
-ghost use Rattle.std.specs.Prelude.{◌≡◌, ◌++◌, IfOk, OnOk, map, option_map};
-ghost use Rattle.std.specs.Option.{option_to_list};
+ghost use Rattle.std.{specs.Prelude.{◌≡◌, ◌++◌, IfOk, OnOk, map, option_map}, specs.Option.{option_to_list}};
 ghost use Rattle.pdr_repository.specs.BlockTermini.{block_tid, block_records};
 ghost use Rattle.net_tables.specs.Repositories.{terminus_of, RecordsHaveOrder};
-ghost use Rattle.net_runs.specs.Termini.{terminus_at_start};
+ghost use Rattle.net_runs.{specs.Termini.{terminus_at_start}, specs.Walkers.{walked_at_start}};
 ghost use Rattle.net_check.specs.Accepted.{IsAccepted};
-ghost use Rattle.net_runs.specs.Walkers.{walked_at_start};
-ghost use Rattle.net_sim.specs.Dealing.{resting, planned_termini};
-ghost use Rattle.net_sim.specs.Networks.{network_value, checked_of};
-ghost use Rattle.net_sim.specs.WalkedStanding.{StandsForWalked};
+ghost use Rattle.net_sim.{specs.Dealing.{resting, planned_termini}, specs.Networks.{network_value, checked_of}, specs.WalkedStanding.{StandsForWalked}};
 
 use crate::repositories::records_by_place;
 use net_check::AcceptedNetwork;

@@ -1,9 +1,6 @@
 //! What is explained where a file can't be read.
-ghost use Rattle.std.specs.Prelude.{◌≡◌, ◌++◌, IfOk, IfErr, string_bytes};
-ghost use Rattle.std.specs.Cow.{cow_str_bytes};
-ghost use Rattle.command_answers.specs.declared.status.Status.TheVariants.{Unreadable};
-ghost use Rattle.command_answers.specs.Statuses.{role_of};
-ghost use Rattle.command_answers.specs.UnreadTexts.{IsWrittenOf};
+ghost use Rattle.std.{specs.Prelude.{◌≡◌, ◌++◌, IfOk, IfErr, string_bytes}, specs.Cow.{cow_str_bytes}};
+ghost use Rattle.command_answers.{specs.declared.status.Status.TheVariants.{Unreadable}, specs.Statuses.{role_of}, specs.UnreadTexts.{IsWrittenOf}};
 ghost use Rattle.reading_texts.specs.ReadingLines.{unread_line};
 
 use crate::answer::Answer;

@@ -1,8 +1,5 @@
 //! Files that are opened only once they are read or written.
-ghost use Rattle.std.specs.Io.{ReadsAtMost, WritesAtMost};
-ghost use Rattle.std.specs.Io.KnownBytes.{ReadConsumes};
-ghost use Rattle.std.specs.Option.{option_and_then};
-ghost use Rattle.std.specs.Prelude.{◌≡◌, None, ⊤};
+ghost use Rattle.std.{specs.Io.{ReadsAtMost, WritesAtMost}, specs.Io.KnownBytes.{ReadConsumes}, specs.Option.{option_and_then}, specs.Prelude.{◌≡◌, None, ⊤}};
 ghost use Rattle.either.specs.Either.{either};
 ghost use Rattle.net_plan.specs.Stream.{HasRoom};
 

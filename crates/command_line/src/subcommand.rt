@@ -3,8 +3,8 @@ use clap::error::ErrorKind;
 use clap::{Arg, ArgAction, ArgMatches};
 use command_answers::{Refused, Status, eid_of_word};
 use command_questions::{
-    CertifiedJson, DrawnRows, Emulation, Export, ExportKind, Flights, Form, PartSize, PlanJson,
-    PlanQuestion, Question, ShownKind, WalkScript, WordQuestion,
+    CertifiedJson, DrawnRows, Emulation, Export, ExportKind, Flights, Form, MakeFiles, PartSize,
+    PlanJson, PlanQuestion, Question, ShownKind, WalkScript, WordQuestion,
 };
 use plan_exports::Link;
 use program_texts::{GUIDE, guide_to, schema_of, text_of};
@@ -50,10 +50,14 @@ pub enum Subcommand<'a> {
         certificate: &'a str,
         wanted: &'a str,
     },
-    /// Which plan is made of the board in a file, and into which file is its certificate written?
+    /// Which plan is made of the board in a file, and into which files are it and its certificate written?
     Make {
         board: &'a str,
-        certificate: Option<&'a str>,
+        /// The file of a plan whose numbers are kept.
+        keep: Option<&'a str>,
+        /// Whether those of the plan that stands where the new one is written aren't.
+        anew: bool,
+        files: MakeFiles<'a>,
     },
     /// What comes of the events in a file?
     Sim {
@@ -299,23 +303,26 @@ const JSON: &str = "json";
 const SARIF: &str = "sarif";
 
 /// The options that never have a value.
-static FLAGS: [(&str, &str); 7] = [
+static FLAGS: [(&str, &str); 8] = [
     ("emulate", "configured"),
     ("explain", JSON),
     ("faults", JSON),
     ("faults", SARIF),
     ("lint", JSON),
+    ("make", "anew"),
     ("reach", JSON),
     ("trace", JSON),
 ];
 
 /// The options of commands, and what each means where no value follows it, if it may stand alone.
-static OPTIONS: [(&str, &str, Option<&str>); 8] = [
+static OPTIONS: [(&str, &str, Option<&str>); 10] = [
     ("audit", "bus", None),
     ("draw", "rows", Some(ALL)),
     ("explain", "move", None),
     ("export", REPEATED, None),
     ("make", "certificate", None),
+    ("make", "keep", None),
+    ("make", "out", None),
     ("rollout", "write", None),
     ("script", "lose", None),
     ("script", "repeat", None),
@@ -459,11 +466,25 @@ fn planned_json<'a>(arguments: &ArgMatches<'a>, asked: PlanJson) -> Option<Subco
 }
 
 fn making<'a>(arguments: &ArgMatches<'a>) -> Option<Subcommand<'a>> {
-    let certificate = arguments.get_str("certificate");
-    if certificate == Some("-") {
+    let files = MakeFiles {
+        plan: arguments.get_str("out"),
+        certificate: arguments.get_str("certificate"),
+    };
+    if files.plan == Some("-") || files.certificate == Some("-") || is_one_file(files) {
         return None;
     }
-    asked!(arguments, Make(board), certificate: certificate)
+    let keep = arguments.get_str("keep");
+    let anew = arguments.get_flag("anew");
+    // There is nothing to make anew where nothing would be kept.
+    if anew && (keep.is_some() || files.plan.is_none()) {
+        return None;
+    }
+    asked!(arguments, Make(board), keep: keep, anew: anew, files: files)
+}
+
+/// Whether the plan and its certificate would be written to one file.
+fn is_one_file(files: MakeFiles<'_>) -> bool {
+    files.plan.is_some() && files.plan == files.certificate
 }
 
 fn rolling_out<'a>(arguments: &ArgMatches<'a>) -> Option<Subcommand<'a>> {

@@ -1,22 +1,11 @@
 -- One entry more, and its lines.
-use Rattle.std.proofs.Common.{◌≡◌, ℕ, ◌<◌, ◌+◌, List, [], ◌∷◌, ◌++◌, length, refl, ap, sym, ◌∙◌, subst, get_or, map, take, append_assoc}
-use Rattle.std.specs.Prelude.{Option, Result, Ok, Err, OnOk}
-use Rattle.std.proofs.lemmas.List.{length_push}
-use Rattle.bus_captures.specs.Values.{EntryValue, entry_value}
-use Rattle.bus_captures.specs.declared.capture.Entry.{Entry}
-use Rattle.bus_captures.specs.declared.capture.Direction.{Direction}
-use Rattle.mctp_transport.specs.PacketValues.{PacketValue}
-use Rattle.mctp_transport.specs.Hearing.{Answer}
-use Rattle.mctp_transport.specs.declared.assembler.Assembler.{Assembler}
-use Rattle.heard_captures.specs.Seen.{Seen, Fed, Told}
-use Rattle.heard_captures.specs.Stations.{AreGiven}
-use Rattle.heard_captures.specs.Steps.{HaveSeen, Sees}
-use Rattle.heard_captures.proofs.SeenLaws as heard
+use Rattle.std.{proofs.Common.{◌≡◌, ℕ, ◌<◌, ◌+◌, List, [], ◌∷◌, ◌++◌, length, refl, ap, sym, ◌∙◌, subst, get_or, map, take, append_assoc}, specs.Prelude.{Option, Result, Ok, Err, OnOk}, proofs.lemmas.List.{length_push}}
+use Rattle.bus_captures.{specs.Values.{EntryValue, entry_value}, specs.declared.capture.Entry.{Entry}, specs.declared.capture.Direction.{Direction}}
+use Rattle.mctp_transport.{specs.PacketValues.{PacketValue}, specs.Hearing.{Answer}, specs.declared.assembler.Assembler.{Assembler}}
+use Rattle.heard_captures.{specs.Seen.{Seen, Fed, Told}, specs.Stations.{AreGiven}, specs.Steps.{HaveSeen, Sees}}
 use Rattle.plan_values.specs.declared.plan.Plan.{Plan}
-use Rattle.decoded_texts.specs.Decoding.{AreTold, None, More, unit_by}
-use Rattle.decoded_texts.specs.Messages.{IsSaid}
-use Rattle.decoded_texts.specs.Seen.{IsToldAs, IsSaidOf, told_line, fed_line}
-use Rattle.decoded_texts.specs.Steps.{AddsTold, AddsStep}
+use Rattle.decoded_texts.{specs.Decoding.{AreTold, None, More, unit_by}, specs.Messages.{IsSaid}, specs.Seen.{IsToldAs, IsSaidOf, told_line, fed_line}, specs.Steps.{AddsTold, AddsStep}}
+use Rattle.heard_captures.proofs.SeenLaws as heard
 
 module _ (plan : Option Plan) where
   -- so many entries were seen, these are their lines, and the assemblers were given their packets

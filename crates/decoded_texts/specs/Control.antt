@@ -1,11 +1,7 @@
 -- The lines of control messages.
-use Rattle.std.specs.Prelude.{◌≡◌, ◌⊎◌, ℕ, List, ◌++◌, length, codes}
-use Rattle.std.specs.Fmt.{decimal}
+use Rattle.std.{specs.Prelude.{◌≡◌, ◌⊎◌, ℕ, List, ◌++◌, length, codes}, specs.Fmt.{decimal}}
 use Rattle.mctp_transport.specs.PacketValues.{bit}
-use Rattle.mctp_control.specs.Requests.{RequestValue, SpellsRequest}
-use Rattle.mctp_control.specs.Requests.{CommandValue, SetsEid, GetsEid, AllocatesEids, GetsEntries}
-use Rattle.mctp_control.specs.Responses.{ResponseValue, SpellsResponse}
-use Rattle.mctp_control.specs.Responses.{AnswerValue, EidSet, EidTold, PoolTold, EntriesTold, Failed}
+use Rattle.mctp_control.{specs.Requests.{RequestValue, SpellsRequest, CommandValue, SetsEid, GetsEid, AllocatesEids, GetsEntries}, specs.Responses.{ResponseValue, SpellsResponse, AnswerValue, EidSet, EidTold, PoolTold, EntriesTold, Failed}}
 
 -- what is asked, by its fields
 abbrev pub command_words : CommandValue → List ℕ

@@ -1,15 +1,11 @@
 -- What is said of a whole capture.
-use Rattle.std.specs.Prelude.{◌≡◌, ℕ, ◌+◌, List, [], ◌∷◌, ◌++◌, length, map, codes, Option, Some}
-use Rattle.std.specs.Fmt.{decimal}
-use Rattle.bus_captures.specs.Values.{EntryValue, entry_value}
-use Rattle.bus_captures.specs.declared.capture.Capture.{Capture}
-use Rattle.bus_captures.specs.declared.capture.CaptureFault.{CaptureFault}
-use Rattle.bus_captures.specs.declared.capture.CaptureFault.TheVariants as fault
-use Rattle.bus_captures.specs.declared.capture.End.{End}
-use Rattle.bus_captures.specs.declared.capture.End.TheVariants as end
+use Rattle.std.{specs.Prelude.{◌≡◌, ℕ, ◌+◌, List, [], ◌∷◌, ◌++◌, length, map, codes, Option, Some}, specs.Fmt.{decimal}}
+use Rattle.bus_captures.{specs.Values.{EntryValue, entry_value}, specs.declared.capture.Capture.{Capture}, specs.declared.capture.CaptureFault.{CaptureFault}, specs.declared.capture.End.{End}}
 use Rattle.heard_captures.specs.Seen.{Seen, AreSeen}
 use Rattle.plan_values.specs.declared.plan.Plan.{Plan}
 use Rattle.decoded_texts.specs.Seen.{IsToldAs}
+use Rattle.bus_captures.specs.declared.capture.CaptureFault.TheVariants as fault
+use Rattle.bus_captures.specs.declared.capture.End.TheVariants as end
 
 -- These are the lines of what was seen, one after the other, with the names that a plan has. Entries are numbered
 -- from 1.

@@ -1,9 +1,7 @@
 -- What a whole message says.
 use Rattle.std.specs.Prelude.{◌≡◌, ◌⊎◌, ℕ, List, ◌++◌, codes}
 use Rattle.hex.specs.Hex.{encode_lower}
-use Rattle.decoded_texts.specs.Control.{IsControlText, IsNoControl}
-use Rattle.decoded_texts.specs.Platform.{IsPartRequestText, IsPartAnswerText, IsNoPartRequest, IsNoPartAnswer}
-use Rattle.decoded_texts.specs.Platform.{IsHeaderText, IsNoHeader}
+use Rattle.decoded_texts.{specs.Control.{IsControlText, IsNoControl}, specs.Platform.{IsPartRequestText, IsPartAnswerText, IsNoPartRequest, IsNoPartAnswer, IsHeaderText, IsNoHeader}}
 
 -- a message of another type, in hex
 abbrev pub other_line : List ℕ → List ℕ

@@ -1,6 +1,5 @@
 -- How the code looks names up.
-use Rattle.std.specs.Prelude.{◌≡◌, ℕ, ◌<◌, List, length, codes, string_bytes}
-use Rattle.std.specs.Prelude.{slice_index_or, String}
+use Rattle.std.specs.Prelude.{◌≡◌, ℕ, ◌<◌, List, length, codes, string_bytes, slice_index_or, String}
 use Rattle.plan_values.specs.declared.plan.Plan.{Plan}
 use Rattle.decoded_texts.specs.Names.{end_words}
 

@@ -1,11 +1,7 @@
 -- The names of nodes behind a packet.
-use Rattle.std.specs.Prelude.{ℕ, ◌==◌, List, [], ◌++◌, codes, Option, Some, None}
-use Rattle.std.specs.Prelude.{if◌then◌else◌}
-use Rattle.std.specs.List.{flat_map}
+use Rattle.std.{specs.Prelude.{ℕ, ◌==◌, List, [], ◌++◌, codes, Option, Some, None, if◌then◌else◌}, specs.List.{flat_map}}
 use Rattle.mctp_transport.specs.PacketValues.{PacketValue}
-use Rattle.plan_values.specs.NodeValues.{name_bytes}
-use Rattle.plan_values.specs.declared.nodes.Node.{Node}
-use Rattle.plan_values.specs.declared.plan.Plan.{Plan}
+use Rattle.plan_values.{specs.NodeValues.{name_bytes}, specs.declared.nodes.Node.{Node}, specs.declared.plan.Plan.{Plan}}
 
 -- behind these words the name of a node that holds the endpoint ID
 abbrev pub holder_words : List ℕ → ℕ → Node → List ℕ

@@ -1,16 +1,11 @@
 -- The lines of PLDM messages.
-use Rattle.std.specs.Prelude.{◌≡◌, ◌⊎◌, ℕ, List, [], ◌++◌, drop, codes, Result, Ok, Err}
-use Rattle.std.specs.Fmt.{decimal}
+use Rattle.std.{specs.Prelude.{◌≡◌, ◌⊎◌, ℕ, List, [], ◌++◌, drop, codes, Result, Ok, Err}, specs.Fmt.{decimal}}
 use Rattle.hex.specs.Hex.{encode_lower}
 use Rattle.mctp_transport.specs.Wire.{Spells}
 use Rattle.pdr_record.specs.Records.{RecordValue, Spelled}
 use Rattle.plan_texts.specs.Shown.{record_text_bytes}
-use Rattle.pldm_message.specs.declared.kind.MessageKind.{MessageKind}
+use Rattle.pldm_message.{specs.declared.kind.MessageKind.{MessageKind}, specs.Headers.{HeaderValue, BeginsWith}, specs.Messages.{RequestMessage, ResponseMessage}, specs.Pdrs.{PartRequest, IsGetPdrRequest, get_pdr_request_bytes, Part, IsGetPdrResponse, get_pdr_answer_bytes}}
 use Rattle.pldm_message.specs.declared.kind.MessageKind.TheVariants as kind
-use Rattle.pldm_message.specs.Headers.{HeaderValue, BeginsWith}
-use Rattle.pldm_message.specs.Messages.{RequestMessage, ResponseMessage}
-use Rattle.pldm_message.specs.Pdrs.{PartRequest, IsGetPdrRequest, get_pdr_request_bytes}
-use Rattle.pldm_message.specs.Pdrs.{Part, IsGetPdrResponse, get_pdr_answer_bytes}
 
 -- where a part of a record is asked for
 abbrev pub place_words : PartRequest → List ℕ

@@ -1,18 +1,14 @@
 -- The lines that tell what became of the entries of a capture.
-use Rattle.std.specs.Prelude.{◌≡◌, ℕ, List, [], ◌++◌, codes, Option, None, Some}
-use Rattle.std.specs.Fmt.{decimal}
+use Rattle.std.{specs.Prelude.{◌≡◌, ℕ, List, [], ◌++◌, codes, Option, None, Some}, specs.Fmt.{decimal}}
 use Rattle.hex.specs.Hex.{encode_lower}
 use Rattle.bus_captures.specs.declared.capture.Direction.{Direction}
-use Rattle.bus_captures.specs.declared.capture.Direction.TheVariants as direction
-use Rattle.mctp_transport.specs.Causes.{cause_code}
-use Rattle.mctp_transport.specs.PacketValues.{PacketValue}
-use Rattle.mctp_transport.specs.Hearing.{Answer, Whole, Held, Dropped}
-use Rattle.mctp_transport.specs.Refusals as refusals
+use Rattle.mctp_transport.{specs.Causes.{cause_code}, specs.PacketValues.{PacketValue}, specs.Hearing.{Answer, Whole, Held, Dropped}}
 use Rattle.heard_captures.specs.Seen.{Seen, Fed, NoPacket, Told, Other}
 use Rattle.plan_values.specs.declared.plan.Plan.{Plan}
 use Rattle.plan_texts.specs.Shown.{address_words_of, position_words_of, tag_words_of, refused_bytes}
-use Rattle.decoded_texts.specs.Messages.{IsSaid}
-use Rattle.decoded_texts.specs.Names.{names_of}
+use Rattle.decoded_texts.{specs.Messages.{IsSaid}, specs.Names.{names_of}}
+use Rattle.bus_captures.specs.declared.capture.Direction.TheVariants as direction
+use Rattle.mctp_transport.specs.Refusals as refusals
 
 abbrev pub answer_word : Answer → List ℕ
 answer_word (Whole message) = codes "whole"

@@ -2,11 +2,9 @@
 use Rattle.std.specs.Prelude.{◌≡◌, ℕ, List, ◌++◌, Option}
 use Rattle.bus_captures.specs.Values.{EntryValue}
 use Rattle.mctp_transport.specs.declared.assembler.Assembler.{Assembler}
-use Rattle.heard_captures.specs.Seen.{Seen}
-use Rattle.heard_captures.specs.Steps.{Sees}
+use Rattle.heard_captures.{specs.Seen.{Seen}, specs.Steps.{Sees}}
 use Rattle.plan_values.specs.declared.plan.Plan.{Plan}
-use Rattle.decoded_texts.specs.Decoding.{unit_by}
-use Rattle.decoded_texts.specs.Seen.{IsToldAs}
+use Rattle.decoded_texts.{specs.Decoding.{unit_by}, specs.Seen.{IsToldAs}}
 
 -- an entry of this number was seen within the plan's transmission unit, and its lines are these
 pub record IsStep (old new : List Assembler) (plan : Option Plan) (number : ℕ) (e : EntryValue)

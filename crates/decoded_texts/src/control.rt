@@ -1,7 +1,6 @@
 //! The lines of control messages.
 ghost use Rattle.std.specs.Prelude.{◌≡◌, IfOk, MatchOption, string_bytes};
-ghost use Rattle.mctp_control.specs.Requests.{command_value, request_value};
-ghost use Rattle.mctp_control.specs.Responses.{answer_value, response_value};
+ghost use Rattle.mctp_control.{specs.Requests.{command_value, request_value}, specs.Responses.{answer_value, response_value}};
 ghost use Rattle.decoded_texts.specs.Control.{command_words, answer_words, request_line, response_line, IsResponseText, IsNoControl, IsControlText, IsNoResponse};
 
 use mctp_control::{ControlAnswer, ControlCommand, Request, Response};

@@ -1,16 +1,11 @@
 //! The lines that tell what became of an entry.
-ghost use Rattle.std.specs.Prelude.{◌≡◌, ◌++◌, IfOk, OnOk, ℕ, List, string_bytes, length, option_map, codes};
-ghost use Rattle.std.specs.Fmt.{decimal};
+ghost use Rattle.std.{specs.Prelude.{◌≡◌, ◌++◌, IfOk, OnOk, ℕ, List, string_bytes, length, option_map, codes}, specs.Fmt.{decimal}};
 ghost use Rattle.bus_captures.specs.Values.{entry_value};
-ghost use Rattle.mctp_transport.specs.Heard.{heard_answer};
-ghost use Rattle.mctp_transport.specs.Packets.{packet_value_of};
-ghost use Rattle.heard_captures.specs.Seen.{Fed, Told};
-ghost use Rattle.heard_captures.specs.Sights.{seen_of};
+ghost use Rattle.mctp_transport.{specs.Heard.{heard_answer}, specs.Packets.{packet_value_of}};
+ghost use Rattle.heard_captures.{specs.Seen.{Fed, Told}, specs.Sights.{seen_of}};
 ghost use Rattle.hex.specs.Hex.{encode_lower};
 ghost use Rattle.plan_texts.specs.Shown.{address_words_of, position_words_of, tag_words_of, refused_bytes};
-ghost use Rattle.decoded_texts.specs.Messages.{IsSaid};
-ghost use Rattle.decoded_texts.specs.Seen.{answer_word, way_word, fed_line, told_line, IsSaidOf};
-ghost use Rattle.decoded_texts.specs.Steps.{AddsTold, AddsStep};
+ghost use Rattle.decoded_texts.{specs.Messages.{IsSaid}, specs.Seen.{answer_word, way_word, fed_line, told_line, IsSaidOf}, specs.Steps.{AddsTold, AddsStep}};
 
 use crate::message::message_text;
 use crate::names::{Names, push_names, unit_by};

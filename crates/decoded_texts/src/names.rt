@@ -1,12 +1,8 @@
 //! The names of nodes behind packets.
-ghost use Rattle.std.specs.Prelude.{◌≡◌, ◌++◌, IfOk, OnOk, length, option_map, string_bytes, codes};
-ghost use Rattle.std.specs.List.{flat_map};
-ghost use Rattle.mctp_transport.specs.PacketValues.{IsUnit};
-ghost use Rattle.mctp_transport.specs.Packets.{packet_value_of};
+ghost use Rattle.std.{specs.Prelude.{◌≡◌, ◌++◌, IfOk, OnOk, length, option_map, string_bytes, codes}, specs.List.{flat_map}};
+ghost use Rattle.mctp_transport.{specs.PacketValues.{IsUnit}, specs.Packets.{packet_value_of}};
 ghost use Rattle.plan_values.specs.NodeValues.{name_bytes};
-ghost use Rattle.decoded_texts.specs.Decoding.{unit_by};
-ghost use Rattle.decoded_texts.specs.Names.{holder_words, end_words, names_of};
-ghost use Rattle.decoded_texts.specs.NameTables.{AreEndWords, AreNames};
+ghost use Rattle.decoded_texts.{specs.Decoding.{unit_by}, specs.Names.{holder_words, end_words, names_of}, specs.NameTables.{AreEndWords, AreNames}};
 
 use mctp_transport::{BASELINE_UNIT, PacketView};
 use plan_values::{Node, Plan};

@@ -1,7 +1,6 @@
 //! The lines of PLDM messages.
 ghost use Rattle.std.specs.Prelude.{◌≡◌, ◌≤◌, IfOk, MatchOption, string_bytes, length, drop};
-ghost use Rattle.pldm_message.specs.HeaderValues.{header_value};
-ghost use Rattle.pldm_message.specs.PdrValues.{get_pdr_request, part_request, get_pdr_answer, part};
+ghost use Rattle.pldm_message.{specs.HeaderValues.{header_value}, specs.PdrValues.{get_pdr_request, part_request, get_pdr_answer, part}};
 ghost use Rattle.decoded_texts.specs.Platform.{part_request_line, place_words, part_line, part_words, failed_line, header_line, kind_word, IsRecordOrNothing, IsPartText, IsOutcomeText, IsPartRequestText, IsPartAnswerText, IsNoPartRequest, IsNoPartAnswer, IsHeaderText, IsNoHeader};
 
 use mctp_transport::Wire;

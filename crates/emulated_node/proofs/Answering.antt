@@ -1,7 +1,6 @@
 -- The answer of a terminus, by its value.
 use Rattle.std.proofs.Common.{◌≡◌, ℕ, List, Option, Some, None, ap, subst}
-use Rattle.pdr_repository.specs.Answers.{Answers}
-use Rattle.pdr_repository.specs.Records.{Entry}
+use Rattle.pdr_repository.{specs.Answers.{Answers}, specs.Records.{Entry}}
 use Rattle.emulated_node.specs.Nodes.{TerminusValue}
 
 abbrev with : ℕ → List Entry → TerminusValue

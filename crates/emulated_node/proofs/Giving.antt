@@ -1,19 +1,9 @@
 -- Packets that come over the buses, and the messages that come with them.
-use Rattle.std.proofs.Common.{◌≡◌, ℕ, ◌<◌, List, length, Some, get_or, sym, ◌∙◌, ap, subst, inl, inr}
-use Rattle.std.specs.Prelude.{Result, Ok, Err, IfOk, slice_get, slice_set}
-use Rattle.std.proofs.lemmas.Bool.Decides.{eqb_tells}
-use Rattle.mctp_transport.specs.declared.assembler.Assembler.{Assembler}
-use Rattle.mctp_transport.specs.Assembly.{HoldsHistory, assembler_slots, assembler_limit}
-use Rattle.mctp_transport.specs.PacketValues.{PacketValue}
-use Rattle.mctp_transport.specs.Hearing.{Answer, Hears, HearsOnly}
-use Rattle.mctp_transport.specs.Histories.{History, Arrived, after}
-use Rattle.std.proofs.lemmas.Option.{slice_get-get_or}
+use Rattle.std.{proofs.Common.{◌≡◌, ℕ, ◌<◌, List, length, Some, get_or, sym, ◌∙◌, ap, subst, inl, inr}, specs.Prelude.{Result, Ok, Err, IfOk, slice_get, slice_set}, proofs.lemmas.Bool.Decides.{eqb_tells}, proofs.lemmas.Option.{slice_get-get_or}}
+use Rattle.mctp_transport.{specs.declared.assembler.Assembler.{Assembler}, specs.Assembly.{HoldsHistory, assembler_slots, assembler_limit}, specs.PacketValues.{PacketValue}, specs.Hearing.{Answer, Hears, HearsOnly}, specs.Histories.{History, Arrived, after}}
 use Rattle.net_tables.proofs.Elements.{in_set}
-use Rattle.emulated_node.specs.Heard.{AreSized, HaveBeenGiven, with_arrival}
+use Rattle.emulated_node.{specs.Heard.{AreSized, HaveBeenGiven, with_arrival}, specs.Nodes.{NodeState, Setting}, specs.ReceivedValues.{ReceivedValue, Sent, Held, Dropped}, specs.Receiving.{ComesWhole, IsForwarded, Receives}}
 use Rattle.emulated_node.specs.declared.received.Reason.TheVariants as reason
-use Rattle.emulated_node.specs.Nodes.{NodeState, Setting}
-use Rattle.emulated_node.specs.ReceivedValues.{ReceivedValue, Sent, Held, Dropped}
-use Rattle.emulated_node.specs.Receiving.{ComesWhole, IsForwarded, Receives}
 
 module _ (xs : List Assembler) (bus : ℕ) (old fed : Assembler) (within : bus < length xs) (is_old : old ≡ get_or xs bus old) where
   there : slice_get xs bus ≡ Some old

@@ -1,9 +1,6 @@
 -- What assemblers of a node's buses were given.
 use Rattle.std.specs.Prelude.{◌≡◌, ℕ, ◌==◌, List, Some, if◌then◌else◌, slice_get}
-use Rattle.mctp_transport.specs.Assembly.{HoldsHistory, assembler_slots, assembler_limit}
-use Rattle.mctp_transport.specs.declared.assembler.Assembler.{Assembler}
-use Rattle.mctp_transport.specs.PacketValues.{PacketValue}
-use Rattle.mctp_transport.specs.Histories.{History, Arrived, after}
+use Rattle.mctp_transport.{specs.Assembly.{HoldsHistory, assembler_slots, assembler_limit}, specs.declared.assembler.Assembler.{Assembler}, specs.PacketValues.{PacketValue}, specs.Histories.{History, Arrived, after}}
 
 -- each has 16 slots for messages of at most 4096 bytes
 abbrev pub AreSized : List Assembler → Type 0

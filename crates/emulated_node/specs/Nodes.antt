@@ -1,10 +1,8 @@
 -- What a node is by its plan, and what it holds at one moment.
 use Rattle.std.specs.Prelude.{ℕ, List, Option}
-use Rattle.mctp_transport.specs.declared.device_kind.DeviceKind.{DeviceKind}
+use Rattle.mctp_transport.{specs.declared.device_kind.DeviceKind.{DeviceKind}, specs.Histories.{History}}
 use Rattle.mctp_routing.specs.declared.row.TableRow.{TableRow}
-use Rattle.mctp_control.specs.Devices.{DeviceValue}
-use Rattle.mctp_control.specs.RouteEntries.{EntryValue}
-use Rattle.mctp_transport.specs.Histories.{History}
+use Rattle.mctp_control.{specs.Devices.{DeviceValue}, specs.RouteEntries.{EntryValue}}
 use Rattle.plan_values.specs.declared.plan.Plan.{Plan}
 use Rattle.pdr_repository.specs.Records.{Entry}
 

@@ -1,7 +1,6 @@
 -- What becomes of a packet, as plain values.
 use Rattle.std.specs.Prelude.{ℕ, List, map}
-use Rattle.emulated_node.specs.declared.received.Reason.{Reason}
-use Rattle.emulated_node.specs.declared.received.Received.{Received}
+use Rattle.emulated_node.{specs.declared.received.Reason.{Reason}, specs.declared.received.Received.{Received}}
 use Rattle.emulated_node.specs.declared.received.Received.TheVariants as received
 
 pub data ReceivedValue : Type 0 where

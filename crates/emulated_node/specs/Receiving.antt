@@ -1,19 +1,13 @@
 -- What a node does with a packet that comes over a bus.
 use Rattle.std.specs.Prelude.{◌≡◌, ◌⊎◌, ℕ, false, List, [], ◌∷◌, Option, None, Some}
-use Rattle.mctp_routing.specs.declared.decision.Decision.{Decision}
-use Rattle.mctp_routing.specs.declared.decision.Decision.TheVariants as decision
-use Rattle.mctp_routing.specs.declared.row.Hop.{Hop}
-use Rattle.mctp_routing.specs.Decisions.{IsDecided}
+use Rattle.mctp_routing.{specs.declared.decision.Decision.{Decision}, specs.declared.row.Hop.{Hop}, specs.Decisions.{IsDecided}}
 use Rattle.mctp_control.specs.Devices.{DeviceValue, present_eid}
-use Rattle.mctp_transport.specs.PacketValues.{PacketValue, packet_value_bytes, key_of}
-use Rattle.mctp_transport.specs.Hearing.{Answer, Hears}
-use Rattle.mctp_transport.specs.Hearing as heard
+use Rattle.mctp_transport.{specs.PacketValues.{PacketValue, packet_value_bytes, key_of}, specs.Hearing.{Answer, Hears}}
 use Rattle.net_tables.specs.Rows.{bus_of}
+use Rattle.emulated_node.{specs.Heard.{with_arrival}, specs.Nodes.{NodeState, Setting, TerminusValue}, specs.ReceivedValues.{ReceivedValue, Sent, Held, Dropped}, specs.Replying.{RepliesTo}}
+use Rattle.mctp_routing.specs.declared.decision.Decision.TheVariants as decision
+use Rattle.mctp_transport.specs.Hearing as heard
 use Rattle.emulated_node.specs.declared.received.Reason.TheVariants as reason
-use Rattle.emulated_node.specs.Heard.{with_arrival}
-use Rattle.emulated_node.specs.Nodes.{NodeState, Setting, TerminusValue}
-use Rattle.emulated_node.specs.ReceivedValues.{ReceivedValue, Sent, Held, Dropped}
-use Rattle.emulated_node.specs.Replying.{RepliesTo}
 
 -- what the node decides by its rows, holding the endpoint ID that its device holds, 0 for none, on a packet
 -- that came over a bus

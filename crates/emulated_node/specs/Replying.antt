@@ -1,13 +1,9 @@
 -- What is sent where a message has come for a node.
 use Rattle.std.specs.Prelude.{◌≡◌, ℕ, true, false, List, map, Option, None, Some}
-use Rattle.mctp_control.specs.Devices.{DeviceValue, present_eid}
-use Rattle.mctp_control.specs.RouteEntries.{EntryValue}
-use Rattle.mctp_transport.specs.Cutting.{ArePacketsOf}
-use Rattle.mctp_transport.specs.PacketValues.{PacketValue, KeyValue, packet_value_bytes}
+use Rattle.mctp_control.{specs.Devices.{DeviceValue, present_eid}, specs.RouteEntries.{EntryValue}}
+use Rattle.mctp_transport.{specs.Cutting.{ArePacketsOf}, specs.PacketValues.{PacketValue, KeyValue, packet_value_bytes}}
+use Rattle.emulated_node.{specs.Nodes.{TerminusValue}, specs.ReceivedValues.{ReceivedValue, Sent, Dropped}, specs.Responding.{Responds}}
 use Rattle.emulated_node.specs.declared.received.Reason.TheVariants as reason
-use Rattle.emulated_node.specs.Nodes.{TerminusValue}
-use Rattle.emulated_node.specs.ReceivedValues.{ReceivedValue, Sent, Dropped}
-use Rattle.emulated_node.specs.Responding.{Responds}
 
 -- the key of an answer: from the endpoint ID that the device holds now, 0 for none, with the tag of the request, and
 -- without the owner bit

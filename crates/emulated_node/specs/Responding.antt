@@ -1,8 +1,6 @@
 -- What a node answers to a request.
 use Rattle.std.specs.Prelude.{◌≡◌, ◌≢◌, ℕ, List, Option, None, Some, slice_index}
-use Rattle.mctp_control.specs.Devices.{DeviceValue}
-use Rattle.mctp_control.specs.Replies.{Replies}
-use Rattle.mctp_control.specs.RouteEntries.{EntryValue}
+use Rattle.mctp_control.{specs.Devices.{DeviceValue}, specs.Replies.{Replies}, specs.RouteEntries.{EntryValue}}
 use Rattle.pdr_repository.specs.Answers.{Answers}
 use Rattle.emulated_node.specs.Nodes.{TerminusValue}
 

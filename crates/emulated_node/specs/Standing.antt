@@ -1,12 +1,8 @@
 -- What an emulated node stands for.
 use Rattle.std.specs.Prelude.{◌≡◌, ℕ, List, [], Option, option_map}
-use Rattle.mctp_control.specs.Devices.{DeviceValue, device_value}
-use Rattle.mctp_control.specs.EntryLists.{values_of}
+use Rattle.mctp_control.{specs.Devices.{DeviceValue, device_value}, specs.EntryLists.{values_of}}
 use Rattle.pdr_repository.specs.Records.{Entry}
-use Rattle.emulated_node.specs.declared.emulated.Emulated.{Emulated}
-use Rattle.emulated_node.specs.Heard.{HaveBeenGiven}
-use Rattle.emulated_node.specs.Nodes.{NodeState, Setting, TerminusValue}
-use Rattle.emulated_node.specs.Termini.{terminus_value}
+use Rattle.emulated_node.{specs.declared.emulated.Emulated.{Emulated}, specs.Heard.{HaveBeenGiven}, specs.Nodes.{NodeState, Setting, TerminusValue}, specs.Termini.{terminus_value}}
 
 abbrev pub setting_of : {T : Type 0} → Emulated T → Setting
 setting_of e = record {

@@ -1,7 +1,6 @@
 //! Where packets go.
 ghost use Rattle.std.specs.Prelude.{◌≡◌, ◌≢◌, false};
-ghost use Rattle.mctp_routing.specs.declared.decision.Decision.TheVariants.{Here};
-ghost use Rattle.mctp_routing.specs.Decisions.{IsDecided};
+ghost use Rattle.mctp_routing.{specs.declared.decision.Decision.TheVariants.{Here}, specs.Decisions.{IsDecided}};
 ghost use Rattle.mctp_control.specs.Devices.{device_value, present_eid};
 
 use crate::responding::own_eid;

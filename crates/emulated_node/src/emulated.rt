@@ -38,14 +38,9 @@ pub struct Emulated<'a, T> {
 
 impl<'a, T: Terminus> Emulated<'a, T> {
     ghost use Rattle.std.specs.Prelude.{IfOk, option_map};
-    ghost use Rattle.mctp_control.specs.Devices.{device_value};
-    ghost use Rattle.mctp_control.specs.EntryLists.{values_of};
+    ghost use Rattle.mctp_control.{specs.Devices.{device_value}, specs.EntryLists.{values_of}};
     ghost use Rattle.mctp_transport.specs.Packets.{packet_value_of};
-    ghost use Rattle.emulated_node.specs.Nodes.{NodeState};
-    ghost use Rattle.emulated_node.specs.ReceivedValues.{received_value};
-    ghost use Rattle.emulated_node.specs.Receiving.{IsForNode, IsSentOn, Receives};
-    ghost use Rattle.emulated_node.specs.Standing.{HasNodeState, setting_of, at_start};
-    ghost use Rattle.emulated_node.specs.Termini.{terminus_value};
+    ghost use Rattle.emulated_node.{specs.Nodes.{NodeState}, specs.ReceivedValues.{received_value}, specs.Receiving.{IsForNode, IsSentOn, Receives}, specs.Standing.{HasNodeState, setting_of, at_start}, specs.Termini.{terminus_value}};
 
     /// A node to which no packet has come yet, with its routing table, the entries that tell it, its device and its
     /// terminus.

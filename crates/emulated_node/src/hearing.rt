@@ -1,9 +1,6 @@
 //! Packets for the node, and the messages that come with them.
 ghost use Rattle.std.specs.Prelude.{◌≡◌, ◌<◌, ℕ, IfOk, length};
-ghost use Rattle.mctp_transport.specs.Heard.{heard_answer};
-ghost use Rattle.mctp_transport.specs.Hearing.{Hears};
-ghost use Rattle.mctp_transport.specs.Histories.{History};
-ghost use Rattle.mctp_transport.specs.Packets.{packet_value_of};
+ghost use Rattle.mctp_transport.{specs.Heard.{heard_answer}, specs.Hearing.{Hears}, specs.Histories.{History}, specs.Packets.{packet_value_of}};
 ghost use Rattle.emulated_node.specs.Heard.{AreSized, HaveBeenGiven, with_arrival};
 
 use mctp_transport::{Assembler, Heard, PacketView, hear};

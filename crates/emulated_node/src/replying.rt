@@ -1,12 +1,8 @@
 //! Messages that come whole, and what is sent for them.
 ghost use Rattle.std.specs.Prelude.{◌≡◌, ◌<◌, length, option_map, IfOk};
-ghost use Rattle.mctp_control.specs.Devices.{device_value};
-ghost use Rattle.mctp_control.specs.EntryLists.{values_of};
-ghost use Rattle.mctp_transport.specs.PacketValues.{IsUnit};
-ghost use Rattle.mctp_transport.specs.Packets.{key_value};
-ghost use Rattle.emulated_node.specs.ReceivedValues.{received_value};
-ghost use Rattle.emulated_node.specs.Replying.{RepliesTo};
-ghost use Rattle.emulated_node.specs.Termini.{terminus_value};
+ghost use Rattle.mctp_control.{specs.Devices.{device_value}, specs.EntryLists.{values_of}};
+ghost use Rattle.mctp_transport.{specs.PacketValues.{IsUnit}, specs.Packets.{key_value}};
+ghost use Rattle.emulated_node.{specs.ReceivedValues.{received_value}, specs.Replying.{RepliesTo}, specs.Termini.{terminus_value}};
 
 use crate::received::{Reason, Received};
 use crate::responding::{own_eid, respond};

@@ -1,11 +1,8 @@
 //! Requests, and what answers them.
 ghost use Rattle.std.specs.Prelude.{◌≡◌, ◌↔◌, ◌<◌, IsTrue, length, option_map, slice_index};
-ghost use Rattle.mctp_control.specs.Devices.{device_value, present_eid};
-ghost use Rattle.mctp_control.specs.EntryLists.{values_of};
-ghost use Rattle.mctp_control.specs.Replies.{Replies};
+ghost use Rattle.mctp_control.{specs.Devices.{device_value, present_eid}, specs.EntryLists.{values_of}, specs.Replies.{Replies}};
 ghost use Rattle.pdr_repository.specs.Answers.{answer_of};
-ghost use Rattle.emulated_node.specs.Responding.{Responds};
-ghost use Rattle.emulated_node.specs.Termini.{terminus_value};
+ghost use Rattle.emulated_node.{specs.Responding.{Responds}, specs.Termini.{terminus_value}};
 
 use arrayvec::ArrayVec;
 use mctp_control::{Device, RouteEntry};

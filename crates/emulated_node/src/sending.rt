@@ -1,8 +1,6 @@
 //! Packets that are sent.
 ghost use Rattle.std.specs.Prelude.{◌≡◌, ◌≤◌, ◌<◌, List, length, map, IfOk};
-ghost use Rattle.mctp_transport.specs.Cutting.{ArePacketsOf};
-ghost use Rattle.mctp_transport.specs.PacketValues.{PacketValue, IsUnit, packet_value_bytes};
-ghost use Rattle.mctp_transport.specs.Packets.{packet_value_of, key_value};
+ghost use Rattle.mctp_transport.{specs.Cutting.{ArePacketsOf}, specs.PacketValues.{PacketValue, IsUnit, packet_value_bytes}, specs.Packets.{packet_value_of, key_value}};
 
 use mctp_transport::{Eid, Key, MAX_MESSAGE, PacketView, Packets, Seq};
 use std::alloc::{AllocError, Global};

@@ -1,29 +1,15 @@
 -- What the end of `explain` tells of an answer.
-use Rattle.std.proofs.Common.{◌≡◌, ◌++◌, List, ℕ, Result, Ok, Err, Option, Some, None, inl, inr, sym, subst}
-use Rattle.std.specs.Prelude.{IfOk}
-use Rattle.std.specs.Cow.{cow_str_bytes}
-use Rattle.net_rules.specs.Faults.{IsFirstFault, site_of}
-use Rattle.net_rules.specs.declared.certify_error.CertifyError.{CertifyError}
-use Rattle.net_rules.specs.declared.fault.Fault.{Fault}
-use Rattle.net_explained.specs.declared.cause.Cause.{Cause}
-use Rattle.net_explained.specs.Causes.{IsCauseAt}
-use Rattle.net_rules.specs.declared.certify_error.CertifyError.TheVariants as error
-use Rattle.net_rules.specs.Rules.{Accepts}
-use Rattle.plan_values.specs.declared.certificate.Certificate.{Certificate}
-use Rattle.plan_values.specs.declared.plan.Plan.{Plan}
-use Rattle.command_answers.specs.declared.answer.Answer.{Answer}
-use Rattle.command_answers.specs.declared.inputs.Unread.{Unread}
-use Rattle.command_answers.specs.declared.refused.Refused.{Refused}
-use Rattle.command_answers.specs.declared.status.Status.{Status}
-use Rattle.command_answers.specs.declared.status.Status.TheVariants as status
-use Rattle.command_answers.specs.Answers.{Stream, GavePlanText, GaveCertificate}
+use Rattle.std.{proofs.Common.{◌≡◌, ◌++◌, List, ℕ, Result, Ok, Err, Option, Some, None, inl, inr, sym, subst}, specs.Prelude.{IfOk}, specs.Cow.{cow_str_bytes}}
+use Rattle.net_rules.{specs.Faults.{IsFirstFault, site_of}, specs.declared.certify_error.CertifyError.{CertifyError}, specs.declared.fault.Fault.{Fault}, specs.Rules.{Accepts}}
+use Rattle.net_explained.{specs.declared.cause.Cause.{Cause}, specs.Causes.{IsCauseAt}}
+use Rattle.plan_values.{specs.declared.certificate.Certificate.{Certificate}, specs.declared.plan.Plan.{Plan}}
+use Rattle.command_answers.{specs.declared.answer.Answer.{Answer}, specs.declared.inputs.Unread.{Unread}, specs.declared.refused.Refused.{Refused}, specs.declared.status.Status.{Status}, specs.Answers.{Stream, GavePlanText, GaveCertificate}, specs.UnreadInputs.{IsNoPlanBy, IsNoCertificateBy}, proofs.UnreadTexts.{IsUnreadAnswer, plan_told, certificate_told}, specs.Certifying.{IsRuledOutBy}}
 use Rattle.explain_commands.specs.Explaining.{IsExplained, ExplainsSo, IsExplainedThere, IsObstacleText, IsToldWithEdits, AreMoreTold, IsFaultTold, both_words, IsBothExplained, IsExplainedWith, ExplainsWithSo, IsFaultExplained, IsRemedyTold, remedy_text}
-use Rattle.command_answers.specs.UnreadInputs.{IsNoPlanBy, IsNoCertificateBy}
-use Rattle.command_answers.specs.declared.refused.Input.TheVariants as input
-use Rattle.command_answers.proofs.UnreadTexts.{IsUnreadAnswer, plan_told, certificate_told}
-use Rattle.command_answers.specs.Certifying.{IsRuledOutBy}
 use Rattle.plan_texts.specs.Lines.{fault_text}
 use Rattle.fault_texts.specs.Places.{IsPlaceTold, obstacle_pointer}
+use Rattle.net_rules.specs.declared.certify_error.CertifyError.TheVariants as error
+use Rattle.command_answers.specs.declared.status.Status.TheVariants as status
+use Rattle.command_answers.specs.declared.refused.Input.TheVariants as input
 
 -- ---- of a plan
 

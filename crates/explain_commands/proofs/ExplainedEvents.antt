@@ -1,21 +1,11 @@
 -- What the end of `explain` tells of an answer on events.
-use Rattle.std.proofs.Common.{◌≡◌, List, ℕ, Result, Ok, Err, inl, inr, sym, subst}
-use Rattle.std.specs.Prelude.{IfOk}
-use Rattle.std.specs.Cow.{cow_str_bytes}
+use Rattle.std.{proofs.Common.{◌≡◌, List, ℕ, Result, Ok, Err, inl, inr, sym, subst}, specs.Prelude.{IfOk}, specs.Cow.{cow_str_bytes}}
 use Rattle.net_rules.specs.Rules.{Accepts}
-use Rattle.plan_values.specs.declared.certificate.Certificate.{Certificate}
-use Rattle.plan_values.specs.declared.plan.Plan.{Plan}
-use Rattle.command_answers.specs.declared.answer.Answer.{Answer}
-use Rattle.command_answers.specs.declared.inputs.Unread.{Unread}
-use Rattle.command_answers.specs.declared.refused.Refused.{Refused}
-use Rattle.command_answers.specs.declared.status.Status.{Status}
+use Rattle.plan_values.{specs.declared.certificate.Certificate.{Certificate}, specs.declared.plan.Plan.{Plan}}
+use Rattle.command_answers.{specs.declared.answer.Answer.{Answer}, specs.declared.inputs.Unread.{Unread}, specs.declared.refused.Refused.{Refused}, specs.declared.status.Status.{Status}, specs.Answers.{Stream, GavePlanText, GaveCertificate}, specs.UnreadInputs.{IsNoPlanBy, IsNoCertificateBy, AreNoEventsBy}, proofs.UnreadTexts.{IsUnreadAnswer, plan_told, certificate_told, events_told}}
+use Rattle.explain_commands.{specs.Explaining.{IsFaultExplained}, specs.ExplainingEvents.{AreEventsExplained, AreAllExplained, IsExplainedWithEvents, ExplainsAllSo}}
 use Rattle.command_answers.specs.declared.status.Status.TheVariants as status
-use Rattle.command_answers.specs.Answers.{Stream, GavePlanText, GaveCertificate}
-use Rattle.command_answers.specs.UnreadInputs.{IsNoPlanBy, IsNoCertificateBy, AreNoEventsBy}
-use Rattle.explain_commands.specs.Explaining.{IsFaultExplained}
-use Rattle.explain_commands.specs.ExplainingEvents.{AreEventsExplained, AreAllExplained, IsExplainedWithEvents, ExplainsAllSo}
 use Rattle.command_answers.specs.declared.refused.Input.TheVariants as input
-use Rattle.command_answers.proofs.UnreadTexts.{IsUnreadAnswer, plan_told, certificate_told, events_told}
 
 -- the answer where no events were given
 pub no_events : (plan : Plan) (cert : Certificate) (happenings : Stream) (u : Unread) (result : Result Answer Refused) → Accepts plan cert → AreNoEventsBy plan happenings u

@@ -1,27 +1,15 @@
 -- What the end of `explain` tells of an answer on a move.
-use Rattle.std.proofs.Common.{◌≡◌, ◌++◌, [], List, ℕ, Result, Ok, Err, Some, None, inl, inr, refl}
-use Rattle.std.specs.Prelude.{IfOk}
-use Rattle.std.specs.Cow.{cow_str_bytes}
-use Rattle.net_rules.specs.Faults.{site_of}
-use Rattle.net_rules.specs.declared.certify_error.CertifyError.TheVariants as error
-use Rattle.net_rules.specs.declared.fault.Fault.{Fault}
-use Rattle.net_rules.specs.declared.move_obstacle.MoveObstacle.{MoveObstacle}
-use Rattle.net_explained.specs.declared.cause.Cause.{Cause}
-use Rattle.net_explained.specs.Causes.{IsCauseAt}
+use Rattle.std.{proofs.Common.{◌≡◌, ◌++◌, [], List, ℕ, Result, Ok, Err, Some, None, inl, inr, refl}, specs.Prelude.{IfOk}, specs.Cow.{cow_str_bytes}}
+use Rattle.net_rules.{specs.Faults.{site_of}, specs.declared.fault.Fault.{Fault}, specs.declared.move_obstacle.MoveObstacle.{MoveObstacle}}
+use Rattle.net_explained.{specs.declared.cause.Cause.{Cause}, specs.Causes.{IsCauseAt}}
 use Rattle.plan_values.specs.declared.plan.Plan.{Plan}
-use Rattle.command_answers.specs.declared.answer.Answer.{Answer}
-use Rattle.command_answers.specs.declared.inputs.Unread.{Unread}
-use Rattle.command_answers.specs.declared.refused.Refused.{Refused}
-use Rattle.command_answers.specs.declared.status.Status.TheVariants as status
-use Rattle.command_answers.specs.Answers.{Stream, GavePlanText}
-use Rattle.command_answers.specs.UnreadInputs.{IsNoPlanBy}
+use Rattle.command_answers.{specs.declared.answer.Answer.{Answer}, specs.declared.inputs.Unread.{Unread}, specs.declared.refused.Refused.{Refused}, specs.Answers.{Stream, GavePlanText}, specs.UnreadInputs.{IsNoPlanBy}, proofs.UnreadTexts.{IsUnreadAnswer, plan_told}}
 use Rattle.fault_texts.specs.RuledOutMoves.{IsMoveRuledOutBy}
 use Rattle.explanation_texts.specs.Explanations.{told_subjects}
-use Rattle.explain_commands.specs.Explaining.{AreEditsTold, IsCauseTold, IsToldWithEdits}
-use Rattle.explain_commands.specs.ExplainingMoves.{ExplainsMoveSo, IsMoveExplained, IsMoveExplainedWith, IsMoveObstacleText, IsMoveTold}
-use Rattle.explain_commands.specs.MoveRows.{PlanFile}
+use Rattle.explain_commands.{specs.Explaining.{AreEditsTold, IsCauseTold, IsToldWithEdits}, specs.ExplainingMoves.{ExplainsMoveSo, IsMoveExplained, IsMoveExplainedWith, IsMoveObstacleText, IsMoveTold}, specs.MoveRows.{PlanFile}}
+use Rattle.net_rules.specs.declared.certify_error.CertifyError.TheVariants as error
+use Rattle.command_answers.specs.declared.status.Status.TheVariants as status
 use Rattle.command_answers.specs.declared.refused.Input.TheVariants as input
-use Rattle.command_answers.proofs.UnreadTexts.{IsUnreadAnswer, plan_told}
 
 -- ---- a run
 

@@ -1,6 +1,5 @@
 -- Lines of hops, one after the other.
-use Rattle.std.proofs.Common.{◌≡◌, ℕ, ◌+◌, ◌≤◌, List, ◌++◌, length, Some, sym, subst, arith}
-use Rattle.std.specs.Prelude.{slice_get}
+use Rattle.std.{proofs.Common.{◌≡◌, ℕ, ◌+◌, ◌≤◌, List, ◌++◌, length, Some, sym, subst, arith}, specs.Prelude.{slice_get}}
 use Rattle.net_rules.specs.declared.mixed_loop.Side.{Side}
 use Rattle.explain_commands.specs.MoveRows.{AreHopsTold, IsHopTold, PlanFile}
 

@@ -1,14 +1,10 @@
 -- What the end of `fix` says of both outputs.
-use Rattle.std.proofs.Common.{◌≢◌, ℕ, List, string_bytes, inl, inr, refl, sym, subst}
-use Rattle.std.specs.Io.KnownBytes.{Appends}
+use Rattle.std.{proofs.Common.{◌≢◌, ℕ, List, string_bytes, inl, inr, refl, sym, subst}, specs.Io.KnownBytes.{Appends}}
 use Rattle.plan_values.specs.declared.plan.Plan.{Plan}
-use Rattle.command_answers.specs.declared.status.Status.{Status}
-use Rattle.command_answers.specs.declared.status.Status.TheVariants as status
-use Rattle.command_answers.specs.Answers.{Stream}
+use Rattle.command_answers.{specs.declared.status.Status.{Status}, specs.Answers.{Stream}, specs.UnreadTexts.{IsUnreadText}}
 use Rattle.explain_commands.specs.Fixing.{AreBothTold, EndsFixed, EndsIn, FixesSo, IsMended}
-use Rattle.command_answers.specs.UnreadTexts.{IsUnreadText}
-use Rattle.plan_fixes.specs.Fixes.{AreFixes, IsDraftOf, IsTextOf}
-use Rattle.plan_fixes.specs.declared.fixing.Draft.{Draft}
+use Rattle.plan_fixes.{specs.Fixes.{AreFixes, IsDraftOf, IsTextOf}, specs.declared.fixing.Draft.{Draft}}
+use Rattle.command_answers.specs.declared.status.Status.TheVariants as status
 
 -- what is printed, where edits led so far
 pub mended_so : (text : List ℕ) (plan : Plan) (draft : Draft) (ended : Status) (printed : List ℕ) → IsDraftOf text plan draft

@@ -1,6 +1,5 @@
 -- The texts of a move, from their parts.
-use Rattle.std.proofs.Common.{◌≡◌, ◌++◌, ◌∙◌, List, ℕ, Option, Result, Ok, Err, length, ap, append_assoc}
-use Rattle.std.specs.Prelude.{IfOk}
+use Rattle.std.{proofs.Common.{◌≡◌, ◌++◌, ◌∙◌, List, ℕ, Option, Result, Ok, Err, length, ap, append_assoc}, specs.Prelude.{IfOk}}
 use Rattle.net_rules.specs.declared.mixed_loop.MixedLoop.{MixedLoop}
 use Rattle.fault_texts.specs.Places.{IsPlaceTold, way_pointer}
 use Rattle.explain_commands.specs.MoveRows.{AreHopsTold, IsMixedLoopTold, IsRowTold, PlanFile}

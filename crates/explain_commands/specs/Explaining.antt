@@ -1,36 +1,14 @@
 -- What `explain` prints, and what the end of it says.
-use Rattle.std.specs.Prelude.{◌≡◌, ◌≤◌, ◌⊎◌, ℕ, List, ◌++◌, codes, length, Option, Some, None}
-use Rattle.std.specs.List.{All}
-use Rattle.net_rules.specs.Certificates.{IsExact}
-use Rattle.net_rules.specs.FaultLists.{AreFaults}
-use Rattle.net_rules.specs.Faults.{IsFirstFault, site_of}
-use Rattle.net_rules.specs.Rules.{Accepts}
-use Rattle.net_rules.specs.declared.certify_error.CertifyError.{CertifyError}
-use Rattle.net_rules.specs.declared.certify_error.CertifyError.TheVariants as error
-use Rattle.net_rules.specs.declared.fault.Fault.{Fault}
-use Rattle.net_rules.specs.declared.fault_run.FaultRun.{FaultRun}
-use Rattle.net_explained.specs.declared.cause.Cause.{Cause}
-use Rattle.net_explained.specs.declared.hops.MostHops.{MostHops}
-use Rattle.net_explained.specs.declared.trial.Tried.{Tried}
-use Rattle.net_explained.specs.Causes.{IsCauseAt}
-use Rattle.net_explained.specs.Obstacles.{IsTried}
-use Rattle.plan_values.specs.declared.certificate.Certificate.{Certificate}
-use Rattle.plan_values.specs.declared.plan.Plan.{Plan}
-use Rattle.plan_values.specs.PlanValues.{plan_value}
-use Rattle.command_answers.specs.declared.status.Status.{Status}
-use Rattle.command_answers.specs.declared.status.Status.TheVariants as status
-use Rattle.command_answers.specs.Answers.{Stream, GavePlanText, GaveCertificate}
-use Rattle.command_answers.specs.Certifying.{IsRuledOutBy, others_of}
+use Rattle.std.{specs.Prelude.{◌≡◌, ◌≤◌, ◌⊎◌, ℕ, List, ◌++◌, codes, length, Option, Some, None}, specs.List.{All}}
+use Rattle.net_rules.{specs.Certificates.{IsExact}, specs.FaultLists.{AreFaults}, specs.Faults.{IsFirstFault, site_of}, specs.Rules.{Accepts}, specs.declared.certify_error.CertifyError.{CertifyError}, specs.declared.fault.Fault.{Fault}, specs.declared.fault_run.FaultRun.{FaultRun}}
+use Rattle.net_explained.{specs.declared.cause.Cause.{Cause}, specs.declared.hops.MostHops.{MostHops}, specs.declared.trial.Tried.{Tried}, specs.Causes.{IsCauseAt}, specs.Obstacles.{IsTried}}
+use Rattle.plan_values.{specs.declared.certificate.Certificate.{Certificate}, specs.declared.plan.Plan.{Plan}, specs.PlanValues.{plan_value}}
+use Rattle.command_answers.{specs.declared.status.Status.{Status}, specs.Answers.{Stream, GavePlanText, GaveCertificate}, specs.Certifying.{IsRuledOutBy, others_of}, specs.Statuses.{yes_line}, specs.UnreadTexts.{IsUnreadText, IsUnreadCertificateText}}
 use Rattle.plan_texts.specs.Lines.{fault_text}
-use Rattle.command_answers.specs.Statuses.{yes_line}
-use Rattle.command_answers.specs.UnreadTexts.{IsUnreadText, IsUnreadCertificateText}
-use Rattle.explanation_texts.specs.CertificateSubjects.{certificate_subjects}
-use Rattle.explanation_texts.specs.EditLines.{edits_text}
-use Rattle.explanation_texts.specs.Explanations.{told_subjects, IsObstacleTold}
-use Rattle.fault_texts.specs.FaultListLines.{more_text}
-use Rattle.explanation_texts.specs.Pieces.{Tells}
-use Rattle.fault_texts.specs.Places.{IsPlaceTold, obstacle_pointer}
-use Rattle.explanation_texts.specs.SummaryLines.{summary_text}
+use Rattle.explanation_texts.{specs.CertificateSubjects.{certificate_subjects}, specs.EditLines.{edits_text}, specs.Explanations.{told_subjects, IsObstacleTold}, specs.Pieces.{Tells}, specs.SummaryLines.{summary_text}}
+use Rattle.fault_texts.{specs.FaultListLines.{more_text}, specs.Places.{IsPlaceTold, obstacle_pointer}}
+use Rattle.net_rules.specs.declared.certify_error.CertifyError.TheVariants as error
+use Rattle.command_answers.specs.declared.status.Status.TheVariants as status
 
 -- the certificate is at fault, and not the plan
 abbrev pub remedy_text : List ℕ

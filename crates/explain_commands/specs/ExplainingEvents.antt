@@ -1,15 +1,10 @@
 -- What `explain` prints of a plan, its certificate and events.
 use Rattle.std.specs.Prelude.{◌≡◌, ◌⊎◌, ℕ, List}
-use Rattle.plan_values.specs.declared.certificate.Certificate.{Certificate}
-use Rattle.plan_values.specs.declared.event.Event.{Event}
-use Rattle.plan_values.specs.declared.plan.Plan.{Plan}
+use Rattle.plan_values.{specs.declared.certificate.Certificate.{Certificate}, specs.declared.event.Event.{Event}, specs.declared.plan.Plan.{Plan}}
 use Rattle.net_rules.specs.Rules.{Accepts}
-use Rattle.command_answers.specs.declared.status.Status.{Status}
-use Rattle.command_answers.specs.declared.status.Status.TheVariants as status
-use Rattle.command_answers.specs.Answers.{Stream, GavePlanText, GaveCertificate}
-use Rattle.command_answers.specs.Inputs.{GaveEvents}
+use Rattle.command_answers.{specs.declared.status.Status.{Status}, specs.Answers.{Stream, GavePlanText, GaveCertificate}, specs.Inputs.{GaveEvents}, specs.UnreadTexts.{IsUnreadText, IsUnreadCertificateText, IsUnreadEventsText}}
 use Rattle.explain_commands.specs.Explaining.{IsFaultExplained, IsYesExplained}
-use Rattle.command_answers.specs.UnreadTexts.{IsUnreadText, IsUnreadCertificateText, IsUnreadEventsText}
+use Rattle.command_answers.specs.declared.status.Status.TheVariants as status
 
 -- The plan and the certificate meet every rule, and a run that says so of the source of events ends so: yes, and what
 -- sums the plan up, where it gave events; or why it gave none.

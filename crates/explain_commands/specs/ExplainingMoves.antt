@@ -1,27 +1,14 @@
 -- What `explain` prints of a move, and what the end of it says.
 use Rattle.std.specs.Prelude.{◌≡◌, ◌⊎◌, ⊤, ℕ, List, ◌++◌}
-use Rattle.plan_values.specs.declared.certificate.Certificate.{Certificate}
-use Rattle.plan_values.specs.declared.plan.Plan.{Plan}
-use Rattle.net_rules.specs.declared.certify_error.CertifyError.{CertifyError}
-use Rattle.net_rules.specs.declared.certify_error.CertifyError.TheVariants as error
-use Rattle.net_rules.specs.declared.fault.Fault.{Fault}
-use Rattle.net_rules.specs.declared.mixed_loop.Side.TheVariants.{Old, New}
-use Rattle.net_rules.specs.declared.move_error.MoveError.{MoveError}
-use Rattle.net_rules.specs.declared.move_error.MoveError.TheVariants as move_error
-use Rattle.net_rules.specs.declared.move_fault.MoveFault.{MoveFault}
-use Rattle.net_rules.specs.declared.move_fault.MoveRule.{MoveRule}
-use Rattle.net_rules.specs.declared.move_fault.MoveRule.TheVariants.{OfPlan, M02, M03}
-use Rattle.net_rules.specs.declared.move_obstacle.MoveObstacle.{MoveObstacle}
-use Rattle.net_rules.specs.declared.move_obstacle.MoveObstacle.TheVariants as obstacle
-use Rattle.net_rules.specs.MoveObstacles.{IsExactForMove}
-use Rattle.net_rules.specs.MoveRules.{AcceptsMove}
-use Rattle.command_answers.specs.declared.status.Status.{Status}
-use Rattle.command_answers.specs.declared.status.Status.TheVariants as status
-use Rattle.command_answers.specs.Answers.{Stream, GavePlanText}
+use Rattle.plan_values.{specs.declared.certificate.Certificate.{Certificate}, specs.declared.plan.Plan.{Plan}}
+use Rattle.net_rules.{specs.declared.certify_error.CertifyError.{CertifyError}, specs.declared.fault.Fault.{Fault}, specs.declared.mixed_loop.Side.TheVariants.{Old, New}, specs.declared.move_error.MoveError.{MoveError}, specs.declared.move_fault.MoveFault.{MoveFault}, specs.declared.move_fault.MoveRule.{MoveRule}, specs.declared.move_fault.MoveRule.TheVariants.{OfPlan, M02, M03}, specs.declared.move_obstacle.MoveObstacle.{MoveObstacle}, specs.MoveObstacles.{IsExactForMove}, specs.MoveRules.{AcceptsMove}}
+use Rattle.command_answers.{specs.declared.status.Status.{Status}, specs.Answers.{Stream, GavePlanText}, specs.UnreadTexts.{IsUnreadText}}
 use Rattle.fault_texts.specs.RuledOutMoves.{IsMoveRuledOutBy}
-use Rattle.explain_commands.specs.Explaining.{IsExplainedThere, IsSummedUp}
-use Rattle.explain_commands.specs.MoveRows.{PlanFile, IsMixedLoopTold, IsWayOnTold}
-use Rattle.command_answers.specs.UnreadTexts.{IsUnreadText}
+use Rattle.explain_commands.{specs.Explaining.{IsExplainedThere, IsSummedUp}, specs.MoveRows.{PlanFile, IsMixedLoopTold, IsWayOnTold}}
+use Rattle.net_rules.specs.declared.certify_error.CertifyError.TheVariants as error
+use Rattle.net_rules.specs.declared.move_error.MoveError.TheVariants as move_error
+use Rattle.net_rules.specs.declared.move_obstacle.MoveObstacle.TheVariants as obstacle
+use Rattle.command_answers.specs.declared.status.Status.TheVariants as status
 
 -- ---- what rules certificates out
 

@@ -1,19 +1,12 @@
 -- What `fix` prints of a plan, and what it tells on standard error.
-use Rattle.std.specs.Prelude.{◌≡◌, ◌⊎◌, ℕ, List}
-use Rattle.std.specs.Io.KnownBytes.{Appends}
+use Rattle.std.{specs.Prelude.{◌≡◌, ◌⊎◌, ℕ, List}, specs.Io.KnownBytes.{Appends}}
 use Rattle.net_plan.specs.Stream.{AppendsBeginning}
-use Rattle.plan_values.specs.declared.certificate.Certificate.{Certificate}
-use Rattle.plan_values.specs.declared.plan.Plan.{Plan}
-use Rattle.net_rules.specs.Rules.{Accepts}
-use Rattle.net_rules.specs.declared.certify_error.CertifyError.{CertifyError}
-use Rattle.command_answers.specs.declared.refused.Refused.TheVariants as refused
-use Rattle.command_answers.specs.declared.status.Status.{Status}
-use Rattle.command_answers.specs.declared.status.Status.TheVariants as status
-use Rattle.command_answers.specs.Answers.{Stream, Fails, BreaksOff, GavePlanText, IsReported}
-use Rattle.command_answers.specs.Certifying.{IsRuledOutBy}
-use Rattle.command_answers.specs.UnreadInputs.{IsTextOf}
-use Rattle.command_answers.specs.UnreadTexts.{IsUnreadText}
+use Rattle.plan_values.{specs.declared.certificate.Certificate.{Certificate}, specs.declared.plan.Plan.{Plan}}
+use Rattle.net_rules.{specs.Rules.{Accepts}, specs.declared.certify_error.CertifyError.{CertifyError}}
+use Rattle.command_answers.{specs.declared.status.Status.{Status}, specs.Answers.{Stream, Fails, BreaksOff, GavePlanText, IsReported}, specs.Certifying.{IsRuledOutBy}, specs.UnreadInputs.{IsTextOf}, specs.UnreadTexts.{IsUnreadText}}
 use Rattle.plan_fixes.specs.Fixes.{AreFixes}
+use Rattle.command_answers.specs.declared.refused.Refused.TheVariants as refused
+use Rattle.command_answers.specs.declared.status.Status.TheVariants as status
 
 -- The text is that of a plan to which a certificate fits. The lines tell the edits that lead there.
 pub record IsFixedText (text : List ℕ) (plan : Plan) (fixed lines : List ℕ) : Type 0 where

@@ -1,10 +1,7 @@
 -- Which rows are told of those by which packets go while nodes move from one plan to another.
 use Rattle.std.specs.Prelude.{◌≡◌, ℕ, ◌+◌, List, [], ◌++◌, length, slice_get, Option, Some}
 use Rattle.plan_values.specs.declared.plan.Plan.{Plan}
-use Rattle.net_rules.specs.declared.mixed_loop.MixedLoop.{MixedLoop}
-use Rattle.net_rules.specs.declared.mixed_loop.Side.{Side}
-use Rattle.net_rules.specs.declared.mixed_loop.Side.TheVariants.{Old, New}
-use Rattle.net_rules.specs.declared.move_fault.MoveFault.{MoveFault}
+use Rattle.net_rules.{specs.declared.mixed_loop.MixedLoop.{MixedLoop}, specs.declared.mixed_loop.Side.{Side}, specs.declared.mixed_loop.Side.TheVariants.{Old, New}, specs.declared.move_fault.MoveFault.{MoveFault}}
 use Rattle.command_answers.specs.declared.inputs.PlanText.{PlanText}
 use Rattle.explanation_texts.specs.Explanations.{row_for}
 use Rattle.fault_texts.specs.Places.{IsPlaceTold, way_pointer}

@@ -1,14 +1,10 @@
 //! The command `explain`: what `certify` answers of a plan, and why.
-ghost use Rattle.std.specs.Prelude.{◌≡◌, ◌≢◌, IfOk, IfErr, option_map, string_bytes};
-ghost use Rattle.std.specs.Cow.{cow_str_bytes};
+ghost use Rattle.std.{specs.Prelude.{◌≡◌, ◌≢◌, IfOk, IfErr, option_map, string_bytes}, specs.Cow.{cow_str_bytes}};
 ghost use Rattle.net_rules.specs.Certificates.{NamesObstacle, RulesOutCertificates};
 ghost use Rattle.net_plan.specs.Stream.{HasRoom};
-ghost use Rattle.command_answers.specs.declared.status.Status.TheVariants.{NoMemory};
-ghost use Rattle.command_answers.specs.declared.refused.Refused.TheVariants as refused;
-ghost use Rattle.command_answers.specs.Answers.{stream};
+ghost use Rattle.command_answers.{specs.declared.status.Status.TheVariants.{NoMemory}, specs.Answers.{stream}, specs.Told.{ConcludesOnOutput}, specs.UnreadInputs.{IsTextOf}};
 ghost use Rattle.explain_commands.specs.Explaining.{AreEditsTold, AreMoreTold, IsExplainedThere, IsObstacleText, IsToldWithEdits, IsSummedUp, IsExplained, ExplainsSo};
-ghost use Rattle.command_answers.specs.Told.{ConcludesOnOutput};
-ghost use Rattle.command_answers.specs.UnreadInputs.{IsTextOf};
+ghost use Rattle.command_answers.specs.declared.refused.Refused.TheVariants as refused;
 
 pub mod certified;
 pub mod events;

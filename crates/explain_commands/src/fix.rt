@@ -1,13 +1,10 @@
 //! The command `fix`: a plan's text with edits made, until a certificate fits the plan.
-ghost use Rattle.std.specs.Prelude.{◌≡◌, IfOk, IfErr, IsUtf8, string_bytes};
-ghost use Rattle.std.specs.Cow.{cow_str_bytes};
+ghost use Rattle.std.{specs.Prelude.{◌≡◌, IfOk, IfErr, IsUtf8, string_bytes}, specs.Cow.{cow_str_bytes}};
 ghost use Rattle.net_plan.specs.Stream.{HasRoom};
-ghost use Rattle.command_answers.specs.declared.refused.Refused.TheVariants as refused;
-ghost use Rattle.command_answers.specs.declared.status.Status.TheVariants.{NoMemory};
-ghost use Rattle.command_answers.specs.Answers.{stream};
+ghost use Rattle.command_answers.{specs.declared.status.Status.TheVariants.{NoMemory}, specs.Answers.{stream}, specs.UnreadInputs.{IsTextOf}};
 ghost use Rattle.explain_commands.specs.Fixing.{AreBothTold, AreLinesTold, EndsFixed, EndsIn, FixesSo, IsMended};
 ghost use Rattle.plan_fixes.specs.Fixes.{IsLeftOf};
-ghost use Rattle.command_answers.specs.UnreadInputs.{IsTextOf};
+ghost use Rattle.command_answers.specs.declared.refused.Refused.TheVariants as refused;
 
 use command_answers::{
     Answer, Input, PlanText, Refused, Status, plan_or_text, refuse, tell, unread_answer,

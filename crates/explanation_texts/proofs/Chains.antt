@@ -1,9 +1,6 @@
 -- Where records of a bad chain have handles of their own.
 use Rattle.std.proofs.Common.{ℕ, Some, None, arith}
-use Rattle.net_rules.specs.declared.rule.Rule.TheVariants.{C12, C14}
-use Rattle.net_rules.specs.Certificates.{CanBeMetBefore}
-use Rattle.net_rules.specs.Faults.{order_of}
-use Rattle.net_rules.specs.RecordChains.{HaveNewHandles}
+use Rattle.net_rules.{specs.declared.rule.Rule.TheVariants.{C12, C14}, specs.Certificates.{CanBeMetBefore}, specs.Faults.{order_of}, specs.RecordChains.{HaveNewHandles}}
 use Rattle.net_tables.specs.Repositories.{records_of}
 use Rattle.plan_values.specs.declared.plan.Plan.{Plan}
 

@@ -1,22 +1,13 @@
 -- What is named where a cause is told, in the order of its sentences.
 use Rattle.std.specs.Prelude.{ℕ, ◌==◌, List, [], ◌∷◌, if◌then◌else◌, Option, Some, None}
 use Rattle.net_rules.specs.declared.fault.Fault.{Fault}
-use Rattle.net_tables.specs.Routing.{eid_number}
-use Rattle.net_tables.specs.Ownership.{owner_of}
+use Rattle.net_tables.{specs.Routing.{eid_number}, specs.Ownership.{owner_of}}
 use Rattle.net_explained.specs.declared.cause.Cause.{Cause}
-use Rattle.net_explained.specs.declared.cause.Cause.TheVariants as cause
 use Rattle.plan_values.specs.declared.plan.Plan.{Plan}
-use Rattle.pdr_record.specs.declared.record_error.RecordError.{RecordError}
-use Rattle.pdr_record.specs.declared.record_error.RecordError.TheVariants.{Short, Length}
-use Rattle.explanation_texts.specs.Pieces.{entry_at}
-use Rattle.explanation_texts.specs.declared.pieces.Entry.{Entry}
-use Rattle.explanation_texts.specs.declared.pieces.Piece.{Piece}
+use Rattle.pdr_record.{specs.declared.record_error.RecordError.{RecordError}, specs.declared.record_error.RecordError.TheVariants.{Short, Length}}
+use Rattle.explanation_texts.{specs.Pieces.{entry_at}, specs.declared.pieces.Entry.{Entry}, specs.declared.pieces.Piece.{Piece}, specs.declared.pieces.Piece.TheVariants.{Number, Given, Code, Name, OwnerName, BusName, PortCount, Tid, PoolSpan, PoolFirst, PoolSize, At, RowSpan, RowFirst, RowSize, RowPort, RowNext, Handle, BytesBehind, DataLength}}
+use Rattle.net_explained.specs.declared.cause.Cause.TheVariants as cause
 use Rattle.explanation_texts.specs.declared.pieces.Piece.TheVariants as piece
-use Rattle.explanation_texts.specs.declared.pieces.Piece.TheVariants.{Number, Given, Code, Name, OwnerName, BusName}
-use Rattle.explanation_texts.specs.declared.pieces.Piece.TheVariants.{PortCount, Tid, PoolSpan, PoolFirst, PoolSize, At}
-use Rattle.explanation_texts.specs.declared.pieces.Piece.TheVariants.{RowSpan, RowFirst, RowSize, RowPort, RowNext}
-use Rattle.explanation_texts.specs.declared.pieces.Piece.TheVariants.{Handle}
-use Rattle.explanation_texts.specs.declared.pieces.Piece.TheVariants.{BytesBehind, DataLength}
 
 -- the row or the record of a fault
 abbrev pub entry_of : Fault → Entry

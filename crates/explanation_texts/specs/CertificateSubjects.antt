@@ -1,19 +1,9 @@
 -- What is named of a certificate that breaks a rule.
 use Rattle.std.specs.Prelude.{ℕ, ◌==◌, List, [], ◌∷◌, length, if◌then◌else◌, Option, Some, None, option_map}
-use Rattle.net_rules.specs.declared.fault.Fault.{Fault}
-use Rattle.net_rules.specs.declared.rule.Rule.{Rule}
-use Rattle.net_rules.specs.declared.rule.Rule.TheVariants.{C07, C10, C14, C16}
-use Rattle.net_tables.specs.Routing.{eid_number}
-use Rattle.net_tables.specs.Ownership.{owner_of, given_level, level}
-use Rattle.net_tables.specs.Ranks.{rank}
-use Rattle.net_tables.specs.Repositories.{places_of, records_of}
-use Rattle.plan_values.specs.declared.certificate.Certificate.{Certificate}
-use Rattle.plan_values.specs.declared.plan.Plan.{Plan}
-use Rattle.explanation_texts.specs.CauseSubjects.{entry_of}
-use Rattle.explanation_texts.specs.Pieces.{row_of}
-use Rattle.explanation_texts.specs.declared.pieces.Entry.{Entry}
-use Rattle.explanation_texts.specs.declared.pieces.Piece.{Piece}
-use Rattle.explanation_texts.specs.declared.pieces.Piece.TheVariants.{Number, Given, Name, OwnerName, At, RowNext}
+use Rattle.net_rules.{specs.declared.fault.Fault.{Fault}, specs.declared.rule.Rule.{Rule}, specs.declared.rule.Rule.TheVariants.{C07, C10, C14, C16}}
+use Rattle.net_tables.{specs.Routing.{eid_number}, specs.Ownership.{owner_of, given_level, level}, specs.Ranks.{rank}, specs.Repositories.{places_of, records_of}}
+use Rattle.plan_values.{specs.declared.certificate.Certificate.{Certificate}, specs.declared.plan.Plan.{Plan}}
+use Rattle.explanation_texts.{specs.CauseSubjects.{entry_of}, specs.Pieces.{row_of}, specs.declared.pieces.Entry.{Entry}, specs.declared.pieces.Piece.{Piece}, specs.declared.pieces.Piece.TheVariants.{Number, Given, Name, OwnerName, At, RowNext}}
 
 -- the level of a node's owner, if it has one
 abbrev pub owner_level : Plan → Certificate → ℕ → Option ℕ

@@ -1,20 +1,12 @@
 -- The lines of edits that were tried.
-use Rattle.std.specs.Prelude.{ℕ, List, [], ◌++◌, length, codes, Option, Some, None, unwrap_or}
-use Rattle.std.specs.Fmt.{decimal}
-use Rattle.std.specs.List.{flat_map}
+use Rattle.std.{specs.Prelude.{ℕ, List, [], ◌++◌, length, codes, Option, Some, None, unwrap_or}, specs.Fmt.{decimal}, specs.List.{flat_map}}
 use Rattle.hex.specs.Hex.{encode_lower}
-use Rattle.net_explained.specs.declared.edit.Change.{Change}
-use Rattle.net_explained.specs.declared.edit.Change.TheVariants as change
-use Rattle.net_explained.specs.declared.edit.Edit.{Edit}
-use Rattle.net_explained.specs.declared.trial.Tried.{Tried}
-use Rattle.plan_values.specs.NodeValues.{name_bytes}
-use Rattle.plan_values.specs.declared.nodes.Pool.{Pool}
-use Rattle.plan_values.specs.declared.nodes.Row.{Row}
-use Rattle.plan_values.specs.declared.plan.Plan.{Plan}
+use Rattle.net_explained.{specs.declared.edit.Change.{Change}, specs.declared.edit.Edit.{Edit}, specs.declared.trial.Tried.{Tried}}
+use Rattle.plan_values.{specs.NodeValues.{name_bytes}, specs.declared.nodes.Pool.{Pool}, specs.declared.nodes.Row.{Row}, specs.declared.plan.Plan.{Plan}}
 use Rattle.net_rules.specs.declared.certify_error.CertifyError.{CertifyError}
-use Rattle.net_tables.specs.Names.{kind_word, node_name}
-use Rattle.net_tables.specs.Routing.{rows_of}
+use Rattle.net_tables.{specs.Names.{kind_word, node_name}, specs.Routing.{rows_of}}
 use Rattle.plan_texts.specs.Lines.{obstacle_text}
+use Rattle.net_explained.specs.declared.edit.Change.TheVariants as change
 
 -- ---- values, as the text of a plan has them
 

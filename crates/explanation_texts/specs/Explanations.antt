@@ -1,28 +1,11 @@
 -- What is named where a fault, a loop or a bad chain is explained.
-use Rattle.std.specs.Prelude.{◌≡◌, ℕ, ◌+◌, ◌-◌, ◌&&◌, ◌==◌, nat_le, nat_lt, Bool, length, take}
-use Rattle.std.specs.Prelude.{List, [], ◌∷◌, Option, Some, None, option_and_then, option_map, position}
-use Rattle.std.specs.List.{flat_map}
-use Rattle.net_rules.specs.Faults.{site_of}
-use Rattle.net_rules.specs.Circles.{IsLoopFrom}
-use Rattle.net_rules.specs.RecordChains.{IsFollowedBy}
-use Rattle.net_tables.specs.Repositories.{records_of}
-use Rattle.net_tables.specs.Routing.{rows_of}
-use Rattle.net_rules.specs.declared.certify_error.CertifyError.{CertifyError}
+use Rattle.std.{specs.Prelude.{◌≡◌, ℕ, ◌+◌, ◌-◌, ◌&&◌, ◌==◌, nat_le, nat_lt, Bool, length, take, List, [], ◌∷◌, Option, Some, None, option_and_then, option_map, position}, specs.List.{flat_map}}
+use Rattle.net_rules.{specs.Faults.{site_of}, specs.Circles.{IsLoopFrom}, specs.RecordChains.{IsFollowedBy}, specs.declared.certify_error.CertifyError.{CertifyError}, specs.declared.certifying.chains.ChainFault.{ChainFault}, specs.declared.certifying.chains.ChainFault.TheVariants.{Missing, Doubled, Circle}, specs.declared.fault.Fault.{Fault}}
+use Rattle.net_tables.{specs.Repositories.{records_of}, specs.Routing.{rows_of}}
+use Rattle.net_explained.{specs.declared.cause.Cause.{Cause}, specs.Causes.{IsCauseAt}}
+use Rattle.plan_values.{specs.declared.nodes.Row.{Row}, specs.declared.plan.Plan.{Plan}}
+use Rattle.explanation_texts.{specs.CauseSubjects.{cause_subjects}, specs.Pieces.{Tells, entry_at, record_of}, specs.declared.pieces.Entry.{Entry}, specs.declared.pieces.Piece.{Piece}, specs.declared.pieces.Piece.TheVariants.{Given, Name, OwnerName, At, RowPort, RowBus, RowAddress, RowNext, Handle, NextHandle}}
 use Rattle.net_rules.specs.declared.certify_error.CertifyError.TheVariants as error
-use Rattle.net_rules.specs.declared.certifying.chains.ChainFault.{ChainFault}
-use Rattle.net_rules.specs.declared.certifying.chains.ChainFault.TheVariants.{Missing, Doubled, Circle}
-use Rattle.net_rules.specs.declared.fault.Fault.{Fault}
-use Rattle.net_explained.specs.declared.cause.Cause.{Cause}
-use Rattle.net_explained.specs.Causes.{IsCauseAt}
-use Rattle.plan_values.specs.declared.nodes.Row.{Row}
-use Rattle.plan_values.specs.declared.plan.Plan.{Plan}
-use Rattle.explanation_texts.specs.CauseSubjects.{cause_subjects}
-use Rattle.explanation_texts.specs.Pieces.{Tells, entry_at, record_of}
-use Rattle.explanation_texts.specs.declared.pieces.Entry.{Entry}
-use Rattle.explanation_texts.specs.declared.pieces.Piece.{Piece}
-use Rattle.explanation_texts.specs.declared.pieces.Piece.TheVariants.{Given, Name, OwnerName, At}
-use Rattle.explanation_texts.specs.declared.pieces.Piece.TheVariants.{RowPort, RowBus, RowAddress, RowNext, Handle}
-use Rattle.explanation_texts.specs.declared.pieces.Piece.TheVariants.{NextHandle}
 
 -- ---- faults
 

@@ -1,22 +1,10 @@
 -- What a message tells: the pieces that it is made of, and what they name of a plan.
-use Rattle.std.specs.Prelude.{◌≡◌, ℕ, ◌+◌, ◌-◌, ◌*◌, ◌==◌, List, [], ◌∷◌, ◌++◌, codes, length, if◌then◌else◌}
-use Rattle.std.specs.Prelude.{Option, Some, None, option_map, option_and_then, slice_get}
-use Rattle.std.specs.Fmt.{decimal}
-use Rattle.std.specs.List.{flat_map}
-use Rattle.net_tables.specs.Ownership.{owner_of, pool_of}
-use Rattle.net_tables.specs.Repositories.{records_of, terminus_of}
-use Rattle.net_tables.specs.Routing.{ports_of, rows_of}
-use Rattle.net_tables.specs.Rows.{bus_of}
-use Rattle.plan_values.specs.declared.nodes.Pool.{Pool}
-use Rattle.plan_values.specs.declared.nodes.Row.{Row}
-use Rattle.plan_values.specs.declared.plan.Plan.{Plan}
-use Rattle.plan_values.specs.declared.terminus.PlannedRecord.{PlannedRecord}
+use Rattle.std.{specs.Prelude.{◌≡◌, ℕ, ◌+◌, ◌-◌, ◌*◌, ◌==◌, List, [], ◌∷◌, ◌++◌, codes, length, if◌then◌else◌, Option, Some, None, option_map, option_and_then, slice_get}, specs.Fmt.{decimal}, specs.List.{flat_map}}
+use Rattle.net_tables.{specs.Ownership.{owner_of, pool_of}, specs.Repositories.{records_of, terminus_of}, specs.Routing.{ports_of, rows_of}, specs.Rows.{bus_of}, specs.Names.{address_on, node_name}}
+use Rattle.plan_values.{specs.declared.nodes.Pool.{Pool}, specs.declared.nodes.Row.{Row}, specs.declared.plan.Plan.{Plan}, specs.declared.terminus.PlannedRecord.{PlannedRecord}}
 use Rattle.pdr_record.specs.Codes.{code_of}
-use Rattle.net_tables.specs.Names.{address_on, node_name}
-use Rattle.plan_texts.specs.Lines.{number_or_dash}
-use Rattle.plan_texts.specs.LineParts.{address_text, bus_text, name_or_none, span_text}
-use Rattle.explanation_texts.specs.declared.pieces.Entry.{Entry}
-use Rattle.explanation_texts.specs.declared.pieces.Piece.{Piece}
+use Rattle.plan_texts.{specs.Lines.{number_or_dash}, specs.LineParts.{address_text, bus_text, name_or_none, span_text}}
+use Rattle.explanation_texts.{specs.declared.pieces.Entry.{Entry}, specs.declared.pieces.Piece.{Piece}}
 use Rattle.explanation_texts.specs.declared.pieces.Piece.TheVariants as piece
 
 -- a row or a record of a node

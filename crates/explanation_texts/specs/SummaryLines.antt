@@ -1,10 +1,7 @@
 -- The lines that sum up a plan that a certificate fits.
-use Rattle.std.specs.Prelude.{ℕ, List, ◌++◌, length, sum_by, codes, Option, Some, None}
-use Rattle.std.specs.Fmt.{decimal}
+use Rattle.std.{specs.Prelude.{ℕ, List, ◌++◌, length, sum_by, codes, Option, Some, None}, specs.Fmt.{decimal}}
 use Rattle.net_explained.specs.declared.hops.MostHops.{MostHops}
-use Rattle.plan_values.specs.declared.nodes.Node.{Node}
-use Rattle.plan_values.specs.declared.plan.Plan.{Plan}
-use Rattle.plan_values.specs.declared.terminus.PlannedTerminus.{PlannedTerminus}
+use Rattle.plan_values.{specs.declared.nodes.Node.{Node}, specs.declared.plan.Plan.{Plan}, specs.declared.terminus.PlannedTerminus.{PlannedTerminus}}
 use Rattle.net_tables.specs.Names.{node_name}
 
 -- how many records a terminus has, 0 without one

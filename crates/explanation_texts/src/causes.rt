@@ -1,10 +1,7 @@
 //! What is told of the cause of a fault of a plan.
 ghost use Rattle.std.specs.Prelude.{◌≡◌, ◌++◌, ◌∷◌, [], IfOk};
 ghost use Rattle.net_tables.specs.Routing.{eid_number};
-ghost use Rattle.explanation_texts.specs.CauseSubjects.{cause_subjects, entry_of, led_subjects, overlap_subjects};
-ghost use Rattle.explanation_texts.specs.CauseSubjects.{peer_subjects, why_subjects};
-ghost use Rattle.explanation_texts.specs.Pieces.{subjects};
-ghost use Rattle.explanation_texts.specs.declared.pieces.Piece.TheVariants.{At, Code, Number};
+ghost use Rattle.explanation_texts.{specs.CauseSubjects.{cause_subjects, entry_of, led_subjects, overlap_subjects, peer_subjects, why_subjects}, specs.Pieces.{subjects}, specs.declared.pieces.Piece.TheVariants.{At, Code, Number}};
 
 use crate::pieces::Piece::{
     At, BusName, BytesBehind, Code, DataLength, Given, Handle, Length, Name, Number, OwnerName,

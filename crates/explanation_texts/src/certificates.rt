@@ -1,10 +1,7 @@
 //! What the command `explain` tells of a certificate that breaks a rule.
 ghost use Rattle.std.specs.Prelude.{◌≡◌, IfOk, option_map, string_bytes};
-ghost use Rattle.net_tables.specs.Routing.{eid_number};
-ghost use Rattle.net_tables.specs.Ownership.{owner_of};
-ghost use Rattle.explanation_texts.specs.CertificateSubjects.{certificate_subjects, next_of, owner_level, rank_at, rank_subjects};
-ghost use Rattle.explanation_texts.specs.CertificateSubjects.{unowned_subjects, useless_subjects};
-ghost use Rattle.explanation_texts.specs.Pieces.{Tells, subjects};
+ghost use Rattle.net_tables.{specs.Routing.{eid_number}, specs.Ownership.{owner_of}};
+ghost use Rattle.explanation_texts.{specs.CertificateSubjects.{certificate_subjects, next_of, owner_level, rank_at, rank_subjects, unowned_subjects, useless_subjects}, specs.Pieces.{Tells, subjects}};
 
 use crate::causes::{eid_of_fault, entry_of};
 use crate::lookups::row_of;

@@ -1,16 +1,8 @@
 //! What the command `explain` prints below its first line.
-ghost use Rattle.std.specs.Prelude.{◌≡◌, ◌==◌, IfOk, Some, position, string_bytes};
-ghost use Rattle.std.specs.List.{flat_map};
-ghost use Rattle.net_rules.specs.Certificates.{NamesObstacle};
-ghost use Rattle.net_rules.specs.Circles.{IsOnCircle};
-ghost use Rattle.net_rules.specs.RecordChains.{HaveNewHandles, IsBadChain, IsFollowedBy};
-ghost use Rattle.net_tables.specs.Repositories.{records_of};
-ghost use Rattle.net_tables.specs.Routing.{rows_of};
-ghost use Rattle.explanation_texts.specs.Explanations.{IsNamedOf, IsNamedOfChain, IsNamedOfCircle, IsNamedOfFault};
-ghost use Rattle.explanation_texts.specs.Explanations.{IsObstacleTold, around, covers_eid, doubled_subjects};
-ghost use Rattle.explanation_texts.specs.Explanations.{missing_subjects, next_handle, owner_subjects, record_before, record_subjects};
-ghost use Rattle.explanation_texts.specs.Explanations.{row_for, told_subjects, way_subjects};
-ghost use Rattle.explanation_texts.specs.Pieces.{Tells, entry_at, subjects};
+ghost use Rattle.std.{specs.Prelude.{◌≡◌, ◌==◌, IfOk, Some, position, string_bytes}, specs.List.{flat_map}};
+ghost use Rattle.net_rules.{specs.Certificates.{NamesObstacle}, specs.Circles.{IsOnCircle}, specs.RecordChains.{HaveNewHandles, IsBadChain, IsFollowedBy}};
+ghost use Rattle.net_tables.{specs.Repositories.{records_of}, specs.Routing.{rows_of}};
+ghost use Rattle.explanation_texts.{specs.Explanations.{IsNamedOf, IsNamedOfChain, IsNamedOfCircle, IsNamedOfFault, IsObstacleTold, around, covers_eid, doubled_subjects, missing_subjects, next_handle, owner_subjects, record_before, record_subjects, row_for, told_subjects, way_subjects}, specs.Pieces.{Tells, entry_at, subjects}};
 
 use crate::causes::cause_pieces;
 use crate::lookups::record_of;

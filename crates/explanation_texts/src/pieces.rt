@@ -1,8 +1,7 @@
 //! What a message is made of: words of the program, and what it names of a plan. What it names is a place in the plan,
 //! which is looked up when the message is rendered.
 ghost use Rattle.std.specs.Prelude.{◌≡◌, ◌++◌, IfOk, string_bytes};
-ghost use Rattle.explanation_texts.specs.Pieces.{entry_at, piece_text, rendered, subjects, Tells};
-ghost use Rattle.explanation_texts.specs.declared.pieces.Piece.TheVariants.{Number};
+ghost use Rattle.explanation_texts.{specs.Pieces.{entry_at, piece_text, rendered, subjects, Tells}, specs.declared.pieces.Piece.TheVariants.{Number}};
 
 use crate::lookups::{
     address_to, at_text, bus_of_row, data_length_of, handle_of, owner_name, pool_span, ports_text,

@@ -1,6 +1,5 @@
 //! The edits that `explain` proposes, with what is so once they are made.
-ghost use Rattle.std.specs.Prelude.{◌≡◌, IfOk, string_bytes};
-ghost use Rattle.std.specs.List.{flat_map};
+ghost use Rattle.std.{specs.Prelude.{◌≡◌, IfOk, string_bytes}, specs.List.{flat_map}};
 ghost use Rattle.explanation_texts.specs.EditLines.{edit_text, edits_text, left_text, owner_value, place_text, pool_value, quoted, row_value, tried_text, value_text, verb_of, word_of};
 
 use net_explained::{Change, Edit, Tried};

@@ -1,18 +1,13 @@
 -- What answers on a plan and a certificate.
-use Rattle.std.proofs.Common.{◌≡◌, ℕ, List, Result, Ok, Err, sym, subst}
-use Rattle.std.specs.Prelude.{IfOk, IfErr}
-use Rattle.net_check.specs.declared.check_error.CheckError.{CheckError}
-use Rattle.net_check.specs.declared.check_error.CheckError.TheVariants as check_error
-use Rattle.net_check.specs.Errors.{NamesFirstFault}
-use Rattle.plan_values.specs.declared.certificate.Certificate.{Certificate}
-use Rattle.plan_values.specs.declared.plan.Plan.{Plan}
-use Rattle.command_answers.specs.Answers.{IsErrorText, IsFaultText}
-use Rattle.command_answers.specs.declared.refused.Refused.{Refused}
-use Rattle.command_answers.specs.declared.refused.Refused.TheVariants as refused
+use Rattle.std.{proofs.Common.{◌≡◌, ℕ, List, Result, Ok, Err, sym, subst}, specs.Prelude.{IfOk, IfErr}}
+use Rattle.net_check.{specs.declared.check_error.CheckError.{CheckError}, specs.Errors.{NamesFirstFault}}
+use Rattle.plan_values.{specs.declared.certificate.Certificate.{Certificate}, specs.declared.plan.Plan.{Plan}}
+use Rattle.command_answers.{specs.Answers.{IsErrorText, IsFaultText}, specs.declared.refused.Refused.{Refused}, specs.declared.bytes_answer.BytesAnswer.{BytesAnswer}}
 use Rattle.command_questions.specs.declared.exports.Export.{Export}
-use Rattle.command_answers.specs.declared.bytes_answer.BytesAnswer.{BytesAnswer}
 use Rattle.export_commands.specs.Exporting.{AnswersAt, AnswersExportOn, IsSubject, IsUnexportedOn}
 use Rattle.plan_exports.specs.declared.links.Link.{Link}
+use Rattle.net_check.specs.declared.check_error.CheckError.TheVariants as check_error
+use Rattle.command_answers.specs.declared.refused.Refused.TheVariants as refused
 
 -- the text of an error of `check` is that of the first fault
 pub first_told : (plan : Plan) (cert : Certificate) (error : CheckError) (text : List ℕ) → NamesFirstFault plan cert error → IsErrorText plan error text → IsFaultText plan cert text

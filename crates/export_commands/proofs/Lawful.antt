@@ -1,12 +1,9 @@
 -- What the rules of an accepted plan say of the rows and the endpoint ID of a node.
 use Rattle.std.proofs.Common.{◌≡◌, ℕ, Some, None}
 use Rattle.mctp_transport.specs.PacketValues.{IsAssignable}
-use Rattle.plan_values.specs.declared.certificate.Certificate.{Certificate}
-use Rattle.plan_values.specs.declared.plan.Plan.{Plan}
-use Rattle.net_rules.specs.declared.rule.Rule.TheVariants.{C02, C04, C05, C06}
-use Rattle.net_rules.specs.Rules.{Accepts}
-use Rattle.net_tables.specs.Routing.{eid_of, rows_of}
-use Rattle.net_tables.specs.Tables.{AreRows}
+use Rattle.plan_values.{specs.declared.certificate.Certificate.{Certificate}, specs.declared.plan.Plan.{Plan}}
+use Rattle.net_rules.{specs.declared.rule.Rule.TheVariants.{C02, C04, C05, C06}, specs.Rules.{Accepts}}
+use Rattle.net_tables.{specs.Routing.{eid_of, rows_of}, specs.Tables.{AreRows}}
 use Rattle.plan_exports.specs.PlannedTables.{HasLawfulRows}
 
 -- by C04 and C05 the rows make a routing table

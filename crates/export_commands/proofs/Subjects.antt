@@ -1,6 +1,5 @@
 -- The node that an export names.
-use Rattle.std.proofs.Common.{◌≡◌, ◌≢◌, ◌<◌, ℕ, List, Some, subst, arith}
-use Rattle.std.specs.Prelude.{All}
+use Rattle.std.{proofs.Common.{◌≡◌, ◌≢◌, ◌<◌, ℕ, List, Some, subst, arith}, specs.Prelude.{All}}
 use Rattle.plan_values.specs.declared.plan.Plan.{Plan}
 use Rattle.net_rules.specs.Names.{name_of}
 use Rattle.command_answers.specs.Naming.{IsFirstNamed}

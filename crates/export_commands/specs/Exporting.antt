@@ -1,25 +1,13 @@
 -- What answers `export`.
 use Rattle.std.specs.Prelude.{◌≡◌, ◌≢◌, ◌⊎◌, ℕ, List, All, Option, Some, None, option_map, ⊤}
-use Rattle.command_answers.specs.Answers.{Stream, AreGiven, AreUnread, IsFaultText}
-use Rattle.command_answers.specs.Naming.{IsFirstNamed}
-use Rattle.command_answers.specs.Statuses.{HasCause}
-use Rattle.command_answers.specs.declared.refused.Refused.{Refused}
-use Rattle.command_answers.specs.declared.status.Status.{Status}
-use Rattle.command_answers.specs.declared.status.Status.TheVariants as status
-use Rattle.command_questions.specs.declared.exports.Export.{Export}
-use Rattle.command_questions.specs.declared.exports.ExportKind.{ExportKind}
-use Rattle.command_questions.specs.declared.exports.ExportKind.TheVariants as kind
-use Rattle.plan_values.specs.declared.certificate.Certificate.{Certificate}
-use Rattle.plan_values.specs.declared.plan.Plan.{Plan}
+use Rattle.command_answers.{specs.Answers.{Stream, AreGiven, AreUnread, IsFaultText}, specs.Naming.{IsFirstNamed}, specs.Statuses.{HasCause}, specs.declared.refused.Refused.{Refused}, specs.declared.status.Status.{Status}}
+use Rattle.command_questions.{specs.declared.exports.Export.{Export}, specs.declared.exports.ExportKind.{ExportKind}}
+use Rattle.plan_values.{specs.declared.certificate.Certificate.{Certificate}, specs.declared.plan.Plan.{Plan}}
 use Rattle.net_rules.specs.Rules.{Accepts}
-use Rattle.net_tables.specs.Names.{name_of_bus}
-use Rattle.net_tables.specs.Repositories.{records_by_place, terminus_of}
-use Rattle.net_tables.specs.Routing.{IsBridge, eid_of}
-use Rattle.plan_exports.specs.CSources.{IsCSource, TerminusFacts}
-use Rattle.plan_exports.specs.LinuxScripts.{IsLinuxScript}
-use Rattle.plan_exports.specs.Repositories.{joined_bytes}
-use Rattle.plan_exports.specs.TableAnswers.{AreEntryLines}
-use Rattle.plan_exports.specs.declared.links.Link.{Link}
+use Rattle.net_tables.{specs.Names.{name_of_bus}, specs.Repositories.{records_by_place, terminus_of}, specs.Routing.{IsBridge, eid_of}}
+use Rattle.plan_exports.{specs.CSources.{IsCSource, TerminusFacts}, specs.LinuxScripts.{IsLinuxScript}, specs.Repositories.{joined_bytes}, specs.TableAnswers.{AreEntryLines}, specs.declared.links.Link.{Link}}
+use Rattle.command_answers.specs.declared.status.Status.TheVariants as status
+use Rattle.command_questions.specs.declared.exports.ExportKind.TheVariants as kind
 
 -- the terminus of n, with its records by place
 abbrev pub terminus_at : Plan → Certificate → ℕ → Option TerminusFacts

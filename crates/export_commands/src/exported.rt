@@ -1,12 +1,8 @@
 //! What a node of a checked plan is in each form.
 ghost use Rattle.std.specs.Prelude.{◌≡◌, ◌↔◌, ℕ, Some, IfOk, IsTrue, All, string_bytes};
 ghost use Rattle.export_commands.specs.Exporting.{HasBus, HasForm, IsExported, terminus_at};
-ghost use Rattle.net_tables.specs.Repositories.{records_by_place};
-ghost use Rattle.net_tables.specs.Routing.{IsBridge, eid_of};
-ghost use Rattle.plan_exports.specs.CSources.{IsCSource};
-ghost use Rattle.plan_exports.specs.LinuxScripts.{IsLinuxScript};
-ghost use Rattle.plan_exports.specs.Repositories.{joined_bytes};
-ghost use Rattle.plan_exports.specs.TableAnswers.{AreEntryLines};
+ghost use Rattle.net_tables.{specs.Repositories.{records_by_place}, specs.Routing.{IsBridge, eid_of}};
+ghost use Rattle.plan_exports.{specs.CSources.{IsCSource}, specs.LinuxScripts.{IsLinuxScript}, specs.Repositories.{joined_bytes}, specs.TableAnswers.{AreEntryLines}};
 
 use command_answers::records_by_place;
 use command_questions::ExportKind;

@@ -1,10 +1,9 @@
 //! The command `export` over the files that it reads and the streams that it writes.
 ghost use Rattle.std.specs.Prelude.{◌≡◌, ◌↔◌, IfOk, IfErr, IsTrue, MatchOption};
-ghost use Rattle.command_answers.specs.Answers.{stream, IsWithoutPlan};
-ghost use Rattle.command_answers.specs.Told.{Concludes};
-ghost use Rattle.command_answers.specs.declared.refused.Refused.TheVariants as refused;
+ghost use Rattle.command_answers.{specs.Answers.{stream, IsWithoutPlan}, specs.Told.{Concludes}};
 ghost use Rattle.export_commands.specs.Exporting.{AnswersAt, AnswersExportOn, AnswersExportSo, HasForm, IsNamedIn, IsSubject, IsUnexportedOn, IsUnexportedFor};
 ghost use Rattle.net_plan.specs.Stream.{HasRoom};
+ghost use Rattle.command_answers.specs.declared.refused.Refused.TheVariants as refused;
 
 use crate::exported::{exported, knows_buses};
 use command_answers::{

@@ -2,8 +2,8 @@
 use Rattle.std.proofs.Common.{◌≡◌, ◌≢◌, ℕ, List, Some, subst}
 use Rattle.plan_values.specs.declared.plan.Plan.{Plan}
 use Rattle.net_rules.specs.declared.move_obstacle.MoveObstacle.{MoveObstacle}
-use Rattle.net_rules.specs.declared.move_obstacle.MoveObstacle.TheVariants as obstacle
 use Rattle.plan_texts.specs.MoveLines.{move_obstacle_text}
+use Rattle.net_rules.specs.declared.move_obstacle.MoveObstacle.TheVariants as obstacle
 
 -- want of memory has no text
 pub not_memory_of_move : (plan : Plan) (o : MoveObstacle) (text : List ℕ) → move_obstacle_text plan o ≡ Some text → o ≢ obstacle.OutOfMemory

@@ -1,12 +1,8 @@
 -- The lines of all faults, a line for each run.
-use Rattle.std.specs.Prelude.{◌≡◌, ℕ, List, [], ◌∷◌, ◌++◌, length, codes, Option, Some, None, nat_eq, if◌then◌else◌}
-use Rattle.std.specs.Fmt.{decimal}
+use Rattle.std.{specs.Prelude.{◌≡◌, ℕ, List, [], ◌∷◌, ◌++◌, length, codes, Option, Some, None, nat_eq, if◌then◌else◌}, specs.Fmt.{decimal}}
 use Rattle.net_plan.specs.Finding.{Step}
-use Rattle.net_rules.specs.declared.certify_error.CertifyError.{CertifyError}
-use Rattle.net_rules.specs.declared.fault_run.EidSpan.{EidSpan}
-use Rattle.net_rules.specs.declared.fault_run.FaultRun.{FaultRun}
+use Rattle.net_rules.{specs.declared.certify_error.CertifyError.{CertifyError}, specs.declared.fault_run.EidSpan.{EidSpan}, specs.declared.fault_run.FaultRun.{FaultRun}, specs.Rules.{code_of}}
 use Rattle.plan_values.specs.declared.plan.Plan.{Plan}
-use Rattle.net_rules.specs.Rules.{code_of}
 use Rattle.net_tables.specs.Names.{node_name}
 use Rattle.plan_texts.specs.Lines.{number_or_dash, obstacle_words}
 use Rattle.fault_texts.specs.Places.{IsAtTold, obstacle_pointer, site_pointer}

@@ -1,21 +1,13 @@
 -- Where in the text of a plan a fault stands.
-use Rattle.std.specs.Prelude.{◌≡◌, ℕ, ◌+◌, List, [], ◌∷◌, ◌++◌, take, count_by, codes, unwrap_or, slice_get}
-use Rattle.std.specs.Prelude.{Option, Some, None}
-use Rattle.std.specs.Fmt.{decimal}
+use Rattle.std.{specs.Prelude.{◌≡◌, ℕ, ◌+◌, List, [], ◌∷◌, ◌++◌, take, count_by, codes, unwrap_or, slice_get, Option, Some, None}, specs.Fmt.{decimal}}
 use Rattle.json.specs.Json.{Json}
-use Rattle.net_plan.specs.Finding.{Step, key, index}
-use Rattle.net_plan.specs.Texts.{IsTree}
-use Rattle.net_plan.specs.Trees.{data_of}
+use Rattle.net_plan.{specs.Finding.{Step, key, index}, specs.Texts.{IsTree}, specs.Trees.{data_of}}
 use Rattle.plan_values.specs.declared.plan.Plan.{Plan}
 use Rattle.net_pointers.specs.Positions.{is_line_feed, begins_character, last_line}
-use Rattle.net_rules.specs.declared.certify_error.CertifyError.{CertifyError}
-use Rattle.net_rules.specs.declared.certify_error.CertifyError.TheVariants as error
-use Rattle.net_rules.specs.declared.rule.Rule.{Rule}
-use Rattle.net_rules.specs.declared.rule.Rule.TheVariants.{C01, C02, C03, C04, C05, C06, C07, C08}
-use Rattle.net_rules.specs.declared.rule.Rule.TheVariants.{C09, C10, C11, C12, C13, C14, C15, C16}
+use Rattle.net_rules.{specs.declared.certify_error.CertifyError.{CertifyError}, specs.declared.rule.Rule.{Rule}, specs.declared.rule.Rule.TheVariants.{C01, C02, C03, C04, C05, C06, C07, C08, C09, C10, C11, C12, C13, C14, C15, C16}}
 use Rattle.explanation_texts.specs.Explanations.{row_for}
-use Rattle.reading_texts.specs.ReadingLines.{pointer_text}
-use Rattle.reading_texts.specs.TroubleLines.{IsOffsetOf}
+use Rattle.reading_texts.{specs.ReadingLines.{pointer_text}, specs.TroubleLines.{IsOffsetOf}}
+use Rattle.net_rules.specs.declared.certify_error.CertifyError.TheVariants as error
 
 -- ---- JSON pointers into the text of a plan
 

@@ -1,8 +1,7 @@
 -- The line of what rules certificates of a move out.
 use Rattle.std.specs.Prelude.{◌≡◌, ℕ, List, Some}
 use Rattle.plan_values.specs.declared.plan.Plan.{Plan}
-use Rattle.net_rules.specs.declared.move_obstacle.MoveObstacle.{MoveObstacle}
-use Rattle.net_rules.specs.MoveObstacles.{NamesMoveObstacle, HasNoMoveCertificate}
+use Rattle.net_rules.{specs.declared.move_obstacle.MoveObstacle.{MoveObstacle}, specs.MoveObstacles.{NamesMoveObstacle, HasNoMoveCertificate}}
 use Rattle.plan_texts.specs.MoveLines.{move_obstacle_text}
 
 -- The text tells what comes first, in the order in which moves are checked, of what rules certificates of the move out,

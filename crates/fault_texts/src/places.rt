@@ -1,8 +1,7 @@
 //! Where in the text of a plan a fault stands.
 ghost use Rattle.std.specs.Prelude.{◌≡◌, ◌≤◌, IfOk, IfSome, length, map, string_bytes};
 ghost use Rattle.json.specs.Value.{value_view};
-ghost use Rattle.net_plan.specs.Finding.{step_value};
-ghost use Rattle.net_plan.specs.Trees.{view};
+ghost use Rattle.net_plan.{specs.Finding.{step_value}, specs.Trees.{view}};
 ghost use Rattle.net_pointers.specs.Offsets.{IsTextOf};
 ghost use Rattle.fault_texts.specs.Places.{IsAtTold, IsPlaceTold, at_text, entry_pointer, first_of, node_pointer, obstacle_pointer, own_pointer, part_pointer, place_line, place_text, record_pointer, row_pointer, site_pointer, way_pointer};
 ghost use Rattle.reading_texts.specs.TroubleLines.{IsOffsetOf};

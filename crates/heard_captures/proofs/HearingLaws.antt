@@ -1,16 +1,8 @@
 -- What is heard of one entry more.
-use Rattle.std.proofs.Common.{◌≡◌, ℕ, ◌<◌, ◌+◌, List, [], ◌∷◌, ◌++◌, length, refl, ap, sym, ◌∙◌, get_or, map, take}
-use Rattle.std.specs.Prelude.{Result, Ok, Err, OnOk}
-use Rattle.std.proofs.lemmas.List.{append-nil, append_assoc}
-use Rattle.bus_captures.specs.Values.{EntryValue, entry_value}
-use Rattle.bus_captures.specs.declared.capture.Entry.{Entry}
+use Rattle.std.{proofs.Common.{◌≡◌, ℕ, ◌<◌, ◌+◌, List, [], ◌∷◌, ◌++◌, length, refl, ap, sym, ◌∙◌, get_or, map, take}, specs.Prelude.{Result, Ok, Err, OnOk}, proofs.lemmas.List.{append-nil, append_assoc}}
+use Rattle.bus_captures.{specs.Values.{EntryValue, entry_value}, specs.declared.capture.Entry.{Entry}}
 use Rattle.mctp_transport.specs.declared.assembler.Assembler.{Assembler}
-use Rattle.heard_captures.specs.Seen.{Seen}
-use Rattle.heard_captures.specs.Stations.{AreGiven}
-use Rattle.heard_captures.specs.Steps.{HaveSeen, Sees}
-use Rattle.heard_captures.specs.Messages.{MessageValue, message_value, messages_of, messages_in, HearsMore}
-use Rattle.heard_captures.specs.declared.messages.Message.{Message}
-use Rattle.heard_captures.proofs.SeenLaws.{nothing_seen, next_seen}
+use Rattle.heard_captures.{specs.Seen.{Seen}, specs.Stations.{AreGiven}, specs.Steps.{HaveSeen, Sees}, specs.Messages.{MessageValue, message_value, messages_of, messages_in, HearsMore}, specs.declared.messages.Message.{Message}, proofs.SeenLaws.{nothing_seen, next_seen}}
 
 -- the entries so far were seen, and these messages came whole of them
 pub record HaveHeard (unit : ℕ) (entries : List EntryValue) (assemblers : List Assembler) (messages : List MessageValue) : Type 0 where

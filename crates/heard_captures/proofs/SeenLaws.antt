@@ -1,21 +1,10 @@
 -- One entry more.
-use Rattle.std.proofs.Common.{◌≡◌, ◌≢◌, ◌⊎◌, ℕ, ◌<◌, ◌+◌, ◌==◌, Bool, true, false, List, [], ◌∷◌, ◌++◌, length, arith, refl, ap, sym, ◌∙◌, subst, get_or, set, cond, eqb, inl, inr, map, take}
-use Rattle.std.specs.Prelude.{Result, Ok, Err}
-use Rattle.std.proofs.lemmas.List.{append-nil, get_or-set_same, get_or-set_other, length-set, take_more, map-append}
-use Rattle.std.proofs.lemmas.Bool.{cases_Bool}
-use Rattle.std.proofs.lemmas.Bool.Decides.{nat_tests}
-use Rattle.bus_captures.specs.Values.{EntryValue, entry_value}
-use Rattle.bus_captures.specs.declared.capture.Entry.{Entry}
-use Rattle.mctp_transport.specs.declared.packet_error.PacketError.{PacketError}
+use Rattle.std.{proofs.Common.{◌≡◌, ◌≢◌, ◌⊎◌, ℕ, ◌<◌, ◌+◌, ◌==◌, Bool, true, false, List, [], ◌∷◌, ◌++◌, length, arith, refl, ap, sym, ◌∙◌, subst, get_or, set, cond, eqb, inl, inr, map, take}, specs.Prelude.{Result, Ok, Err}, proofs.lemmas.List.{append-nil, get_or-set_same, get_or-set_other, length-set, take_more, map-append}, proofs.lemmas.Bool.{cases_Bool}, proofs.lemmas.Bool.Decides.{nat_tests}}
+use Rattle.bus_captures.{specs.Values.{EntryValue, entry_value}, specs.declared.capture.Entry.{Entry}}
+use Rattle.mctp_transport.{specs.declared.packet_error.PacketError.{PacketError}, specs.declared.assembler.Assembler.{Assembler}, specs.PacketValues.{PacketValue}, specs.Hearing.{Answer}, specs.Histories.{History, Arrived, after}}
+use Rattle.heard_captures.{specs.Seen.{Seen, Fed, NoPacket, Told, Other, None, More, history_to, IsNoPacketFor}, specs.Stations.{HasBeenGiven, AreGiven, IsFedAt}, specs.Steps.{Sees, HaveSeen}}
 use Rattle.mctp_transport.specs.declared.packet_error.PacketError.TheVariants as packet
 use Rattle.mctp_transport.specs.Refusals as refusals
-use Rattle.mctp_transport.specs.declared.assembler.Assembler.{Assembler}
-use Rattle.mctp_transport.specs.PacketValues.{PacketValue}
-use Rattle.mctp_transport.specs.Hearing.{Answer}
-use Rattle.mctp_transport.specs.Histories.{History, Arrived, after}
-use Rattle.heard_captures.specs.Seen.{Seen, Fed, NoPacket, Told, Other, None, More, history_to, IsNoPacketFor}
-use Rattle.heard_captures.specs.Stations.{HasBeenGiven, AreGiven, IsFedAt}
-use Rattle.heard_captures.specs.Steps.{Sees, HaveSeen}
 
 pub nothing_seen : (unit : ℕ) (assemblers : List Assembler) → AreGiven assemblers (λ d. []) → HaveSeen unit [] [] assemblers
 nothing_seen unit assemblers given = record { are = None; given = given }

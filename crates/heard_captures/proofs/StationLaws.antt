@@ -1,13 +1,6 @@
 -- A packet for one of the assemblers.
-use Rattle.std.proofs.Common.{◌≡◌, Global, ℕ, ◌<◌, All, List, length, arith, ◌∙◌, sym, subst, slice_index_or, slice_set, refl}
-use Rattle.std.specs.Prelude.{Result, Ok, Err, IfOk, Vec}
-use Rattle.std.proofs.lemmas.List.{get_or_default}
-use Rattle.mctp_transport.specs.Assembly.{HoldsHistory, assembler_slots, assembler_limit}
-use Rattle.mctp_transport.specs.PacketValues.{PacketValue}
-use Rattle.mctp_transport.specs.Heard.{IsIdle}
-use Rattle.mctp_transport.specs.Hearing.{Answer, HearsOnly}
-use Rattle.mctp_transport.specs.Histories.{History, Arrived, after}
-use Rattle.mctp_transport.specs.declared.assembler.Assembler.{Assembler}
+use Rattle.std.{proofs.Common.{◌≡◌, Global, ℕ, ◌<◌, All, List, length, arith, ◌∙◌, sym, subst, slice_index_or, slice_set, refl}, specs.Prelude.{Result, Ok, Err, IfOk, Vec}, proofs.lemmas.List.{get_or_default}}
+use Rattle.mctp_transport.{specs.Assembly.{HoldsHistory, assembler_slots, assembler_limit}, specs.PacketValues.{PacketValue}, specs.Heard.{IsIdle}, specs.Hearing.{Answer, HearsOnly}, specs.Histories.{History, Arrived, after}, specs.declared.assembler.Assembler.{Assembler}}
 use Rattle.heard_captures.specs.Stations.{AreIdle, HasBeenGiven, IsFedAt}
 
 fed_at : (old new : List Assembler) (p : PacketValue) (answer : Answer) (before fed : Assembler) → p.destination < length old

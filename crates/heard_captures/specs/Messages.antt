@@ -1,13 +1,8 @@
 -- The messages of a capture that came whole.
-use Rattle.std.specs.Prelude.{◌≡◌, ℕ, Bool, List, [], ◌∷◌, ◌++◌, map}
-use Rattle.std.specs.List.{flat_map}
+use Rattle.std.{specs.Prelude.{◌≡◌, ℕ, Bool, List, [], ◌∷◌, ◌++◌, map}, specs.List.{flat_map}}
 use Rattle.bus_captures.specs.Values.{EntryValue}
-use Rattle.mctp_transport.specs.PacketValues.{PacketValue}
-use Rattle.mctp_transport.specs.Hearing.{Answer, Whole, Held, Dropped}
-use Rattle.mctp_transport.specs.declared.assembler.Assembler.{Assembler}
-use Rattle.heard_captures.specs.Seen.{Seen, Fed, NoPacket, Told, Other, AreSeen}
-use Rattle.heard_captures.specs.Steps.{Sees}
-use Rattle.heard_captures.specs.declared.messages.Message.{Message}
+use Rattle.mctp_transport.{specs.PacketValues.{PacketValue}, specs.Hearing.{Answer, Whole, Held, Dropped}, specs.declared.assembler.Assembler.{Assembler}}
+use Rattle.heard_captures.{specs.Seen.{Seen, Fed, NoPacket, Told, Other, AreSeen}, specs.Steps.{Sees}, specs.declared.messages.Message.{Message}}
 
 -- the endpoint IDs from which and to which a message went, its tag and whether the sender owns it, and its bytes
 pub record MessageValue : Type 0 where

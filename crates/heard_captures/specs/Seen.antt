@@ -1,13 +1,9 @@
 -- What becomes of the entries of a capture.
 use Rattle.std.specs.Prelude.{◌≡◌, ℕ, ◌==◌, List, [], ◌∷◌, ◌++◌, Option, if◌then◌else◌}
-use Rattle.bus_captures.specs.Values.{EntryValue}
-use Rattle.bus_captures.specs.declared.capture.Direction.{Direction}
+use Rattle.bus_captures.{specs.Values.{EntryValue}, specs.declared.capture.Direction.{Direction}}
+use Rattle.mctp_transport.{specs.declared.packet_error.PacketError.{PacketError}, specs.PacketValues.{PacketValue, Spelled}, specs.Hearing.{Answer, HearsOnly}, specs.Histories.{History, Arrived}}
 use Rattle.bus_captures.specs.declared.capture.Kind.TheVariants as kind
-use Rattle.mctp_transport.specs.declared.packet_error.PacketError.{PacketError}
 use Rattle.mctp_transport.specs.declared.packet_error.PacketError.TheVariants as packet
-use Rattle.mctp_transport.specs.PacketValues.{PacketValue, Spelled}
-use Rattle.mctp_transport.specs.Hearing.{Answer, HearsOnly}
-use Rattle.mctp_transport.specs.Histories.{History, Arrived}
 use Rattle.mctp_transport.specs.Refusals as refusals
 
 -- what became of an entry: a packet and what its assembler made of it, bytes that are no packet and why, a message,

@@ -1,8 +1,6 @@
 -- What became of an entry, wherever its bytes lie.
-use Rattle.mctp_transport.specs.Packets.{packet_value_of}
-use Rattle.mctp_transport.specs.Heard.{heard_answer}
-use Rattle.heard_captures.specs.Seen.{Seen, Fed, NoPacket, Told, Other}
-use Rattle.heard_captures.specs.declared.seeing.Sight.{Sight}
+use Rattle.mctp_transport.{specs.Packets.{packet_value_of}, specs.Heard.{heard_answer}}
+use Rattle.heard_captures.{specs.Seen.{Seen, Fed, NoPacket, Told, Other}, specs.declared.seeing.Sight.{Sight}}
 use Rattle.heard_captures.specs.declared.seeing.Sight.TheVariants as sight
 
 abbrev pub seen_of : Sight → Seen

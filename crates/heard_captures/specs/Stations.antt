@@ -1,10 +1,6 @@
 -- An assembler for each destination, and what each has been given.
 use Rattle.std.specs.Prelude.{◌≡◌, ℕ, ◌<◌, List, [], length, slice_index_or, slice_set}
-use Rattle.mctp_transport.specs.Assembly.{HoldsHistory, assembler_slots, assembler_limit}
-use Rattle.mctp_transport.specs.PacketValues.{PacketValue}
-use Rattle.mctp_transport.specs.Hearing.{Answer, HearsOnly}
-use Rattle.mctp_transport.specs.Histories.{History, Arrived, after}
-use Rattle.mctp_transport.specs.declared.assembler.Assembler.{Assembler}
+use Rattle.mctp_transport.{specs.Assembly.{HoldsHistory, assembler_slots, assembler_limit}, specs.PacketValues.{PacketValue}, specs.Hearing.{Answer, HearsOnly}, specs.Histories.{History, Arrived, after}, specs.declared.assembler.Assembler.{Assembler}}
 
 -- an assembler of 16 slots for messages of at most 4096 bytes that was given this
 abbrev pub HasBeenGiven : Assembler → History → Type 0

@@ -1,11 +1,9 @@
 -- What one entry changes.
 use Rattle.std.specs.Prelude.{◌≡◌, ℕ, List, [], ◌∷◌, ◌++◌}
 use Rattle.bus_captures.specs.Values.{EntryValue}
+use Rattle.mctp_transport.{specs.PacketValues.{Spelled}, specs.declared.assembler.Assembler.{Assembler}}
+use Rattle.heard_captures.{specs.Seen.{Seen, Fed, NoPacket, Told, Other, IsNoPacketFor, AreSeen, history_to}, specs.Stations.{IsFedAt, AreGiven}}
 use Rattle.bus_captures.specs.declared.capture.Kind.TheVariants as kind
-use Rattle.mctp_transport.specs.PacketValues.{Spelled}
-use Rattle.mctp_transport.specs.declared.assembler.Assembler.{Assembler}
-use Rattle.heard_captures.specs.Seen.{Seen, Fed, NoPacket, Told, Other, IsNoPacketFor, AreSeen, history_to}
-use Rattle.heard_captures.specs.Stations.{IsFedAt, AreGiven}
 
 -- this becomes of the entry under a transmission unit, and of the assemblers
 abbrev pub Sees : (unit : ℕ) → List Assembler → List Assembler → EntryValue → Seen → Type 0

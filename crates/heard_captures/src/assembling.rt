@@ -1,7 +1,6 @@
 //! An assembler for each destination.
 ghost use Rattle.std.specs.Prelude.{◌≡◌, IfOk, length};
-ghost use Rattle.mctp_transport.specs.Heard.{heard_answer};
-ghost use Rattle.mctp_transport.specs.Packets.{packet_value_of};
+ghost use Rattle.mctp_transport.{specs.Heard.{heard_answer}, specs.Packets.{packet_value_of}};
 ghost use Rattle.heard_captures.specs.Stations.{AreIdle, IsFedAt};
 
 use mctp_transport::{Assembler, Heard, PacketView, hear};

@@ -1,11 +1,8 @@
 //! The messages of a capture that came whole.
 ghost use Rattle.std.specs.Prelude.{◌≡◌, ◌++◌, IfOk, OnOk, map, length};
 ghost use Rattle.bus_captures.specs.Values.{entry_value};
-ghost use Rattle.mctp_transport.specs.PacketValues.{IsUnit};
-ghost use Rattle.mctp_transport.specs.Heard.{heard_answer};
-ghost use Rattle.mctp_transport.specs.Packets.{packet_value_of};
-ghost use Rattle.heard_captures.specs.Messages.{message_value, messages_of, ended_by, HearsMore, AreHeard};
-ghost use Rattle.heard_captures.specs.Sights.{seen_of};
+ghost use Rattle.mctp_transport.{specs.PacketValues.{IsUnit}, specs.Heard.{heard_answer}, specs.Packets.{packet_value_of}};
+ghost use Rattle.heard_captures.{specs.Messages.{message_value, messages_of, ended_by, HearsMore, AreHeard}, specs.Sights.{seen_of}};
 
 use crate::assembling::idle_assemblers;
 use crate::seeing::{Sight, see};

@@ -2,8 +2,7 @@
 ghost use Rattle.std.specs.Prelude.{◌≡◌, IfOk, length};
 ghost use Rattle.bus_captures.specs.Values.{entry_value};
 ghost use Rattle.mctp_transport.specs.PacketValues.{IsUnit};
-ghost use Rattle.heard_captures.specs.Sights.{seen_of};
-ghost use Rattle.heard_captures.specs.Steps.{Sees};
+ghost use Rattle.heard_captures.{specs.Sights.{seen_of}, specs.Steps.{Sees}};
 
 use crate::assembling::feed_at;
 use bus_captures::{Direction, Entry, Kind};

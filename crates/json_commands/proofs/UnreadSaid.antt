@@ -2,13 +2,10 @@
 use Rattle.std.proofs.Common.{◌≡◌, List, ℕ, subst}
 use Rattle.serde_json.specs.Data.{Data}
 use Rattle.plan_values.specs.declared.plan.Plan.{Plan}
-use Rattle.command_answers.specs.declared.inputs.Unread.{Unread}
-use Rattle.command_answers.specs.declared.refused.Input.TheVariants as input
-use Rattle.command_answers.specs.Answers.{Stream}
-use Rattle.command_answers.specs.UnreadInputs.{IsNoPlanBy, IsNoCertificateBy}
-use Rattle.command_answers.proofs.UnreadTexts.{plan_told, certificate_told}
+use Rattle.command_answers.{specs.declared.inputs.Unread.{Unread}, specs.Answers.{Stream}, specs.UnreadInputs.{IsNoPlanBy, IsNoCertificateBy}, proofs.UnreadTexts.{plan_told, certificate_told}}
 use Rattle.command_questions.specs.declared.form.Form.{Form}
 use Rattle.json_commands.specs.Unread.{IsInputUnreadSaid, IsPlanUnreadSaid, IsCertificateUnreadSaid}
+use Rattle.command_answers.specs.declared.refused.Input.TheVariants as input
 
 module _ (form asked : Form) (command by name : List ℕ) (u : Unread) (d : Data) (f : form ≡ asked) (c : command ≡ by) where
   pub plan_said : (plans : Stream) → IsNoPlanBy plans u → IsInputUnreadSaid form command name input.Plan u d → IsPlanUnreadSaid asked by name plans u d

@@ -2,31 +2,14 @@
 use Rattle.std.specs.Prelude.{◌≡◌, ◌⊎◌, ℕ, List, codes, Some, ⊤}
 use Rattle.mctp_transport.specs.declared.address.Eid.{Eid}
 use Rattle.serde_json.specs.Data.{Data}
-use Rattle.plan_values.specs.declared.certificate.Certificate.{Certificate}
-use Rattle.plan_values.specs.declared.plan.Plan.{Plan}
+use Rattle.plan_values.{specs.declared.certificate.Certificate.{Certificate}, specs.declared.plan.Plan.{Plan}}
+use Rattle.net_rules.{specs.declared.fault.Fault.{Fault}, specs.declared.fault_run.FaultRun.{FaultRun}, specs.Faults.{IsFirstFault, site_of}, specs.Rules.{Accepts}}
+use Rattle.command_answers.{specs.declared.inputs.Unread.{Unread}, specs.declared.status.Status.{Status}, specs.Answers.{Stream, GavePlanText, GaveCertificate}, specs.Naming.{IsDestination, IsFirstNamed, NameTheEnds}, specs.UnreadInputs.{IsNoPlanBy, IsNoCertificateBy}}
+use Rattle.command_questions.{specs.declared.certified.CertifiedJson.{CertifiedJson}, specs.declared.form.Form.{Form}, specs.declared.form.Form.TheVariants.{Json}}
+use Rattle.json_commands.{specs.Explained.{IsFaultExplained, IsSummedUp}, specs.Faults.{AreFaultsSaid}, specs.Lists.{empty_data}, specs.Obstacles.{IsObstacleAlone}, specs.Reached.{IsReachSaid}, specs.Reports.{IsLineOf, IsReport}, specs.Traced.{IsTraceSaid}, specs.Unread.{IsCertificateUnreadSaid, IsPlanUnreadSaid, IsUnknownSaid}}
 use Rattle.net_rules.specs.declared.certify_error.CertifyError.TheVariants as error
-use Rattle.net_rules.specs.declared.fault.Fault.{Fault}
-use Rattle.net_rules.specs.declared.fault_run.FaultRun.{FaultRun}
-use Rattle.net_rules.specs.Faults.{IsFirstFault, site_of}
-use Rattle.net_rules.specs.Rules.{Accepts}
-use Rattle.command_answers.specs.declared.inputs.Unread.{Unread}
-use Rattle.command_answers.specs.declared.status.Status.{Status}
 use Rattle.command_answers.specs.declared.status.Status.TheVariants as status
-use Rattle.command_answers.specs.Answers.{Stream, GavePlanText, GaveCertificate}
-use Rattle.command_answers.specs.Naming.{IsDestination, IsFirstNamed, NameTheEnds}
-use Rattle.command_answers.specs.UnreadInputs.{IsNoPlanBy, IsNoCertificateBy}
-use Rattle.command_questions.specs.declared.certified.CertifiedJson.{CertifiedJson}
 use Rattle.command_questions.specs.declared.certified.CertifiedJson.TheVariants as asks
-use Rattle.command_questions.specs.declared.form.Form.{Form}
-use Rattle.command_questions.specs.declared.form.Form.TheVariants.{Json}
-use Rattle.json_commands.specs.Explained.{IsFaultExplained, IsSummedUp}
-use Rattle.json_commands.specs.Faults.{AreFaultsSaid}
-use Rattle.json_commands.specs.Lists.{empty_data}
-use Rattle.json_commands.specs.Obstacles.{IsObstacleAlone}
-use Rattle.json_commands.specs.Reached.{IsReachSaid}
-use Rattle.json_commands.specs.Reports.{IsLineOf, IsReport}
-use Rattle.json_commands.specs.Traced.{IsTraceSaid}
-use Rattle.json_commands.specs.Unread.{IsCertificateUnreadSaid, IsPlanUnreadSaid, IsUnknownSaid}
 
 -- the form of the answer
 abbrev pub form_of : CertifiedJson → Form

@@ -3,21 +3,15 @@ use Rattle.std.specs.Prelude.{ℕ, List, [], ◌∷◌, ◌++◌, codes, length,
 use Rattle.hex.specs.Hex.{encode_lower}
 use Rattle.serde_json.specs.Data.{Data, null, string, object, member, no_members}
 use Rattle.net_plan.specs.Finding.{Step, key}
-use Rattle.net_explained.specs.declared.edit.Change.{Change}
-use Rattle.net_explained.specs.declared.edit.Change.TheVariants as change
-use Rattle.net_explained.specs.declared.trial.Tried.{Tried}
-use Rattle.plan_values.specs.NodeValues.{name_bytes}
-use Rattle.plan_values.specs.declared.nodes.Pool.{Pool}
-use Rattle.plan_values.specs.declared.nodes.Row.{Row}
-use Rattle.plan_values.specs.declared.plan.Plan.{Plan}
+use Rattle.net_explained.{specs.declared.edit.Change.{Change}, specs.declared.trial.Tried.{Tried}}
+use Rattle.plan_values.{specs.NodeValues.{name_bytes}, specs.declared.nodes.Pool.{Pool}, specs.declared.nodes.Row.{Row}, specs.declared.plan.Plan.{Plan}}
 use Rattle.net_rules.specs.declared.certify_error.CertifyError.{CertifyError}
-use Rattle.net_tables.specs.Routing.{rows_of}
+use Rattle.net_tables.{specs.Routing.{rows_of}, specs.Names.{kind_word, node_name}}
 use Rattle.fault_texts.specs.Places.{part_pointer, record_pointer, row_pointer}
-use Rattle.net_tables.specs.Names.{kind_word, node_name}
 use Rattle.explanation_texts.specs.EditLines.{edit_text}
 use Rattle.plan_texts.specs.Lines.{obstacle_words}
-use Rattle.json_commands.specs.Notes.{lines_data}
-use Rattle.json_commands.specs.Places.{json_pointer, number_data}
+use Rattle.json_commands.{specs.Notes.{lines_data}, specs.Places.{json_pointer, number_data}}
+use Rattle.net_explained.specs.declared.edit.Change.TheVariants as change
 
 -- what is done to a value (RFC 6902)
 abbrev pub op_of : Change → List ℕ

@@ -1,37 +1,15 @@
 -- What `explain` answers.
-use Rattle.std.specs.Prelude.{◌≡◌, ◌≤◌, ◌⊎◌, ℕ, List, codes, length, Option, Some, None}
-use Rattle.std.specs.List.{All}
+use Rattle.std.{specs.Prelude.{◌≡◌, ◌≤◌, ◌⊎◌, ℕ, List, codes, length, Option, Some, None}, specs.List.{All}}
 use Rattle.serde_json.specs.Data.{Data, null, string, object, member, no_members}
-use Rattle.net_explained.specs.declared.cause.Cause.{Cause}
-use Rattle.net_explained.specs.declared.hops.MostHops.{MostHops}
-use Rattle.net_explained.specs.declared.trial.Tried.{Tried}
-use Rattle.net_explained.specs.Causes.{IsCauseAt}
-use Rattle.net_explained.specs.Obstacles.{IsTried}
-use Rattle.plan_values.specs.declared.certificate.Certificate.{Certificate}
-use Rattle.plan_values.specs.declared.plan.Plan.{Plan}
-use Rattle.plan_values.specs.PlanValues.{plan_value}
-use Rattle.net_rules.specs.declared.certify_error.CertifyError.{CertifyError}
-use Rattle.net_rules.specs.declared.certify_error.CertifyError.TheVariants as error
-use Rattle.net_rules.specs.declared.fault.Fault.{Fault}
-use Rattle.net_rules.specs.declared.fault_run.FaultRun.{FaultRun}
-use Rattle.net_rules.specs.Certificates.{HasNoCertificate, IsExact, NamesObstacle}
-use Rattle.net_rules.specs.FaultLists.{AreFaults}
-use Rattle.net_rules.specs.Faults.{site_of}
-use Rattle.net_rules.specs.Rules.{Accepts}
-use Rattle.command_answers.specs.declared.status.Status.{Status}
-use Rattle.command_answers.specs.declared.status.Status.TheVariants as status
-use Rattle.command_answers.specs.Statuses.{number_of}
-use Rattle.command_answers.specs.Certifying.{others_of}
-use Rattle.explanation_texts.specs.CertificateSubjects.{certificate_subjects}
-use Rattle.explanation_texts.specs.Explanations.{IsObstacleTold, told_subjects}
-use Rattle.explanation_texts.specs.Pieces.{Tells}
-use Rattle.explanation_texts.specs.SummaryLines.{summary_text}
+use Rattle.net_explained.{specs.declared.cause.Cause.{Cause}, specs.declared.hops.MostHops.{MostHops}, specs.declared.trial.Tried.{Tried}, specs.Causes.{IsCauseAt}, specs.Obstacles.{IsTried}}
+use Rattle.plan_values.{specs.declared.certificate.Certificate.{Certificate}, specs.declared.plan.Plan.{Plan}, specs.PlanValues.{plan_value}}
+use Rattle.net_rules.{specs.declared.certify_error.CertifyError.{CertifyError}, specs.declared.fault.Fault.{Fault}, specs.declared.fault_run.FaultRun.{FaultRun}, specs.Certificates.{HasNoCertificate, IsExact, NamesObstacle}, specs.FaultLists.{AreFaults}, specs.Faults.{site_of}, specs.Rules.{Accepts}}
+use Rattle.command_answers.{specs.declared.status.Status.{Status}, specs.Statuses.{number_of}, specs.Certifying.{others_of}}
+use Rattle.explanation_texts.{specs.CertificateSubjects.{certificate_subjects}, specs.Explanations.{IsObstacleTold, told_subjects}, specs.Pieces.{Tells}, specs.SummaryLines.{summary_text}}
 use Rattle.command_questions.specs.declared.form.Form.TheVariants.{Json}
-use Rattle.json_commands.specs.Edits.{edit_data}
-use Rattle.json_commands.specs.Lists.{IsListTold, empty_data}
-use Rattle.json_commands.specs.Notes.{lines_data}
-use Rattle.json_commands.specs.Obstacles.{IsObstacleAlone}
-use Rattle.json_commands.specs.Places.{number_data}
+use Rattle.json_commands.{specs.Edits.{edit_data}, specs.Lists.{IsListTold, empty_data}, specs.Notes.{lines_data}, specs.Obstacles.{IsObstacleAlone}, specs.Places.{number_data}}
+use Rattle.net_rules.specs.declared.certify_error.CertifyError.TheVariants as error
+use Rattle.command_answers.specs.declared.status.Status.TheVariants as status
 
 -- what is told, by its parts, of a run with this exit status
 abbrev pub explained_by : ℕ → (results sentences edits : Data) → ℕ → Data → Data

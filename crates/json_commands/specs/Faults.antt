@@ -1,19 +1,12 @@
 -- What `faults` answers.
 use Rattle.std.specs.Prelude.{◌≡◌, ◌≢◌, ◌⊎◌, ℕ, List, [], codes, Option, Some, None}
 use Rattle.serde_json.specs.Data.{Data}
-use Rattle.plan_values.specs.declared.plan.Plan.{Plan}
-use Rattle.plan_values.specs.declared.certificate.Certificate.{Certificate}
-use Rattle.net_rules.specs.declared.certify_error.CertifyError.{CertifyError}
-use Rattle.net_rules.specs.declared.fault_run.FaultRun.{FaultRun}
-use Rattle.net_rules.specs.Certificates.{HasNoCertificate, NamesObstacle}
-use Rattle.net_rules.specs.FaultLists.{AreFaults}
-use Rattle.net_rules.specs.Rules.{Accepts}
+use Rattle.plan_values.{specs.declared.plan.Plan.{Plan}, specs.declared.certificate.Certificate.{Certificate}}
+use Rattle.net_rules.{specs.declared.certify_error.CertifyError.{CertifyError}, specs.declared.fault_run.FaultRun.{FaultRun}, specs.Certificates.{HasNoCertificate, NamesObstacle}, specs.FaultLists.{AreFaults}, specs.Rules.{Accepts}}
 use Rattle.command_answers.specs.declared.status.Status.{Status}
-use Rattle.command_answers.specs.declared.status.Status.TheVariants as status
 use Rattle.command_questions.specs.declared.form.Form.{Form}
-use Rattle.json_commands.specs.Lists.{IsListTold, empty_data}
-use Rattle.json_commands.specs.Obstacles.{IsObstacleAlone, IsRunNote}
-use Rattle.json_commands.specs.Reports.{IsReport}
+use Rattle.json_commands.{specs.Lists.{IsListTold, empty_data}, specs.Obstacles.{IsObstacleAlone, IsRunNote}, specs.Reports.{IsReport}}
+use Rattle.command_answers.specs.declared.status.Status.TheVariants as status
 
 -- the value tells, in the form, all faults of the plan, which stands in the text of this name, or of it and the
 -- certificate

@@ -4,27 +4,13 @@ use Rattle.mctp_transport.specs.declared.address.Eid.{Eid}
 use Rattle.serde_json.specs.Data.{Data}
 use Rattle.net_plan.specs.Finding.{Step, key, index}
 use Rattle.plan_values.specs.declared.plan.Plan.{Plan}
-use Rattle.net_questions.specs.declared.finding.Finding.{Finding}
-use Rattle.net_questions.specs.declared.finding.Finding.TheVariants.{SharedAddress, MissingAddress, SharedTid}
-use Rattle.net_questions.specs.declared.finding.Finding.TheVariants.{MissingLocator, SharedSensorId}
-use Rattle.net_questions.specs.declared.finding.Finding.TheVariants.{OwnerHasNoWay, NoWayToOwner}
-use Rattle.net_questions.specs.declared.finding.Finding.TheVariants.{IdleRow, PoolEidNotLedOn}
-use Rattle.net_questions.specs.declared.finding.Finding.TheVariants.{LonePort, EmptyReadableRange, Isolated}
-use Rattle.net_questions.specs.declared.finding.Finding.TheVariants.{ForeignMedia, ReservedBinding, ReservedAddress}
-use Rattle.net_questions.specs.declared.finding.Finding.TheVariants.{EmptyBus, CrossedThresholds}
-use Rattle.net_questions.specs.declared.finding.Finding.TheVariants.{UnknownTerminusHandle, UncontainedEntity}
-use Rattle.net_questions.specs.Findings.{AreFindings}
+use Rattle.net_questions.{specs.declared.finding.Finding.{Finding}, specs.declared.finding.Finding.TheVariants.{SharedAddress, MissingAddress, SharedTid, MissingLocator, SharedSensorId, OwnerHasNoWay, NoWayToOwner, IdleRow, PoolEidNotLedOn, LonePort, EmptyReadableRange, Isolated, ForeignMedia, ReservedBinding, ReservedAddress, EmptyBus, CrossedThresholds, UnknownTerminusHandle, UncontainedEntity}, specs.Findings.{AreFindings}}
 use Rattle.command_answers.specs.declared.status.Status.{Status}
-use Rattle.command_answers.specs.declared.status.Status.TheVariants as status
 use Rattle.fault_texts.specs.Places.{part_pointer, record_pointer, row_pointer}
 use Rattle.question_texts.specs.FindingLines.{findings_text}
-use Rattle.command_questions.specs.declared.form.Form.{Form}
-use Rattle.command_questions.specs.declared.form.Form.TheVariants.{Json}
-use Rattle.json_commands.specs.Lists.{IsListTold}
-use Rattle.json_commands.specs.Notes.{AreNodesTold, IsNote, SubjectValue}
-use Rattle.json_commands.specs.Obstacles.{bus_pointer}
-use Rattle.json_commands.specs.Places.{IsPlaceListTold, IsPlaceTold}
-use Rattle.json_commands.specs.Reports.{IsReport}
+use Rattle.command_questions.{specs.declared.form.Form.{Form}, specs.declared.form.Form.TheVariants.{Json}}
+use Rattle.json_commands.{specs.Lists.{IsListTold}, specs.Notes.{AreNodesTold, IsNote, SubjectValue}, specs.Obstacles.{bus_pointer}, specs.Places.{IsPlaceListTold, IsPlaceTold}, specs.Reports.{IsReport}}
+use Rattle.command_answers.specs.declared.status.Status.TheVariants as status
 
 abbrev pub code_of : Finding → List ℕ
 code_of (SharedAddress n p m q) = codes "H01"

@@ -1,7 +1,6 @@
 -- JSON lists of what tells items.
 use Rattle.std.specs.Prelude.{◌≡◌, List, [], ◌∷◌, ◌++◌}
-use Rattle.serde_json.specs.Data.{Data, array, item, no_items}
-use Rattle.serde_json.specs.View.{items_of}
+use Rattle.serde_json.{specs.Data.{Data, array, item, no_items}, specs.View.{items_of}}
 
 -- A value for each item, in their order, each of which tells its item.
 pub data AreTold {A : Type 0} (IsTold : A → Data → Type 0) : List A → List Data → Type 0 where

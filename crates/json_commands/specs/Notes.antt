@@ -1,16 +1,11 @@
 -- Notes: what is told of one fault, of one thing that looks wrong, or of a text that can't be read.
-use Rattle.std.specs.Prelude.{◌≡◌, ◌⊎◌, ℕ, List, [], ◌++◌, codes, map, Option, Some, None}
-use Rattle.std.specs.Str.Lines.{lines}
+use Rattle.std.{specs.Prelude.{◌≡◌, ◌⊎◌, ℕ, List, [], ◌++◌, codes, map, Option, Some, None}, specs.Str.Lines.{lines}}
 use Rattle.mctp_transport.specs.declared.address.Eid.{Eid}
-use Rattle.serde_json.specs.Data.{Data, null, string, array, object, member, no_members}
-use Rattle.serde_json.specs.View.{items_of}
+use Rattle.serde_json.{specs.Data.{Data, null, string, array, object, member, no_members}, specs.View.{items_of}}
 use Rattle.plan_values.specs.declared.plan.Plan.{Plan}
 use Rattle.net_tables.specs.Names.{node_name}
-use Rattle.command_questions.specs.declared.form.Form.{Form}
-use Rattle.command_questions.specs.declared.form.Form.TheVariants.{Json, Sarif}
-use Rattle.json_commands.specs.declared.notes.Subject.{Subject}
-use Rattle.json_commands.specs.Lists.{IsListTold, one_data}
-use Rattle.json_commands.specs.Places.{number_data, number_or_null}
+use Rattle.command_questions.{specs.declared.form.Form.{Form}, specs.declared.form.Form.TheVariants.{Json, Sarif}}
+use Rattle.json_commands.{specs.declared.notes.Subject.{Subject}, specs.Lists.{IsListTold, one_data}, specs.Places.{number_data, number_or_null}}
 
 abbrev pub strings_data : List (List ℕ) → Data
 strings_data texts = array (items_of (map string texts))

@@ -3,26 +3,16 @@ use Rattle.std.specs.Prelude.{◌≡◌, ℕ, List, [], ◌∷◌, codes, Option
 use Rattle.mctp_transport.specs.declared.address.Eid.{Eid}
 use Rattle.serde_json.specs.Data.{Data}
 use Rattle.net_plan.specs.Finding.{Step, key, index}
-use Rattle.net_explained.specs.declared.cause.Cause.{Cause}
-use Rattle.net_explained.specs.declared.cause.Cause.TheVariants as cause
-use Rattle.net_explained.specs.Causes.{IsCauseAt}
+use Rattle.net_explained.{specs.declared.cause.Cause.{Cause}, specs.Causes.{IsCauseAt}}
 use Rattle.plan_values.specs.declared.plan.Plan.{Plan}
-use Rattle.net_rules.specs.declared.certify_error.CertifyError.{CertifyError}
-use Rattle.net_rules.specs.declared.certify_error.CertifyError.TheVariants as error
-use Rattle.net_rules.specs.declared.fault.Fault.{Fault}
-use Rattle.net_rules.specs.declared.fault_run.EidSpan.{EidSpan}
-use Rattle.net_rules.specs.declared.fault_run.FaultRun.{FaultRun}
-use Rattle.net_rules.specs.Faults.{site_of}
-use Rattle.net_rules.specs.Rules.{code_of}
+use Rattle.net_rules.{specs.declared.certify_error.CertifyError.{CertifyError}, specs.declared.fault.Fault.{Fault}, specs.declared.fault_run.EidSpan.{EidSpan}, specs.declared.fault_run.FaultRun.{FaultRun}, specs.Faults.{site_of}, specs.Rules.{code_of}}
 use Rattle.explanation_texts.specs.Explanations.{around, row_for}
 use Rattle.plan_texts.specs.Lines.{obstacle_text}
-use Rattle.fault_texts.specs.FaultListLines.{run_text}
-use Rattle.fault_texts.specs.Places.{obstacle_pointer, part_pointer, record_pointer, row_pointer}
-use Rattle.fault_texts.specs.Places.{site_pointer, way_pointer}
+use Rattle.fault_texts.{specs.FaultListLines.{run_text}, specs.Places.{obstacle_pointer, part_pointer, record_pointer, row_pointer, site_pointer, way_pointer}}
 use Rattle.command_questions.specs.declared.form.Form.{Form}
-use Rattle.json_commands.specs.Lists.{IsListTold, empty_data, one_data}
-use Rattle.json_commands.specs.Notes.{AreNodesTold, IsNote, SubjectValue}
-use Rattle.json_commands.specs.Places.{IsPlaceListTold, IsPlaceTold}
+use Rattle.json_commands.{specs.Lists.{IsListTold, empty_data, one_data}, specs.Notes.{AreNodesTold, IsNote, SubjectValue}, specs.Places.{IsPlaceListTold, IsPlaceTold}}
+use Rattle.net_explained.specs.declared.cause.Cause.TheVariants as cause
+use Rattle.net_rules.specs.declared.certify_error.CertifyError.TheVariants as error
 
 -- ---- whom an obstacle is about
 

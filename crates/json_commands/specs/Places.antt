@@ -1,17 +1,12 @@
 -- Places in texts, as JSON.
-use Rattle.std.specs.Prelude.{◌≡◌, ℕ, ◌+◌, nat_le, List, [], length, take, count_by, codes, if◌then◌else◌}
-use Rattle.std.specs.Prelude.{Option, Some, None, option_map}
-use Rattle.std.specs.List.{flat_map}
-use Rattle.percent_encoding.specs.declared.ascii_set.AsciiSet.{AsciiSet}
-use Rattle.percent_encoding.specs.Percent.{percent_encode}
+use Rattle.std.{specs.Prelude.{◌≡◌, ℕ, ◌+◌, nat_le, List, [], length, take, count_by, codes, if◌then◌else◌, Option, Some, None, option_map}, specs.List.{flat_map}}
+use Rattle.percent_encoding.{specs.declared.ascii_set.AsciiSet.{AsciiSet}, specs.Percent.{percent_encode}}
 use Rattle.serde_json.specs.Data.{Data, null, number, unsigned, string, object, member, no_members}
 use Rattle.net_plan.specs.Finding.{Step}
-use Rattle.net_pointers.specs.declared.position.Position.{Position}
-use Rattle.net_pointers.specs.Positions.{is_line_feed, begins_character, last_line}
+use Rattle.net_pointers.{specs.declared.position.Position.{Position}, specs.Positions.{is_line_feed, begins_character, last_line}}
 use Rattle.fault_texts.specs.Places.{IsPlaceIn}
 use Rattle.reading_texts.specs.ReadingLines.{step_text}
-use Rattle.command_questions.specs.declared.form.Form.{Form}
-use Rattle.command_questions.specs.declared.form.Form.TheVariants.{Json, Sarif}
+use Rattle.command_questions.{specs.declared.form.Form.{Form}, specs.declared.form.Form.TheVariants.{Json, Sarif}}
 use Rattle.json_commands.specs.Lists.{empty_data, one_data}
 
 -- ---- values

@@ -2,20 +2,11 @@
 use Rattle.std.specs.Prelude.{◌≡◌, ◌⊎◌, ℕ, List, codes}
 use Rattle.serde_json.specs.Data.{Data}
 use Rattle.plan_values.specs.declared.plan.Plan.{Plan}
-use Rattle.command_answers.specs.declared.inputs.Unread.{Unread}
-use Rattle.command_answers.specs.declared.status.Status.{Status}
+use Rattle.command_answers.{specs.declared.inputs.Unread.{Unread}, specs.declared.status.Status.{Status}, specs.Answers.{Stream, GavePlanText}, specs.UnreadInputs.{IsNoPlanBy}}
+use Rattle.command_questions.{specs.declared.form.Form.{Form}, specs.declared.form.Form.TheVariants.{Json}, specs.declared.planned.PlanJson.{PlanJson}}
+use Rattle.json_commands.{specs.Explained.{IsExplainedSaid}, specs.Faults.{IsFaultsSaid}, specs.Findings.{IsLintSaid}, specs.Reports.{IsLineOf}, specs.Unread.{IsPlanUnreadSaid}}
 use Rattle.command_answers.specs.declared.status.Status.TheVariants as status
-use Rattle.command_answers.specs.Answers.{Stream, GavePlanText}
-use Rattle.command_answers.specs.UnreadInputs.{IsNoPlanBy}
-use Rattle.command_questions.specs.declared.form.Form.{Form}
-use Rattle.command_questions.specs.declared.form.Form.TheVariants.{Json}
-use Rattle.command_questions.specs.declared.planned.PlanJson.{PlanJson}
 use Rattle.command_questions.specs.declared.planned.PlanJson.TheVariants as asks
-use Rattle.json_commands.specs.Explained.{IsExplainedSaid}
-use Rattle.json_commands.specs.Faults.{IsFaultsSaid}
-use Rattle.json_commands.specs.Findings.{IsLintSaid}
-use Rattle.json_commands.specs.Reports.{IsLineOf}
-use Rattle.json_commands.specs.Unread.{IsPlanUnreadSaid}
 
 -- the form of the answer
 abbrev pub form_of : PlanJson → Form

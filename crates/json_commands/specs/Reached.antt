@@ -1,13 +1,9 @@
 -- What `reach` answers.
 use Rattle.std.specs.Prelude.{◌≡◌, ℕ, List, codes}
 use Rattle.serde_json.specs.Data.{Data, string, object, member, no_members}
-use Rattle.plan_values.specs.declared.certificate.Certificate.{Certificate}
-use Rattle.plan_values.specs.declared.plan.Plan.{Plan}
-use Rattle.net_questions.specs.declared.pair.Pair.{Pair}
-use Rattle.net_questions.specs.Reaching.{ArePairs}
-use Rattle.json_commands.specs.Lists.{IsListTold, empty_data}
-use Rattle.json_commands.specs.Notes.{node_data}
-use Rattle.json_commands.specs.Places.{number_data, number_or_null}
+use Rattle.plan_values.{specs.declared.certificate.Certificate.{Certificate}, specs.declared.plan.Plan.{Plan}}
+use Rattle.net_questions.{specs.declared.pair.Pair.{Pair}, specs.Reaching.{ArePairs}}
+use Rattle.json_commands.{specs.Lists.{IsListTold, empty_data}, specs.Notes.{node_data}, specs.Places.{number_data, number_or_null}}
 
 -- two nodes, and the hops from the one to the other, or null
 abbrev pub pair_data : Plan → Pair → Data

@@ -1,15 +1,10 @@
 -- What the commands answer: a JSON value in a line of its own.
 use Rattle.std.specs.Prelude.{◌≡◌, ℕ, List, [], ◌∷◌, ◌++◌, codes}
-use Rattle.serde_json.specs.Data.{Data, string, object, member, no_members}
-use Rattle.json.specs.Lex.{tokens}
-use Rattle.json.specs.Print.{print}
-use Rattle.serde_json.specs.Written.{IsInOrder}
-use Rattle.command_answers.specs.declared.status.Status.{Status}
-use Rattle.command_answers.specs.Statuses.{number_of}
-use Rattle.command_questions.specs.declared.form.Form.{Form}
-use Rattle.command_questions.specs.declared.form.Form.TheVariants.{Json, Sarif}
-use Rattle.json_commands.specs.Lists.{one_data}
-use Rattle.json_commands.specs.Places.{number_data}
+use Rattle.serde_json.{specs.Data.{Data, string, object, member, no_members}, specs.Written.{IsInOrder}}
+use Rattle.json.{specs.Lex.{tokens}, specs.Print.{print}}
+use Rattle.command_answers.{specs.declared.status.Status.{Status}, specs.Statuses.{number_of}}
+use Rattle.command_questions.{specs.declared.form.Form.{Form}, specs.declared.form.Form.TheVariants.{Json, Sarif}}
+use Rattle.json_commands.{specs.Lists.{one_data}, specs.Places.{number_data}}
 
 -- The text is a line that has the value's members and items, each once and in order, without spaces between them.
 abbrev pub IsLineOf : Data → List ℕ → Type 0

@@ -3,18 +3,11 @@ use Rattle.std.specs.Prelude.{◌≡◌, ◌≤◌, ℕ, List, codes, length, So
 use Rattle.mctp_routing.specs.Decisions.{forward_fault_code}
 use Rattle.mctp_transport.specs.declared.address.Eid.{Eid}
 use Rattle.serde_json.specs.Data.{Data, null, string, object, member, no_members}
-use Rattle.plan_values.specs.declared.certificate.Certificate.{Certificate}
-use Rattle.plan_values.specs.declared.plan.Plan.{Plan}
-use Rattle.net_questions.specs.declared.step.WayStep.{WayStep}
-use Rattle.net_questions.specs.declared.way.End.{End}
-use Rattle.net_questions.specs.declared.way.End.TheVariants.{Arrives, Stops}
-use Rattle.net_questions.specs.Ways.{IsWay}
+use Rattle.plan_values.{specs.declared.certificate.Certificate.{Certificate}, specs.declared.plan.Plan.{Plan}}
+use Rattle.net_questions.{specs.declared.step.WayStep.{WayStep}, specs.declared.way.End.{End}, specs.declared.way.End.TheVariants.{Arrives, Stops}, specs.Ways.{IsWay}}
 use Rattle.net_tables.specs.Ranks.{rank}
 use Rattle.command_questions.specs.declared.form.Form.TheVariants.{Json}
-use Rattle.json_commands.specs.Lists.{IsListTold, empty_data}
-use Rattle.json_commands.specs.Notes.{node_data}
-use Rattle.json_commands.specs.Obstacles.{hop_pointer}
-use Rattle.json_commands.specs.Places.{IsPlaceTold, number_data}
+use Rattle.json_commands.{specs.Lists.{IsListTold, empty_data}, specs.Notes.{node_data}, specs.Obstacles.{hop_pointer}, specs.Places.{IsPlaceTold, number_data}}
 
 -- a step: the node, the place of its row, the port and the next node
 abbrev pub step_data : Plan → WayStep → Data → Data

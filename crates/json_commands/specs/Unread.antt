@@ -3,29 +3,15 @@ use Rattle.std.specs.Prelude.{◌≡◌, ℕ, ◌+◌, List, [], ◌∷◌, code
 use Rattle.serde_json.specs.Data.{Data}
 use Rattle.net_plan.specs.Finding.{Step, key, index, located}
 use Rattle.plan_values.specs.declared.plan.Plan.{Plan}
-use Rattle.net_pointers.specs.Asks.{list_key, name_key}
-use Rattle.net_pointers.specs.Offsets.{LeadsToKey}
-use Rattle.net_pointers.specs.TextTroubles.{cause_of}
-use Rattle.net_pointers.specs.declared.doubled.DoubledKey.{DoubledKey}
-use Rattle.net_pointers.specs.declared.order.NameList.{NameList}
-use Rattle.net_pointers.specs.declared.order.Trouble.{Trouble}
-use Rattle.net_pointers.specs.declared.order.Trouble.TheVariants as wrong
-use Rattle.net_pointers.specs.declared.syntax.JsonFault.{JsonFault}
-use Rattle.net_pointers.specs.declared.syntax.JsonFault.TheVariants.{NotUtf8, Unreadable}
-use Rattle.net_pointers.specs.declared.texts.TextTrouble.{TextTrouble}
-use Rattle.net_pointers.specs.declared.texts.TextTrouble.TheVariants as trouble
-use Rattle.command_answers.specs.declared.inputs.Unread.{Unread}
-use Rattle.command_answers.specs.declared.inputs.Unread.TheVariants as unread
-use Rattle.command_answers.specs.declared.refused.Input.{Input}
-use Rattle.command_answers.specs.declared.status.Status.TheVariants as status
-use Rattle.command_answers.specs.Answers.{Stream}
-use Rattle.command_answers.specs.UnreadTexts.{IsUnreadText, IsUnreadCertificateText, IsWrittenOf}
+use Rattle.net_pointers.{specs.Asks.{list_key, name_key}, specs.Offsets.{LeadsToKey}, specs.TextTroubles.{cause_of}, specs.declared.doubled.DoubledKey.{DoubledKey}, specs.declared.order.NameList.{NameList}, specs.declared.order.Trouble.{Trouble}, specs.declared.syntax.JsonFault.{JsonFault}, specs.declared.syntax.JsonFault.TheVariants.{NotUtf8, Unreadable}, specs.declared.texts.TextTrouble.{TextTrouble}}
+use Rattle.command_answers.{specs.declared.inputs.Unread.{Unread}, specs.declared.refused.Input.{Input}, specs.Answers.{Stream}, specs.UnreadTexts.{IsUnreadText, IsUnreadCertificateText, IsWrittenOf}}
 use Rattle.reading_texts.specs.ReadingLines.{unread_code}
 use Rattle.command_questions.specs.declared.form.Form.{Form}
-use Rattle.json_commands.specs.Lists.{empty_data, one_data}
-use Rattle.json_commands.specs.Notes.{IsNote, SubjectValue}
-use Rattle.json_commands.specs.Places.{IsPlaceListTold, IsPlaceTold, spot_data}
-use Rattle.json_commands.specs.Reports.{IsReport}
+use Rattle.json_commands.{specs.Lists.{empty_data, one_data}, specs.Notes.{IsNote, SubjectValue}, specs.Places.{IsPlaceListTold, IsPlaceTold, spot_data}, specs.Reports.{IsReport}}
+use Rattle.net_pointers.specs.declared.order.Trouble.TheVariants as wrong
+use Rattle.net_pointers.specs.declared.texts.TextTrouble.TheVariants as trouble
+use Rattle.command_answers.specs.declared.inputs.Unread.TheVariants as unread
+use Rattle.command_answers.specs.declared.status.Status.TheVariants as status
 
 -- the code of why a source gave nothing; `file` where it failed
 abbrev pub code_of : Unread → List ℕ

@@ -1,16 +1,12 @@
 //! Commands that read a plan and its certificate, and answer in JSON.
-ghost use Rattle.std.specs.Prelude.{◌≡◌, ◌≢◌, true, false, IfOk, IfErr};
-ghost use Rattle.std.specs.Cow.{cow_str_bytes};
+ghost use Rattle.std.{specs.Prelude.{◌≡◌, ◌≢◌, true, false, IfOk, IfErr}, specs.Cow.{cow_str_bytes}};
 ghost use Rattle.serde_json.specs.View.{view};
 ghost use Rattle.net_check.specs.Errors.{NamesFirstFault};
 ghost use Rattle.net_plan.specs.Stream.{HasRoom};
+ghost use Rattle.command_answers.{specs.Answers.{stream, IsWithoutPlan}, specs.Told.{ConcludesOnOutput}, specs.UnreadInputs.{IsTextOf}, specs.Naming.{NameTheEnds}};
+ghost use Rattle.json_commands.specs.Certified.{AnswersInJson, AreBothSaid, AreCheckedSaid, AreSourcesSaid, IsCertificateSaid, IsFaultAlone, IsFaultSaid, IsFirstFaultSaid, IsNamedIn, IsWaySaid, command_of, form_of};
 ghost use Rattle.command_answers.specs.declared.refused.Refused.TheVariants as refused;
 ghost use Rattle.command_answers.specs.declared.status.Status.TheVariants as status;
-ghost use Rattle.command_answers.specs.Answers.{stream, IsWithoutPlan};
-ghost use Rattle.command_answers.specs.Told.{ConcludesOnOutput};
-ghost use Rattle.command_answers.specs.UnreadInputs.{IsTextOf};
-ghost use Rattle.command_answers.specs.Naming.{NameTheEnds};
-ghost use Rattle.json_commands.specs.Certified.{AnswersInJson, AreBothSaid, AreCheckedSaid, AreSourcesSaid, IsCertificateSaid, IsFaultAlone, IsFaultSaid, IsFirstFaultSaid, IsNamedIn, IsWaySaid, command_of, form_of};
 
 use crate::explained::{explained_fault, sound_said};
 use crate::faults::{faults_of_both, obstacle_results};

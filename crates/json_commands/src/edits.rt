@@ -3,10 +3,7 @@ ghost use Rattle.std.specs.Prelude.{◌≡◌, IfOk, map, string_bytes, ⊤};
 ghost use Rattle.net_plan.specs.Finding.{step_value};
 ghost use Rattle.explanation_texts.specs.EditLines.{edit_text};
 ghost use Rattle.serde_json.specs.View.{view};
-ghost use Rattle.json_commands.specs.Edits.{changed_data, edit_data, edit_pointer, left_data, op_of, owner_data, part_of_record, pool_data, row_data};
-ghost use Rattle.json_commands.specs.Lists.{IsListTold};
-ghost use Rattle.json_commands.specs.Notes.{lines_data};
-ghost use Rattle.json_commands.specs.Places.{json_pointer};
+ghost use Rattle.json_commands.{specs.Edits.{changed_data, edit_data, edit_pointer, left_data, op_of, owner_data, part_of_record, pool_data, row_data}, specs.Lists.{IsListTold}, specs.Notes.{lines_data}, specs.Places.{json_pointer}};
 
 use crate::lists::{Listed, list_of};
 use crate::places::pointer_words;

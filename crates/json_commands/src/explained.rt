@@ -1,12 +1,10 @@
 //! `explain`: what `certify` or `check` answers, and why.
 ghost use Rattle.std.specs.Prelude.{◌≡◌, IfOk, None, Some, option_map};
 ghost use Rattle.net_rules.specs.Certificates.{NamesObstacle, RulesOutCertificates};
-ghost use Rattle.serde_json.specs.Data.{null};
-ghost use Rattle.serde_json.specs.View.{view};
+ghost use Rattle.serde_json.{specs.Data.{null}, specs.View.{view}};
 ghost use Rattle.command_answers.specs.UnreadInputs.{IsTextOf};
+ghost use Rattle.json_commands.{specs.Notes.{lines_data}, specs.Explained.{AreMore, IsExplainedSaid, IsFaultExplained, AreEditsTold, IsCertificateTold, IsFaultTold, IsObstacleExplained, IsSummedUp, IsToldWithEdits, explained_by, explained_data}};
 ghost use Rattle.command_answers.specs.declared.status.Status.TheVariants as status;
-ghost use Rattle.json_commands.specs.Notes.{lines_data};
-ghost use Rattle.json_commands.specs.Explained.{AreMore, IsExplainedSaid, IsFaultExplained, AreEditsTold, IsCertificateTold, IsFaultTold, IsObstacleExplained, IsSummedUp, IsToldWithEdits, explained_by, explained_data};
 
 use crate::edits::edits_value;
 use crate::faults::obstacle_results;

@@ -1,14 +1,11 @@
 //! `faults`: every fault of a plan, or of a plan and its certificate.
 ghost use Rattle.std.specs.Prelude.{◌≡◌, [], List, IfOk, None, Some};
-ghost use Rattle.net_rules.specs.declared.fault_run.FaultRun.{FaultRun};
+ghost use Rattle.net_rules.{specs.declared.fault_run.FaultRun.{FaultRun}, specs.FaultLists.{AreFaults}};
 ghost use Rattle.json.specs.Value.{value_view};
 ghost use Rattle.net_pointers.specs.Offsets.{IsTextOf};
-ghost use Rattle.net_rules.specs.FaultLists.{AreFaults};
 ghost use Rattle.serde_json.specs.View.{view};
+ghost use Rattle.json_commands.{specs.Faults.{AreFaultsSaid, IsFaultsSaid}, specs.Lists.{IsListTold}, specs.Obstacles.{IsObstacleAlone, IsRunNote}};
 ghost use Rattle.command_answers.specs.declared.status.Status.TheVariants as status;
-ghost use Rattle.json_commands.specs.Faults.{AreFaultsSaid, IsFaultsSaid};
-ghost use Rattle.json_commands.specs.Lists.{IsListTold};
-ghost use Rattle.json_commands.specs.Obstacles.{IsObstacleAlone, IsRunNote};
 
 use crate::lists::{empty_list, list_of_one};
 use crate::obstacles::{obstacle_note, run_notes};

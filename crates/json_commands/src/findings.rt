@@ -4,10 +4,7 @@ ghost use Rattle.json.specs.Value.{value_view};
 ghost use Rattle.net_plan.specs.Finding.{step_value};
 ghost use Rattle.net_pointers.specs.Offsets.{IsTextOf};
 ghost use Rattle.serde_json.specs.View.{view};
-ghost use Rattle.json_commands.specs.Findings.{IsFindingNote, address_pointer, code_of, eids_of, entry_of, finding_pointer, nodes_of, other_pointer, port_pointer, subject_of};
-ghost use Rattle.json_commands.specs.Lists.{IsListTold};
-ghost use Rattle.json_commands.specs.Notes.{AreNodesTold, subject_value};
-ghost use Rattle.json_commands.specs.Places.{IsPlaceListTold};
+ghost use Rattle.json_commands.{specs.Findings.{IsFindingNote, address_pointer, code_of, eids_of, entry_of, finding_pointer, nodes_of, other_pointer, port_pointer, subject_of}, specs.Lists.{IsListTold}, specs.Notes.{AreNodesTold, subject_value}, specs.Places.{IsPlaceListTold}};
 
 use crate::lists::{Listed, list_of};
 use crate::notes::{Subject, nodes_value, note_value};

@@ -3,8 +3,7 @@ ghost use Rattle.std.specs.Prelude.{◌≡◌, IfOk};
 ghost use Rattle.json.specs.Value.{value_view};
 ghost use Rattle.net_pointers.specs.Offsets.{IsTextOf};
 ghost use Rattle.serde_json.specs.View.{view};
-ghost use Rattle.json_commands.specs.Findings.{IsFindingNote, IsLintSaid, status_of};
-ghost use Rattle.json_commands.specs.Lists.{IsListTold};
+ghost use Rattle.json_commands.{specs.Findings.{IsFindingNote, IsLintSaid, status_of}, specs.Lists.{IsListTold}};
 ghost use Rattle.command_questions.specs.declared.form.Form.TheVariants.{Json};
 
 use crate::findings::finding_notes;

@@ -5,10 +5,7 @@ ghost use Rattle.net_plan.specs.Finding.{step_value};
 ghost use Rattle.net_pointers.specs.Offsets.{IsTextOf};
 ghost use Rattle.explanation_texts.specs.Explanations.{around};
 ghost use Rattle.serde_json.specs.View.{view};
-ghost use Rattle.json_commands.specs.Lists.{IsListTold};
-ghost use Rattle.json_commands.specs.Obstacles.{AreRelated, IsCausePlaced, IsHopPlaced, IsObstacleNote, IsRunNote, bus_pointer, cause_pointer, eids_of, entry_of, first_fault, hop_pointer, kind_of, nodes_of, rule_of, run_subject, subject_of};
-ghost use Rattle.json_commands.specs.Notes.{AreNodesTold, subject_value};
-ghost use Rattle.json_commands.specs.Places.{IsPlaceListTold};
+ghost use Rattle.json_commands.{specs.Lists.{IsListTold}, specs.Obstacles.{AreRelated, IsCausePlaced, IsHopPlaced, IsObstacleNote, IsRunNote, bus_pointer, cause_pointer, eids_of, entry_of, first_fault, hop_pointer, kind_of, nodes_of, rule_of, run_subject, subject_of}, specs.Notes.{AreNodesTold, subject_value}, specs.Places.{IsPlaceListTold}};
 
 use crate::lists::{Listed, empty_list, list_of, list_of_one};
 use crate::notes::{Subject, nodes_value, note_value};

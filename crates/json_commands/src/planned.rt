@@ -1,14 +1,11 @@
 //! Commands that read a plan alone, and answer in JSON.
-ghost use Rattle.std.specs.Prelude.{◌≡◌, ◌≢◌, IfOk, IfErr};
-ghost use Rattle.std.specs.Cow.{cow_str_bytes};
+ghost use Rattle.std.{specs.Prelude.{◌≡◌, ◌≢◌, IfOk, IfErr}, specs.Cow.{cow_str_bytes}};
 ghost use Rattle.serde_json.specs.View.{view};
 ghost use Rattle.net_plan.specs.Stream.{HasRoom};
+ghost use Rattle.command_answers.{specs.Answers.{stream}, specs.Told.{ConcludesOnOutput}, specs.UnreadInputs.{IsTextOf}};
+ghost use Rattle.json_commands.specs.Planned.{IsPlanSaid, IsSaidOfSource, SaysInJson, command_of, form_of};
 ghost use Rattle.command_answers.specs.declared.refused.Refused.TheVariants as refused;
 ghost use Rattle.command_answers.specs.declared.status.Status.TheVariants as status;
-ghost use Rattle.command_answers.specs.Answers.{stream};
-ghost use Rattle.command_answers.specs.Told.{ConcludesOnOutput};
-ghost use Rattle.command_answers.specs.UnreadInputs.{IsTextOf};
-ghost use Rattle.json_commands.specs.Planned.{IsPlanSaid, IsSaidOfSource, SaysInJson, command_of, form_of};
 
 use crate::explained::explained_plan;
 use crate::faults::faults_of_plan;

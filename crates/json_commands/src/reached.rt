@@ -1,9 +1,8 @@
 //! `reach`: who reaches whom in a checked plan, and by how many hops.
 ghost use Rattle.std.specs.Prelude.{◌≡◌, IfOk, ⊤};
 ghost use Rattle.serde_json.specs.View.{view};
+ghost use Rattle.json_commands.{specs.Lists.{IsListTold}, specs.Reached.{IsReachSaid, pair_data, reached_data}};
 ghost use Rattle.command_answers.specs.declared.status.Status.TheVariants as status;
-ghost use Rattle.json_commands.specs.Lists.{IsListTold};
-ghost use Rattle.json_commands.specs.Reached.{IsReachSaid, pair_data, reached_data};
 
 use crate::lists::{Listed, empty_list, list_of};
 use crate::notes::node_value;

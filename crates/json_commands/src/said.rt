@@ -1,6 +1,5 @@
 //! What the commands answer: a JSON value, in a line of its own.
-ghost use Rattle.std.specs.Prelude.{◌≡◌, IfOk, string_bytes};
-ghost use Rattle.std.specs.Cow.{cow_str_bytes};
+ghost use Rattle.std.{specs.Prelude.{◌≡◌, IfOk, string_bytes}, specs.Cow.{cow_str_bytes}};
 ghost use Rattle.serde_json.specs.View.{view};
 ghost use Rattle.json_commands.specs.Reports.{IsLineOf};
 

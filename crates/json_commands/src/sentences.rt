@@ -1,6 +1,5 @@
 //! Sentences of a text, as JSON.
-ghost use Rattle.std.specs.Prelude.{◌≡◌, IfOk, map};
-ghost use Rattle.std.specs.Str.Lines.{lines};
+ghost use Rattle.std.{specs.Prelude.{◌≡◌, IfOk, map}, specs.Str.Lines.{lines}};
 ghost use Rattle.serde_json.specs.View.{view};
 ghost use Rattle.json_commands.specs.Notes.{IsMessageOf, lines_data, strings_data};
 

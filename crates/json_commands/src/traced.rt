@@ -3,10 +3,9 @@ ghost use Rattle.std.specs.Prelude.{◌≡◌, IfOk};
 ghost use Rattle.json.specs.Value.{value_view};
 ghost use Rattle.net_pointers.specs.Offsets.{IsTextOf};
 ghost use Rattle.serde_json.specs.View.{view};
-ghost use Rattle.command_answers.specs.declared.status.Status.TheVariants as status;
 ghost use Rattle.command_questions.specs.declared.form.Form.TheVariants.{Json};
-ghost use Rattle.json_commands.specs.Lists.{IsListTold};
-ghost use Rattle.json_commands.specs.Traced.{IsStepTold, IsTraceSaid, IsWayTold};
+ghost use Rattle.json_commands.{specs.Lists.{IsListTold}, specs.Traced.{IsStepTold, IsTraceSaid, IsWayTold}};
+ghost use Rattle.command_answers.specs.declared.status.Status.TheVariants as status;
 
 use crate::lists::{Listed, list_of};
 use crate::obstacles::hop_pointer;

@@ -4,8 +4,8 @@ ghost use Rattle.json.specs.Value.{value_view};
 ghost use Rattle.net_plan.specs.Finding.{step_value};
 ghost use Rattle.net_pointers.specs.Offsets.{IsTextOf};
 ghost use Rattle.serde_json.specs.View.{view};
-ghost use Rattle.command_answers.specs.declared.status.Status.TheVariants as status;
 ghost use Rattle.json_commands.specs.Unread.{AreKeysPlaced, AreNowhere, ArePlaces, ArePointersPlaced, AreTroublePlaces, AreUnreadPlaces, IsInputUnreadSaid, IsUnknownSaid, IsUnreadSaid, code_of, entry_pointer, offset_of, range_pointer};
+ghost use Rattle.command_answers.specs.declared.status.Status.TheVariants as status;
 
 use crate::lists::{empty_list, list_of_one};
 use crate::notes::{Subject, note_value};

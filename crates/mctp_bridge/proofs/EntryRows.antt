@@ -1,13 +1,8 @@
 -- The entries of the rows up to an index, and of one row more.
-use Rattle.std.proofs.Common.{◌≡◌, ℕ, ◌+◌, ◌<◌, ◌≤◌, List, [], ◌∷◌, ◌++◌, length, get_or, take, ap, ◌∙◌, arith}
-use Rattle.std.specs.List.{flat_map, zip}
-use Rattle.std.proofs.lemmas.List.{take_more, take_all, append-nil}
-use Rattle.std.proofs.lemmas.List.Concat.{flat_map-append}
-use Rattle.std.proofs.lemmas.Slice.Zip.{length-zip, get_or-zip}
+use Rattle.std.{proofs.Common.{◌≡◌, ℕ, ◌+◌, ◌<◌, ◌≤◌, List, [], ◌∷◌, ◌++◌, length, get_or, take, ap, ◌∙◌, arith}, specs.List.{flat_map, zip}, proofs.lemmas.List.{take_more, take_all, append-nil}, proofs.lemmas.List.Concat.{flat_map-append}, proofs.lemmas.Slice.Zip.{length-zip, get_or-zip}}
 use Rattle.mctp_control.specs.RouteEntries.{EntryValue}
 use Rattle.mctp_routing.specs.declared.row.TableRow.{TableRow}
-use Rattle.mctp_bridge.specs.declared.routing_entries.Neighbor.{Neighbor}
-use Rattle.mctp_bridge.specs.Entries.{row_entries, table_entries}
+use Rattle.mctp_bridge.{specs.declared.routing_entries.Neighbor.{Neighbor}, specs.Entries.{row_entries, table_entries}}
 
 -- the entries of the rows before an index
 abbrev pub entries_before : List TableRow → List Neighbor → ℕ → List EntryValue

@@ -1,18 +1,8 @@
 -- An entry reader that is fed a bridge's answers.
-use Rattle.std.proofs.Common.{◌≡◌, ◌≢◌, ℕ, ◌+◌, ◌<◌, Bool, true, List, [], ◌++◌, length, Option, None, Some, sym, ap, subst, ◌∙◌, inl, inr, arith, length-append, length-take}
-use Rattle.std.specs.Prelude.{Result, Ok, option_map, if◌then◌else◌, MatchOption, is_some}
-use Rattle.std.proofs.lemmas.Bool.{cases_lt, false≢true}
-use Rattle.mctp_control.specs.Headers.{HeaderValue}
-use Rattle.mctp_control.specs.RouteEntries.{EntryValue}
-use Rattle.mctp_control.specs.Responses.{EntriesTold, ResponseValue}
-use Rattle.mctp_control.specs.ResponseLaws.{one_response}
-use Rattle.mctp_bridge.specs.declared.read_fault.ReadFault.{ReadFault}
-use Rattle.mctp_bridge.specs.declared.read_fault.ReadFault.TheVariants.{NotAsked}
-use Rattle.mctp_bridge.specs.Parts.{Tells}
+use Rattle.std.{proofs.Common.{◌≡◌, ◌≢◌, ℕ, ◌+◌, ◌<◌, Bool, true, List, [], ◌++◌, length, Option, None, Some, sym, ap, subst, ◌∙◌, inl, inr, arith, length-append, length-take}, specs.Prelude.{Result, Ok, option_map, if◌then◌else◌, MatchOption, is_some}, proofs.lemmas.Bool.{cases_lt, false≢true}}
+use Rattle.mctp_control.{specs.Headers.{HeaderValue}, specs.RouteEntries.{EntryValue}, specs.Responses.{EntriesTold, ResponseValue}, specs.ResponseLaws.{one_response}}
+use Rattle.mctp_bridge.{specs.declared.read_fault.ReadFault.{ReadFault}, specs.declared.read_fault.ReadFault.TheVariants.{NotAsked}, specs.Parts.{Tells}, specs.Readers.{ReaderState, Asks, AsksNothing, Takes, TakesPart, Ignores, asking, handle_after, is_last, state_after}, specs.Reads.{Exchange, IsTold, IsTablePart, Reads, due_after, collected, IsReadUpTo, HasReadUpTo, IsTaken}, proofs.Readings.{some_entry, next_last, ends_within, follows, reads_more, reading_collects, due_pushed, collected_pushed, reads_pushed}}
 use Rattle.mctp_transport.specs.First.{First}
-use Rattle.mctp_bridge.specs.Readers.{ReaderState, Asks, AsksNothing, Takes, TakesPart, Ignores, asking, handle_after, is_last, state_after}
-use Rattle.mctp_bridge.specs.Reads.{Exchange, IsTold, IsTablePart, Reads, due_after, collected, IsReadUpTo, HasReadUpTo, IsTaken}
-use Rattle.mctp_bridge.proofs.Readings.{some_entry, next_last, ends_within, follows, reads_more, reading_collects, due_pushed, collected_pushed, reads_pushed}
 
 asked_by : (old new : ReaderState) (xs : List Exchange) (id : ℕ) (request : Option (List ℕ)) (handle : Option ℕ) → HasReadUpTo old xs → handle ≡ due_after xs
     → MatchOption handle (AsksNothing old request new) (λ handle. (request ≡ Some (asking id handle)) × (new ≡ record old { waiting = Some id }))

@@ -1,14 +1,7 @@
 -- What a reading of a table has collected.
-use Rattle.std.proofs.Common.{◌≡◌, ℕ, ◌+◌, ◌<◌, ◌≤◌, false, List, [], ◌∷◌, ◌++◌, length, get_or, take, drop, Option, None, Some, refl, sym, ap, subst, ◌∙◌, inl, inr, append_assoc, arith, length-drop}
-use Rattle.std.proofs.Math.Seq.{drop-cons}
-use Rattle.std.proofs.lemmas.Bool.{cases_lt}
-use Rattle.std.proofs.lemmas.Bool.Decides.{eqb_tells}
-use Rattle.std.proofs.lemmas.List.{take_all, append-nil, take-append-drop, take-take, drop-take}
-use Rattle.mctp_control.specs.RouteEntries.{EntryValue}
-use Rattle.mctp_control.specs.EntryLists.{entries_bytes}
-use Rattle.mctp_control.specs.Replies.{handle_after as next_handle}
-use Rattle.mctp_bridge.specs.Readers.{handle_after}
-use Rattle.mctp_bridge.specs.Reads.{Exchange, AreShort, IsTablePart, ReadsFrom, Reads, due_from, due_after, collected, IsReadUpTo}
+use Rattle.std.{proofs.Common.{◌≡◌, ℕ, ◌+◌, ◌<◌, ◌≤◌, false, List, [], ◌∷◌, ◌++◌, length, get_or, take, drop, Option, None, Some, refl, sym, ap, subst, ◌∙◌, inl, inr, append_assoc, arith, length-drop}, proofs.Math.Seq.{drop-cons}, proofs.lemmas.Bool.{cases_lt}, proofs.lemmas.Bool.Decides.{eqb_tells}, proofs.lemmas.List.{take_all, append-nil, take-append-drop, take-take, drop-take}}
+use Rattle.mctp_control.{specs.RouteEntries.{EntryValue}, specs.EntryLists.{entries_bytes}, specs.Replies.{handle_after as next_handle}}
+use Rattle.mctp_bridge.{specs.Readers.{handle_after}, specs.Reads.{Exchange, AreShort, IsTablePart, ReadsFrom, Reads, due_from, due_after, collected, IsReadUpTo}}
 
 take_two : (h n : ℕ) (xs : List EntryValue) → take (h + n) xs ≡ take h xs ++ take n (drop h xs)
 take_two h n xs =

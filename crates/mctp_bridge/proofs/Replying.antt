@@ -1,23 +1,8 @@
 -- What a bridge replies to a reader's request.
-use Rattle.std.proofs.Common.{◌≡◌, ℕ, ◌+◌, ◌%◌, ◌<◌, ◌≤◌, false, List, ◌∷◌, length, take, drop, Option, refl, sym, ap, subst, ◌∙◌, inl, inr, arith}
-use Rattle.std.specs.Prelude.{◌⊎◌, IsSomeAnd}
-use Rattle.std.specs.List.{AllByRecursion}
-use Rattle.std.proofs.lemmas.Bool.{cases_lt}
-use Rattle.std.proofs.lemmas.List.{length-take-le}
-use Rattle.std.proofs.lemmas.List.Elements.{All-from_recursion, recursion_from_All, All-take, All-drop}
-use Rattle.mctp_control.specs.Headers.{HeaderValue}
-use Rattle.mctp_control.specs.RouteEntries.{EntryValue, IsEntry}
-use Rattle.mctp_control.specs.EntryLists.{entries_bytes}
-use Rattle.mctp_control.specs.Requests.{RequestValue, GetsEntries, SpellsRequest}
-use Rattle.mctp_control.specs.Devices.{DeviceValue}
-use Rattle.mctp_control.specs.Replies.{IsAsked, Supports, Replies, IsMost, reply_bytes, handle_after as next_handle}
-use Rattle.mctp_transport.specs.declared.device_kind.DeviceKind.{DeviceKind}
-use Rattle.mctp_transport.specs.declared.device_kind.DeviceKind.TheVariants.{Bridge}
-use Rattle.mctp_bridge.specs.Parts.{Tells}
-use Rattle.mctp_bridge.specs.Readers.{ReaderState, asking}
-use Rattle.mctp_bridge.specs.Reads.{Exchange, AreShort, IsTold, IsTablePart, Reads, HasAsked, TakesAsAnswer, IsReadUpTo, collected}
-use Rattle.mctp_bridge.proofs.Readings.{reading_collects, next_before, next_last, ends_within}
-use Rattle.mctp_bridge.proofs.ReaderLaws.{answer_taken}
+use Rattle.std.{proofs.Common.{◌≡◌, ℕ, ◌+◌, ◌%◌, ◌<◌, ◌≤◌, false, List, ◌∷◌, length, take, drop, Option, refl, sym, ap, subst, ◌∙◌, inl, inr, arith}, specs.Prelude.{◌⊎◌, IsSomeAnd}, specs.List.{AllByRecursion}, proofs.lemmas.Bool.{cases_lt}, proofs.lemmas.List.{length-take-le}, proofs.lemmas.List.Elements.{All-from_recursion, recursion_from_All, All-take, All-drop}}
+use Rattle.mctp_control.{specs.Headers.{HeaderValue}, specs.RouteEntries.{EntryValue, IsEntry}, specs.EntryLists.{entries_bytes}, specs.Requests.{RequestValue, GetsEntries, SpellsRequest}, specs.Devices.{DeviceValue}, specs.Replies.{IsAsked, Supports, Replies, IsMost, reply_bytes, handle_after as next_handle}}
+use Rattle.mctp_transport.{specs.declared.device_kind.DeviceKind.{DeviceKind}, specs.declared.device_kind.DeviceKind.TheVariants.{Bridge}}
+use Rattle.mctp_bridge.{specs.Parts.{Tells}, specs.Readers.{ReaderState, asking}, specs.Reads.{Exchange, AreShort, IsTold, IsTablePart, Reads, HasAsked, TakesAsAnswer, IsReadUpTo, collected}, proofs.Readings.{reading_collects, next_before, next_last, ends_within}, proofs.ReaderLaws.{answer_taken}}
 
 -- the header of the request, and that of its reply
 abbrev pub header : ℕ → HeaderValue

@@ -1,15 +1,11 @@
 -- The routing table entries of a bridge's rows (DSP0236, Get Routing Table Entries; how rows are cut is this project's
 -- own).
-use Rattle.std.specs.Prelude.{ℕ, ◌+◌, ◌-◌, Bool, List, [], ◌∷◌, false, if◌then◌else◌, ◌==◌, ◌&&◌, nat_lt}
-use Rattle.std.specs.List.{flat_map, zip}
-use Rattle.mctp_control.specs.RouteEntries.{EntryValue}
-use Rattle.mctp_control.specs.Codes.{kind_number}
-use Rattle.mctp_control.specs.declared.route_entry.EntryKind.{EntryKind}
-use Rattle.mctp_control.specs.declared.route_entry.EntryKind.TheVariants as kind
+use Rattle.std.{specs.Prelude.{ℕ, ◌+◌, ◌-◌, Bool, List, [], ◌∷◌, false, if◌then◌else◌, ◌==◌, ◌&&◌, nat_lt}, specs.List.{flat_map, zip}}
+use Rattle.mctp_control.{specs.RouteEntries.{EntryValue}, specs.Codes.{kind_number}, specs.declared.route_entry.EntryKind.{EntryKind}}
 use Rattle.mctp_routing.specs.declared.row.TableRow.{TableRow}
-use Rattle.mctp_transport.specs.declared.device_kind.DeviceKind.{DeviceKind}
-use Rattle.mctp_transport.specs.declared.device_kind.DeviceKind.TheVariants.{Bridge, Endpoint}
+use Rattle.mctp_transport.{specs.declared.device_kind.DeviceKind.{DeviceKind}, specs.declared.device_kind.DeviceKind.TheVariants.{Bridge, Endpoint}}
 use Rattle.mctp_bridge.specs.declared.routing_entries.Neighbor.{Neighbor}
+use Rattle.mctp_control.specs.declared.route_entry.EntryKind.TheVariants as kind
 
 -- the entry of so many EIDs from the first on, along the row's port to the neighbor
 abbrev pub run_entry : TableRow → Neighbor → (first size : ℕ) → EntryKind → EntryValue

@@ -1,8 +1,6 @@
 -- What an answer to Get Routing Table Entries brings (DSP0236).
 use Rattle.std.specs.Prelude.{ℕ, List}
-use Rattle.mctp_control.specs.Headers.{HeaderValue}
-use Rattle.mctp_control.specs.RouteEntries.{EntryValue}
-use Rattle.mctp_control.specs.Responses.{EntriesTold, SpellsResponse}
+use Rattle.mctp_control.{specs.Headers.{HeaderValue}, specs.RouteEntries.{EntryValue}, specs.Responses.{EntriesTold, SpellsResponse}}
 
 -- the bytes are a success answer under this header, with this next handle and these entries
 abbrev pub Tells : HeaderValue → (next : ℕ) → List EntryValue → List ℕ → Type 0

@@ -1,15 +1,8 @@
 -- An entry reader is fed the answers to its requests, one by one.
-use Rattle.std.specs.Prelude.{◌≡◌, ◌≢◌, ℕ, ◌+◌, ◌<◌, Bool, true, false, List, [], ◌++◌, length, map, Option, Some}
-use Rattle.std.specs.Prelude.{None, option_map, Result, Ok, Err, MatchOption, ◌==◌, if◌then◌else◌, vec_capacity}
+use Rattle.std.specs.Prelude.{◌≡◌, ◌≢◌, ℕ, ◌+◌, ◌<◌, Bool, true, false, List, [], ◌++◌, length, map, Option, Some, None, option_map, Result, Ok, Err, MatchOption, ◌==◌, if◌then◌else◌, vec_capacity}
 use Rattle.mctp_transport.specs.First.{First}
-use Rattle.mctp_control.specs.Headers.{HeaderValue}
-use Rattle.mctp_control.specs.RouteEntries.{EntryValue, entry_value}
-use Rattle.mctp_control.specs.Requests.{request_bytes, GetsEntries}
-use Rattle.mctp_bridge.specs.Parts.{Tells, TellsNothing}
-use Rattle.mctp_bridge.specs.declared.entry_reader.EntryReader.{EntryReader}
-use Rattle.mctp_bridge.specs.declared.read_fault.ReadFault.{ReadFault}
-use Rattle.mctp_bridge.specs.declared.read_fault.ReadFault.TheVariants.{NoSuccess, NotAsked, NoEntry}
-use Rattle.mctp_bridge.specs.declared.read_fault.ReadFault.TheVariants.{TooMany, FailedBefore}
+use Rattle.mctp_control.{specs.Headers.{HeaderValue}, specs.RouteEntries.{EntryValue, entry_value}, specs.Requests.{request_bytes, GetsEntries}}
+use Rattle.mctp_bridge.{specs.Parts.{Tells, TellsNothing}, specs.declared.entry_reader.EntryReader.{EntryReader}, specs.declared.read_fault.ReadFault.{ReadFault}, specs.declared.read_fault.ReadFault.TheVariants.{NoSuccess, NotAsked, NoEntry, TooMany, FailedBefore}}
 
 -- What a reader holds: the entries that it took, the handle that it asks for next (none once the table is complete),
 -- the instance ID of its request without an answer, whether it has failed, and how many answers it has taken.

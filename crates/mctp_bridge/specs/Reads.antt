@@ -1,13 +1,8 @@
 -- Reading a bridge's routing table: a list of requests and answers, instance IDs left aside.
-use Rattle.std.specs.Prelude.{◌≡◌, ◌⊎◌, ℕ, ◌+◌, ◌<◌, ◌≤◌, Bool, true, false, List, [], ◌∷◌, ◌++◌, length}
-use Rattle.std.specs.Prelude.{take, drop, All, Option, Some, None, IsSomeAnd, option_map, Result, Ok}
-use Rattle.std.specs.List.{flat_map, AllByRecursion}
-use Rattle.mctp_control.specs.RouteEntries.{EntryValue, IsEntry}
-use Rattle.mctp_control.specs.Devices.{DeviceValue}
-use Rattle.mctp_control.specs.Replies.{IsMost, Replies, handle_after as next_handle}
+use Rattle.std.{specs.Prelude.{◌≡◌, ◌⊎◌, ℕ, ◌+◌, ◌<◌, ◌≤◌, Bool, true, false, List, [], ◌∷◌, ◌++◌, length, take, drop, All, Option, Some, None, IsSomeAnd, option_map, Result, Ok}, specs.List.{flat_map, AllByRecursion}}
+use Rattle.mctp_control.{specs.RouteEntries.{EntryValue, IsEntry}, specs.Devices.{DeviceValue}, specs.Replies.{IsMost, Replies, handle_after as next_handle}}
 use Rattle.mctp_transport.specs.declared.device_kind.DeviceKind.TheVariants.{Bridge}
-use Rattle.mctp_bridge.specs.Readers.{ReaderState, handle_after, is_last, asking, Asks, Takes}
-use Rattle.mctp_bridge.specs.declared.read_fault.ReadFault.{ReadFault}
+use Rattle.mctp_bridge.{specs.Readers.{ReaderState, handle_after, is_last, asking, Asks, Takes}, specs.declared.read_fault.ReadFault.{ReadFault}}
 
 -- a request's handle, and the next handle and the entries of its answer
 pub record Exchange : Type 0 where

@@ -39,8 +39,7 @@ pub struct EntryReader {
 
 impl EntryReader {
     ghost use Rattle.std.specs.Prelude.{◌≡◌, map, IfOk, false, Some};
-    ghost use Rattle.mctp_control.specs.RouteEntries.{entry_value};
-    ghost use Rattle.mctp_control.specs.EntriesValue.{entries_of};
+    ghost use Rattle.mctp_control.{specs.RouteEntries.{entry_value}, specs.EntriesValue.{entries_of}};
     ghost use Rattle.mctp_bridge.specs.Readers.{reader_state, reader_memory, new_reader, Asks, Takes, TakesAnswer, TakesPart, Fails};
 
     /// A reader that has asked for nothing yet. It reserves room for 247 entries.

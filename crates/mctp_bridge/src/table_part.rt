@@ -1,7 +1,6 @@
 //! The part of a routing table that one answer brings.
 ghost use Rattle.std.specs.Prelude.{◌≡◌, ◌+◌, ◌≤◌, ◌++◌, length, vec_len, vec_capacity, MatchOption};
-ghost use Rattle.mctp_control.specs.EntriesValue.{entries_of};
-ghost use Rattle.mctp_control.specs.Headers.{header_value};
+ghost use Rattle.mctp_control.{specs.EntriesValue.{entries_of}, specs.Headers.{header_value}};
 ghost use Rattle.mctp_bridge.specs.Parts.{Tells, TellsNothing};
 
 use mctp_control::{ControlAnswer, ControlHeader, Entries, Response, RouteEntry};

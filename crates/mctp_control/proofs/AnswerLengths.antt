@@ -1,7 +1,6 @@
 -- How many bytes an answer has.
 use Rattle.std.proofs.Common.{◌≤◌, length, arith}
-use Rattle.mctp_control.specs.Responses.{AnswerValue, EidSet, EidTold, PoolTold, EntriesTold, Failed, IsAnswer, answer_bytes}
-use Rattle.mctp_control.specs.EntryLists.{entries_bytes}
+use Rattle.mctp_control.{specs.Responses.{AnswerValue, EidSet, EidTold, PoolTold, EntriesTold, Failed, IsAnswer, answer_bytes}, specs.EntryLists.{entries_bytes}}
 
 -- at most 62
 pub fits : (m : AnswerValue) → IsAnswer m → length (answer_bytes m) ≤ 62

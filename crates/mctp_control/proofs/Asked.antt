@@ -1,11 +1,6 @@
 -- A body that asks for a response, of a known command and the right length, is a request.
-use Rattle.std.proofs.Common.{◌≡◌, ℕ, suc, ◌+◌, ◌-◌, ◌*◌, ◌/◌, ◌%◌, ◌<◌, ◌≤◌, true, false, List, [], ◌∷◌, length, slice_index, refl, sym, subst, arith}
-use Rattle.std.proofs.Math.Decide.{dec_le}
-use Rattle.mctp_control.specs.Headers.{HeaderValue, header_byte}
-use Rattle.mctp_control.specs.Requests.{CommandValue, SetsEid, GetsEid, AllocatesEids, GetsEntries, RequestValue, IsCommand, command_bytes, SpellsRequest}
-use Rattle.mctp_control.specs.Refusals.{IsUnknown, IsCommandLength, HasRequestLength}
-use Rattle.mctp_control.specs.Replies.{IsAsked, IsBytes}
-use Rattle.mctp_control.proofs.Deciding.{dec_then, dec_same}
+use Rattle.std.{proofs.Common.{◌≡◌, ℕ, suc, ◌+◌, ◌-◌, ◌*◌, ◌/◌, ◌%◌, ◌<◌, ◌≤◌, true, false, List, [], ◌∷◌, length, slice_index, refl, sym, subst, arith}, proofs.Math.Decide.{dec_le}}
+use Rattle.mctp_control.{specs.Headers.{HeaderValue, header_byte}, specs.Requests.{CommandValue, SetsEid, GetsEid, AllocatesEids, GetsEntries, RequestValue, IsCommand, command_bytes, SpellsRequest}, specs.Refusals.{IsUnknown, IsCommandLength, HasRequestLength}, specs.Replies.{IsAsked, IsBytes}, proofs.Deciding.{dec_then, dec_same}}
 
 pub dec_asked : (body : List ℕ) → Dec (IsAsked body)
 dec_asked body = by (dec_le 3 (length body)) (dec_same (slice_index body 0) 0) (dec_same (slice_index body 1 / 64) 2)

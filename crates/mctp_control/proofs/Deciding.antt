@@ -1,11 +1,7 @@
 -- Which case of a reply applies.
-use Rattle.std.proofs.Common.{◌≡◌, ◌⊎◌, ℕ, ◌≤◌, Option, Some, None, inl, inr, arith}
-use Rattle.std.proofs.Math.Decide.{dec_le}
-use Rattle.mctp_transport.specs.PacketValues.{IsAssignable}
-use Rattle.mctp_control.specs.Refusals.{IsUnknown}
-use Rattle.mctp_control.specs.Devices.{EidHeld, PoolHeld, MayGiveEid, MayGivePool}
-use Rattle.mctp_control.specs.Replies.{Supports}
-use Rattle.mctp_transport.specs.declared.device_kind.DeviceKind.{DeviceKind}
+use Rattle.std.{proofs.Common.{◌≡◌, ◌⊎◌, ℕ, ◌≤◌, Option, Some, None, inl, inr, arith}, proofs.Math.Decide.{dec_le}}
+use Rattle.mctp_transport.{specs.PacketValues.{IsAssignable}, specs.declared.device_kind.DeviceKind.{DeviceKind}}
+use Rattle.mctp_control.{specs.Refusals.{IsUnknown}, specs.Devices.{EidHeld, PoolHeld, MayGiveEid, MayGivePool}, specs.Replies.{Supports}}
 use Rattle.mctp_transport.specs.declared.device_kind.DeviceKind.TheVariants as kind
 
 -- both, either, the opposite of what is decided

@@ -1,11 +1,6 @@
 -- As many entries as fit.
-use Rattle.std.proofs.Common.{◌≡◌, ◌≢◌, ℕ, ◌+◌, ◌-◌, ◌<◌, ◌≤◌, ◌==◌, if◌then◌else◌, List, ◌∷◌, length, take, drop, refl, ◌∙◌, length-take, length-drop, arith}
-use Rattle.std.proofs.lemmas.List.{take-map, drop-map, take_all, length-take-le}
-use Rattle.mctp_control.specs.RouteEntries.{entry_value}
-use Rattle.mctp_control.specs.EntryLists.{entries_bytes, values_of}
-use Rattle.mctp_control.specs.Replies.{IsMost, EntriesReplies}
-use Rattle.mctp_control.specs.declared.route_entry.RouteEntry.{RouteEntry}
-use Rattle.mctp_control.proofs.EntryReading.{six_each, length_values}
+use Rattle.std.{proofs.Common.{◌≡◌, ◌≢◌, ℕ, ◌+◌, ◌-◌, ◌<◌, ◌≤◌, ◌==◌, if◌then◌else◌, List, ◌∷◌, length, take, drop, refl, ◌∙◌, length-take, length-drop, arith}, proofs.lemmas.List.{take-map, drop-map, take_all, length-take-le}}
+use Rattle.mctp_control.{specs.RouteEntries.{entry_value}, specs.EntryLists.{entries_bytes, values_of}, specs.Replies.{IsMost, EntriesReplies}, specs.declared.route_entry.RouteEntry.{RouteEntry}, proofs.EntryReading.{six_each, length_values}}
 
 pub is_most : (es : List RouteEntry) (n : ℕ) → n ≤ length es → length (entries_bytes (values_of (take n es))) ≤ 58
     → (n < length es → 58 < length (entries_bytes (values_of (take (n + 1) es)))) → IsMost (values_of es) n

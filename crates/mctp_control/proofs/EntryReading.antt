@@ -1,11 +1,6 @@
 -- Reading entries one after another.
-use Rattle.std.proofs.Common.{◌≡◌, ℕ, suc, ◌+◌, ◌*◌, ◌<◌, ◌≤◌, List, [], ◌∷◌, ◌++◌, length, refl, sym, ◌∙◌, ap, append_assoc, append-nil, length-append, arith}
-use Rattle.std.specs.List.{AllByRecursion}
-use Rattle.std.proofs.lemmas.List.{map-append}
-use Rattle.std.proofs.lemmas.Grind.{flat_map-append}
-use Rattle.mctp_control.specs.RouteEntries.{EntryValue, IsEntry, entry_value, entry_bytes}
-use Rattle.mctp_control.specs.EntryLists.{SpellsEntries, entries_bytes, values_of}
-use Rattle.mctp_control.specs.declared.route_entry.RouteEntry.{RouteEntry}
+use Rattle.std.{proofs.Common.{◌≡◌, ℕ, suc, ◌+◌, ◌*◌, ◌<◌, ◌≤◌, List, [], ◌∷◌, ◌++◌, length, refl, sym, ◌∙◌, ap, append_assoc, append-nil, length-append, arith}, specs.List.{AllByRecursion}, proofs.lemmas.List.{map-append}, proofs.lemmas.Grind.{flat_map-append}}
+use Rattle.mctp_control.{specs.RouteEntries.{EntryValue, IsEntry, entry_value, entry_bytes}, specs.EntryLists.{SpellsEntries, entries_bytes, values_of}, specs.declared.route_entry.RouteEntry.{RouteEntry}}
 
 -- So many of count entries are read off the bytes, and the rest is left.
 pub record HasRead (bytes : List ℕ) (count i : ℕ) (items : List RouteEntry) (rest : List ℕ) : Type 0 where

@@ -1,10 +1,6 @@
 -- The entries so far, and one more.
-use Rattle.std.proofs.Common.{◌≡◌, ℕ, ◌+◌, ◌<◌, ◌≤◌, List, [], ◌∷◌, ◌++◌, length, get_or, take, drop, ap, sym, ◌∙◌, append-nil, length-append, arith}
-use Rattle.std.proofs.lemmas.List.{map-append, take_more, take-append-drop}
-use Rattle.std.proofs.lemmas.Grind.{flat_map-append}
-use Rattle.mctp_control.specs.RouteEntries.{entry_value, entry_bytes}
-use Rattle.mctp_control.specs.EntryLists.{entries_bytes, values_of}
-use Rattle.mctp_control.specs.declared.route_entry.RouteEntry.{RouteEntry}
+use Rattle.std.{proofs.Common.{◌≡◌, ℕ, ◌+◌, ◌<◌, ◌≤◌, List, [], ◌∷◌, ◌++◌, length, get_or, take, drop, ap, sym, ◌∙◌, append-nil, length-append, arith}, proofs.lemmas.List.{map-append, take_more, take-append-drop}, proofs.lemmas.Grind.{flat_map-append}}
+use Rattle.mctp_control.{specs.RouteEntries.{entry_value, entry_bytes}, specs.EntryLists.{entries_bytes, values_of}, specs.declared.route_entry.RouteEntry.{RouteEntry}}
 
 -- the bytes of one entry more
 pub bytes_more : (es : List RouteEntry) (i : ℕ) (e : RouteEntry) → i < length es → e ≡ get_or es i e

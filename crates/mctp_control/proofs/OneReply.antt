@@ -1,16 +1,7 @@
 -- Two replies of one device to one body are the same.
-use Rattle.std.proofs.Common.{◌≡◌, ◌⊎◌, ℕ, zero, suc, ◌+◌, ◌<◌, ◌≤◌, Option, Some, slice_index, List, [], ◌∷◌, length, take, drop, inl, inr, sym, ◌∙◌, ap, length-append, arith}
-use Rattle.std.proofs.Math.Decide.{dec_le, dec_lt}
+use Rattle.std.{proofs.Common.{◌≡◌, ◌⊎◌, ℕ, zero, suc, ◌+◌, ◌<◌, ◌≤◌, Option, Some, slice_index, List, [], ◌∷◌, length, take, drop, inl, inr, sym, ◌∙◌, ap, length-append, arith}, proofs.Math.Decide.{dec_le, dec_lt}}
 use Rattle.mctp_transport.specs.PacketValues.{IsAssignable}
-use Rattle.mctp_control.specs.Ranges.{IsAssignableRange}
-use Rattle.mctp_control.specs.RouteEntries.{EntryValue, entry_bytes}
-use Rattle.mctp_control.specs.EntryLists.{entries_bytes}
-use Rattle.mctp_control.specs.Requests.{CommandValue, SetsEid, GetsEid, AllocatesEids, GetsEntries}
-use Rattle.mctp_control.specs.Devices.{DeviceValue, MayGiveEid, MayGivePool}
-use Rattle.mctp_control.specs.Replies.{SetReplies, AllocateReplies, IsMost, handle_after, EntriesReplies, CommandReplies, IsAsked, IsBytes, HasOneReply, Supports, reply_bytes}
-use Rattle.mctp_control.specs.Refusals.{HasRequestLength}
-use Rattle.mctp_control.proofs.Asked.{dec_asked, dec_length, request_of}
-use Rattle.mctp_control.proofs.Deciding.{dec_both, dec_same, dec_assignable, dec_may_eid, dec_may_pool, dec_supports, supported_is_known}
+use Rattle.mctp_control.{specs.Ranges.{IsAssignableRange}, specs.RouteEntries.{EntryValue, entry_bytes}, specs.EntryLists.{entries_bytes}, specs.Requests.{CommandValue, SetsEid, GetsEid, AllocatesEids, GetsEntries}, specs.Devices.{DeviceValue, MayGiveEid, MayGivePool}, specs.Replies.{SetReplies, AllocateReplies, IsMost, handle_after, EntriesReplies, CommandReplies, IsAsked, IsBytes, HasOneReply, Supports, reply_bytes}, specs.Refusals.{HasRequestLength}, proofs.Asked.{dec_asked, dec_length, request_of}, proofs.Deciding.{dec_both, dec_same, dec_assignable, dec_may_eid, dec_may_pool, dec_supports, supported_is_known}}
 
 -- the same content, and the same device afterwards
 pub record SameReply (c e : List ℕ) (m n : DeviceValue) : Type 0 where

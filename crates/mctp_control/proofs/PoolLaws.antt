@@ -1,7 +1,5 @@
 -- Runs of free EIDs, and marks that are set.
-use Rattle.std.proofs.Common.{◌≡◌, ℕ, zero, suc, ◌+◌, ◌-◌, ◌<◌, ◌≤◌, false, true, slice_index_or, replicate, arith, add-zero, sym, ◌∙◌, inl, inr, Option, IfSome}
-use Rattle.std.proofs.lemmas.Bool.{cases_lt, false≢true}
-use Rattle.std.proofs.lemmas.Option.{IfSome_then}
+use Rattle.std.{proofs.Common.{◌≡◌, ℕ, zero, suc, ◌+◌, ◌-◌, ◌<◌, ◌≤◌, false, true, slice_index_or, replicate, arith, add-zero, sym, ◌∙◌, inl, inr, Option, IfSome}, proofs.lemmas.Bool.{cases_lt, false≢true}, proofs.lemmas.Option.{IfSome_then}}
 use Rattle.mctp_transport.specs.declared.address.Eid.{Eid}
 use Rattle.mctp_control.specs.Pools.{PoolValue, IsFree, IsFreeRun, IsLowestFree, IsLowestRun}
 

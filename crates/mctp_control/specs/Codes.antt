@@ -1,8 +1,7 @@
 -- The codes that users see, and the numbers of an entry's kinds.
 use Rattle.std.specs.Prelude.{ℕ, List, codes}
-use Rattle.mctp_control.specs.declared.control_error.ControlError.{ControlError}
+use Rattle.mctp_control.{specs.declared.control_error.ControlError.{ControlError}, specs.declared.route_entry.EntryKind.{EntryKind}}
 use Rattle.mctp_control.specs.declared.control_error.ControlError.TheVariants as error
-use Rattle.mctp_control.specs.declared.route_entry.EntryKind.{EntryKind}
 use Rattle.mctp_control.specs.declared.route_entry.EntryKind.TheVariants as kind
 
 -- the code that users see

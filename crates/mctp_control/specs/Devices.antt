@@ -1,11 +1,8 @@
 -- What a device holds.
 use Rattle.std.specs.Prelude.{◌≡◌, ℕ, zero, suc, Option, Some, None, IfSome}
-use Rattle.mctp_control.specs.declared.eid_range.EidRange.{EidRange}
+use Rattle.mctp_control.{specs.declared.eid_range.EidRange.{EidRange}, specs.declared.device.HeldEid.{HeldEid}, specs.declared.device.HeldPool.{HeldPool}, specs.declared.device.Device.{Device}}
 use Rattle.mctp_transport.specs.declared.device_kind.DeviceKind.{DeviceKind}
 use Rattle.mctp_transport.specs.declared.device_kind.DeviceKind.TheVariants as kind
-use Rattle.mctp_control.specs.declared.device.HeldEid.{HeldEid}
-use Rattle.mctp_control.specs.declared.device.HeldPool.{HeldPool}
-use Rattle.mctp_control.specs.declared.device.Device.{Device}
 
 -- an EID, and the bus that gave it, if one did
 pub record EidHeld : Type 0 where

@@ -1,6 +1,5 @@
 -- Bits that stand side by side in a byte: from the byte each is known.
-use Rattle.std.specs.Prelude.{◌≡◌, ℕ, ◌<◌, ◌≤◌, ◌+◌, ◌*◌}
-use Rattle.std.proofs.Common.{arith}
+use Rattle.std.{specs.Prelude.{◌≡◌, ℕ, ◌<◌, ◌≤◌, ◌+◌, ◌*◌}, proofs.Common.{arith}}
 
 -- two numbers are the same
 pub record Same2 (a b a' b' : ℕ) : Type 0 where

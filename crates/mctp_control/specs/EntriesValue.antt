@@ -1,8 +1,6 @@
 -- What the entries of one response stand for.
 use Rattle.std.specs.Prelude.{List}
-use Rattle.mctp_control.specs.EntryLists.{values_of}
-use Rattle.mctp_control.specs.RouteEntries.{EntryValue}
-use Rattle.mctp_control.specs.declared.entries.Entries.{Entries}
+use Rattle.mctp_control.{specs.EntryLists.{values_of}, specs.RouteEntries.{EntryValue}, specs.declared.entries.Entries.{Entries}}
 
 abbrev pub entries_of : Entries → List EntryValue
 entries_of e = values_of e.items.items

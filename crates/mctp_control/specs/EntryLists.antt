@@ -1,8 +1,6 @@
 -- Routing table entries one after another.
-use Rattle.std.specs.Prelude.{◌≡◌, ℕ, List, map}
-use Rattle.std.specs.List.{flat_map, AllByRecursion}
-use Rattle.mctp_control.specs.RouteEntries.{EntryValue, IsEntry, entry_value, entry_bytes}
-use Rattle.mctp_control.specs.declared.route_entry.RouteEntry.{RouteEntry}
+use Rattle.std.{specs.Prelude.{◌≡◌, ℕ, List, map}, specs.List.{flat_map, AllByRecursion}}
+use Rattle.mctp_control.{specs.RouteEntries.{EntryValue, IsEntry, entry_value, entry_bytes}, specs.declared.route_entry.RouteEntry.{RouteEntry}}
 
 -- the bytes of the entries, one entry after another
 abbrev pub entries_bytes : List EntryValue → List ℕ

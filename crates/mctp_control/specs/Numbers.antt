@@ -1,18 +1,12 @@
 -- The numbers that operations and statuses have in their bits (DSP0236, the commands of these names).
 use Rattle.std.specs.Prelude.{ℕ}
-use Rattle.mctp_control.specs.declared.operations.SetOperation.{SetOperation}
+use Rattle.mctp_control.{specs.declared.operations.SetOperation.{SetOperation}, specs.declared.operations.AllocateOperation.{AllocateOperation}, specs.declared.statuses.Acceptance.{Acceptance}, specs.declared.statuses.Allocation.{Allocation}, specs.declared.statuses.EndpointType.{EndpointType}, specs.declared.statuses.EidType.{EidType}, specs.declared.command_number.CommandNumber.{CommandNumber}}
 use Rattle.mctp_control.specs.declared.operations.SetOperation.TheVariants as set
-use Rattle.mctp_control.specs.declared.operations.AllocateOperation.{AllocateOperation}
 use Rattle.mctp_control.specs.declared.operations.AllocateOperation.TheVariants as allocate
-use Rattle.mctp_control.specs.declared.statuses.Acceptance.{Acceptance}
 use Rattle.mctp_control.specs.declared.statuses.Acceptance.TheVariants as acceptance
-use Rattle.mctp_control.specs.declared.statuses.Allocation.{Allocation}
 use Rattle.mctp_control.specs.declared.statuses.Allocation.TheVariants as allocation
-use Rattle.mctp_control.specs.declared.statuses.EndpointType.{EndpointType}
 use Rattle.mctp_control.specs.declared.statuses.EndpointType.TheVariants as endpoint
-use Rattle.mctp_control.specs.declared.statuses.EidType.{EidType}
 use Rattle.mctp_control.specs.declared.statuses.EidType.TheVariants as eid
-use Rattle.mctp_control.specs.declared.command_number.CommandNumber.{CommandNumber}
 use Rattle.mctp_control.specs.declared.command_number.CommandNumber.TheVariants as command
 
 -- the operation of Set Endpoint ID

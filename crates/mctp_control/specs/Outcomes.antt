@@ -1,8 +1,6 @@
 -- What a device's private calls answer, as bytes.
 use Rattle.std.specs.Prelude.{ℕ, List, [], ◌∷◌, Result, Ok, Err, drop}
-use Rattle.mctp_control.specs.Responses.{AnswerValue, answer_bytes, answer_value}
-use Rattle.mctp_control.specs.declared.response.CompletionCode.{CompletionCode}
-use Rattle.mctp_control.specs.declared.response.ControlAnswer.{ControlAnswer}
+use Rattle.mctp_control.{specs.Responses.{AnswerValue, answer_bytes, answer_value}, specs.declared.response.CompletionCode.{CompletionCode}, specs.declared.response.ControlAnswer.{ControlAnswer}}
 
 -- the completion code of an answer and the bytes after it, without the command's number
 abbrev pub content_bytes : AnswerValue → List ℕ

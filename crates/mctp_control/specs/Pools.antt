@@ -1,7 +1,6 @@
 -- Pools: a set of EIDs, and the subset that is out.
 use Rattle.std.specs.Prelude.{◌≡◌, ◌≢◌, ◌⊎◌, ◌↔◌, ℕ, ◌+◌, ◌<◌, ◌≤◌, Bool, false, true, List, slice_index_or}
-use Rattle.mctp_control.specs.Ranges.{IsWithin}
-use Rattle.mctp_control.specs.declared.eid_pool.EidPool.{EidPool}
+use Rattle.mctp_control.{specs.Ranges.{IsWithin}, specs.declared.eid_pool.EidPool.{EidPool}}
 
 -- a pool: its EIDs as a range, and a mark at each number that is out
 pub record PoolValue : Type 0 where

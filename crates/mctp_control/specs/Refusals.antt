@@ -1,7 +1,6 @@
 -- Why bytes are no entry, no request and no response: each cause by itself.
 use Rattle.std.specs.Prelude.{◌≡◌, ◌≢◌, ◌⊎◌, ◌<◌, ◌≤◌, ◌+◌, ◌-◌, ◌/◌, ℕ, List, length, drop, slice_index}
-use Rattle.mctp_control.specs.RouteEntries.{EntryValue}
-use Rattle.mctp_control.specs.EntryLists.{SpellsEntries}
+use Rattle.mctp_control.{specs.RouteEntries.{EntryValue}, specs.EntryLists.{SpellsEntries}}
 
 -- fewer bytes than an entry without its address
 abbrev pub IsShortEntry : List ℕ → Type 0

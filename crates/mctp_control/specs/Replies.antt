@@ -1,17 +1,8 @@
 -- What a device replies to a request, and what it holds afterwards (DSP0236, the commands of these names;
 -- this project's own choice where the standard leaves one).
-use Rattle.std.specs.Prelude.{◌≡◌, ◌≢◌, ◌⊎◌, ℕ, ◌+◌, ◌/◌, ◌%◌, ◌<◌, ◌≤◌, ◌==◌, if◌then◌else◌}
-use Rattle.std.specs.Prelude.{List, [], ◌∷◌, length, take, drop, slice_index, Option, Some, None}
-use Rattle.mctp_transport.specs.PacketValues.{IsAssignable}
-use Rattle.mctp_control.specs.Ranges.{IsAssignableRange}
-use Rattle.mctp_control.specs.RouteEntries.{EntryValue}
-use Rattle.mctp_control.specs.EntryLists.{entries_bytes}
-use Rattle.mctp_control.specs.Requests.{CommandValue, SetsEid, GetsEid, AllocatesEids}
-use Rattle.mctp_control.specs.Requests.{GetsEntries, RequestValue, SpellsRequest}
-use Rattle.mctp_control.specs.Refusals.{IsUnknown, HasRequestLength}
-use Rattle.mctp_control.specs.Devices.{DeviceValue, present_eid, present_size, present_first, MayGiveEid}
-use Rattle.mctp_control.specs.Devices.{MayGivePool, endpoint_type, allocation_of, pool_wanted}
-use Rattle.mctp_transport.specs.declared.device_kind.DeviceKind.{DeviceKind}
+use Rattle.std.specs.Prelude.{◌≡◌, ◌≢◌, ◌⊎◌, ℕ, ◌+◌, ◌/◌, ◌%◌, ◌<◌, ◌≤◌, ◌==◌, if◌then◌else◌, List, [], ◌∷◌, length, take, drop, slice_index, Option, Some, None}
+use Rattle.mctp_transport.{specs.PacketValues.{IsAssignable}, specs.declared.device_kind.DeviceKind.{DeviceKind}}
+use Rattle.mctp_control.{specs.Ranges.{IsAssignableRange}, specs.RouteEntries.{EntryValue}, specs.EntryLists.{entries_bytes}, specs.Requests.{CommandValue, SetsEid, GetsEid, AllocatesEids, GetsEntries, RequestValue, SpellsRequest}, specs.Refusals.{IsUnknown, HasRequestLength}, specs.Devices.{DeviceValue, present_eid, present_size, present_first, MayGiveEid, MayGivePool, endpoint_type, allocation_of, pool_wanted}}
 use Rattle.mctp_transport.specs.declared.device_kind.DeviceKind.TheVariants as kind
 
 -- The device answers with this completion code and these bytes after it, and holds this afterwards.

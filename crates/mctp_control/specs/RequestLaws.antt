@@ -1,12 +1,7 @@
 -- No two requests have the same bytes.
-use Rattle.std.specs.Prelude.{◌≡◌, ℕ, ◌<◌, ◌+◌, ◌*◌, refl}
-use Rattle.std.proofs.Common.{arith}
-use Rattle.mctp_transport.specs.PacketValues.{bit}
-use Rattle.mctp_transport.specs.Bits.{bit_most, bit_one}
-use Rattle.mctp_control.specs.Digits.{digits_4, digits_64_32}
-use Rattle.mctp_control.specs.Headers.{HeaderValue, header_byte}
-use Rattle.mctp_control.specs.Requests.{CommandValue, SetsEid, GetsEid, AllocatesEids, GetsEntries}
-use Rattle.mctp_control.specs.Requests.{RequestValue, IsCommand, IsRequest, command_bytes, request_bytes}
+use Rattle.std.{specs.Prelude.{◌≡◌, ℕ, ◌<◌, ◌+◌, ◌*◌, refl}, proofs.Common.{arith}}
+use Rattle.mctp_transport.{specs.PacketValues.{bit}, specs.Bits.{bit_most, bit_one}}
+use Rattle.mctp_control.{specs.Digits.{digits_4, digits_64_32}, specs.Headers.{HeaderValue, header_byte}, specs.Requests.{CommandValue, SetsEid, GetsEid, AllocatesEids, GetsEntries, RequestValue, IsCommand, IsRequest, command_bytes, request_bytes}}
 
 -- headers are equal where their bytes are
 pub one_header : (rq : ℕ) (g h : HeaderValue) → g.instance < 32 → h.instance < 32 → header_byte rq g ≡ header_byte rq h

@@ -1,11 +1,8 @@
 -- A request as plain numbers, and its bytes (DSP0236, the commands of these names).
 use Rattle.std.specs.Prelude.{ℕ, ◌+◌, ◌*◌, ◌<◌, List, [], ◌∷◌}
 use Rattle.mctp_transport.specs.Wire.{Spells}
-use Rattle.mctp_control.specs.Headers.{HeaderValue, header_value, header_byte}
-use Rattle.mctp_control.specs.Numbers.{set_number, allocate_number}
-use Rattle.mctp_control.specs.declared.request.ControlCommand.{ControlCommand}
+use Rattle.mctp_control.{specs.Headers.{HeaderValue, header_value, header_byte}, specs.Numbers.{set_number, allocate_number}, specs.declared.request.ControlCommand.{ControlCommand}, specs.declared.request.Request.{Request}}
 use Rattle.mctp_control.specs.declared.request.ControlCommand.TheVariants as command
-use Rattle.mctp_control.specs.declared.request.Request.{Request}
 
 -- What is asked. Of an operation byte: bits 1 and 0, then bits 7 to 2.
 pub data CommandValue : Type 0 where

@@ -1,16 +1,6 @@
 -- No two responses have the same bytes.
-use Rattle.std.specs.Prelude.{◌≡◌, ℕ, ◌<◌, List, [], ◌∷◌, ◌++◌, length, take, drop, refl}
-use Rattle.std.specs.List.{AllByRecursion}
-use Rattle.std.proofs.Common.{arith, ap, sym, ◌∙◌}
-use Rattle.std.proofs.Math.Seq.{take-append_seam, drop-append_seam}
-use Rattle.mctp_control.specs.Digits.{digits_4, digits_pairs}
-use Rattle.mctp_control.specs.RequestLaws.{one_header}
-use Rattle.mctp_control.specs.RouteEntries.{EntryValue, IsEntry, entry_bytes, port_byte}
-use Rattle.mctp_control.specs.RouteEntryLaws.{one_entry}
-use Rattle.mctp_control.specs.EntryLists.{entries_bytes}
-use Rattle.mctp_control.specs.Statuses.{Pairs, ArePairs, pairs_byte, PoolStatusValue, IsPoolStatus, pool_byte}
-use Rattle.mctp_control.specs.Responses.{AnswerValue, EidSet, EidTold, PoolTold, EntriesTold, Failed}
-use Rattle.mctp_control.specs.Responses.{ResponseValue, IsAnswer, IsResponse, answer_bytes, response_bytes}
+use Rattle.std.{specs.Prelude.{◌≡◌, ℕ, ◌<◌, List, [], ◌∷◌, ◌++◌, length, take, drop, refl}, specs.List.{AllByRecursion}, proofs.Common.{arith, ap, sym, ◌∙◌}, proofs.Math.Seq.{take-append_seam, drop-append_seam}}
+use Rattle.mctp_control.{specs.Digits.{digits_4, digits_pairs}, specs.RequestLaws.{one_header}, specs.RouteEntries.{EntryValue, IsEntry, entry_bytes, port_byte}, specs.RouteEntryLaws.{one_entry}, specs.EntryLists.{entries_bytes}, specs.Statuses.{Pairs, ArePairs, pairs_byte, PoolStatusValue, IsPoolStatus, pool_byte}, specs.Responses.{AnswerValue, EidSet, EidTold, PoolTold, EntriesTold, Failed, ResponseValue, IsAnswer, IsResponse, answer_bytes, response_bytes}}
 
 -- two entries at the front of the same bytes
 pub record SameFront (m n : EntryValue) (more others : List ℕ) : Type 0 where

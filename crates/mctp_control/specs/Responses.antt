@@ -1,17 +1,8 @@
 -- A response as plain numbers, and its bytes (DSP0236, the commands of these names).
-use Rattle.std.specs.Prelude.{◌≡◌, ◌⊎◌, ℕ, ◌<◌, ◌≤◌, List, [], ◌∷◌, length}
-use Rattle.std.specs.List.{AllByRecursion}
+use Rattle.std.{specs.Prelude.{◌≡◌, ◌⊎◌, ℕ, ◌<◌, ◌≤◌, List, [], ◌∷◌, length}, specs.List.{AllByRecursion}}
 use Rattle.mctp_transport.specs.Wire.{Spells}
-use Rattle.mctp_control.specs.Headers.{HeaderValue, header_value, header_byte}
-use Rattle.mctp_control.specs.Numbers.{command_number}
-use Rattle.mctp_control.specs.Statuses.{Pairs, ArePairs, pairs_byte, set_status, endpoint_status}
-use Rattle.mctp_control.specs.Statuses.{PoolStatusValue, IsPoolStatus, pool_byte, pool_status}
-use Rattle.mctp_control.specs.RouteEntries.{EntryValue, IsEntry}
-use Rattle.mctp_control.specs.EntryLists.{entries_bytes}
-use Rattle.mctp_control.specs.EntriesValue.{entries_of}
-use Rattle.mctp_control.specs.declared.response.ControlAnswer.{ControlAnswer}
+use Rattle.mctp_control.{specs.Headers.{HeaderValue, header_value, header_byte}, specs.Numbers.{command_number}, specs.Statuses.{Pairs, ArePairs, pairs_byte, set_status, endpoint_status, PoolStatusValue, IsPoolStatus, pool_byte, pool_status}, specs.RouteEntries.{EntryValue, IsEntry}, specs.EntryLists.{entries_bytes}, specs.EntriesValue.{entries_of}, specs.declared.response.ControlAnswer.{ControlAnswer}, specs.declared.response.Response.{Response}}
 use Rattle.mctp_control.specs.declared.response.ControlAnswer.TheVariants as answer
-use Rattle.mctp_control.specs.declared.response.Response.{Response}
 
 -- What is answered.
 pub data AnswerValue : Type 0 where

@@ -1,9 +1,7 @@
 -- A routing table entry as plain numbers, and its bytes (DSP0236, "Get Routing Table Entries").
 use Rattle.std.specs.Prelude.{ℕ, ◌+◌, ◌*◌, ◌<◌, ◌≤◌, Bool, List, ◌∷◌, length}
-use Rattle.mctp_transport.specs.PacketValues.{bit}
-use Rattle.mctp_transport.specs.Wire.{Spells}
-use Rattle.mctp_control.specs.declared.route_entry.RouteEntry.{RouteEntry}
-use Rattle.mctp_control.specs.Codes.{kind_number}
+use Rattle.mctp_transport.{specs.PacketValues.{bit}, specs.Wire.{Spells}}
+use Rattle.mctp_control.{specs.declared.route_entry.RouteEntry.{RouteEntry}, specs.Codes.{kind_number}}
 
 -- an entry: the size of its range and the range's first EID, its kind by number, whether it is static, the
 -- port that leads there, the numbers of the transport binding and of the media type, the physical address

@@ -1,9 +1,7 @@
 -- No two entries have the same bytes.
 use Rattle.std.specs.Prelude.{◌≡◌}
-use Rattle.mctp_transport.specs.PacketValues.{bit}
-use Rattle.mctp_transport.specs.Bits.{bit_most, bit_one}
-use Rattle.mctp_control.specs.Digits.{digits_64_32}
-use Rattle.mctp_control.specs.RouteEntries.{EntryValue, IsEntry, entry_bytes, port_byte}
+use Rattle.mctp_transport.{specs.PacketValues.{bit}, specs.Bits.{bit_most, bit_one}}
+use Rattle.mctp_control.{specs.Digits.{digits_64_32}, specs.RouteEntries.{EntryValue, IsEntry, entry_bytes, port_byte}}
 
 -- entries are equal where their fields are
 same_entry : (m n : EntryValue) → m.size ≡ n.size → m.first ≡ n.first → m.kind ≡ n.kind → m.fixed ≡ n.fixed

@@ -1,9 +1,6 @@
 -- The status bytes of responses (DSP0236, "Set Endpoint ID", "Get Endpoint ID", "Allocate Endpoint IDs").
 use Rattle.std.specs.Prelude.{ℕ, ◌+◌, ◌*◌, ◌<◌}
-use Rattle.mctp_control.specs.Numbers.{acceptance_number, allocation_number, endpoint_number, eid_type_number}
-use Rattle.mctp_control.specs.declared.statuses.SetStatus.{SetStatus}
-use Rattle.mctp_control.specs.declared.statuses.EndpointStatus.{EndpointStatus}
-use Rattle.mctp_control.specs.declared.statuses.PoolStatus.{PoolStatus}
+use Rattle.mctp_control.{specs.Numbers.{acceptance_number, allocation_number, endpoint_number, eid_type_number}, specs.declared.statuses.SetStatus.{SetStatus}, specs.declared.statuses.EndpointStatus.{EndpointStatus}, specs.declared.statuses.PoolStatus.{PoolStatus}}
 
 -- a byte as four numbers of two bits: bits 7 and 6, 5 and 4, 3 and 2, 1 and 0
 pub record Pairs : Type 0 where

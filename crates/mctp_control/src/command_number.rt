@@ -16,8 +16,7 @@ pub enum CommandNumber {
 
 impl CommandNumber {
     ghost use Rattle.std.specs.Prelude.{◌↔◌, IfSome, IfNone};
-    ghost use Rattle.mctp_control.specs.Numbers.{command_number};
-    ghost use Rattle.mctp_control.specs.Refusals.{IsUnknown};
+    ghost use Rattle.mctp_control.{specs.Numbers.{command_number}, specs.Refusals.{IsUnknown}};
 
     /// The command of this number.
     pub(crate) fn of(number: u8) -> Option<Self>

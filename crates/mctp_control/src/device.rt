@@ -1,9 +1,6 @@
 //! Devices, and how they answer requests (DSP0236, "MCTP control messages").
 ghost use Rattle.std.specs.Prelude.{◌≡◌, ◌<◌, ◌≤◌, ℕ, List, length};
-ghost use Rattle.mctp_control.specs.EntryLists.{values_of};
-ghost use Rattle.mctp_control.specs.Replies.{reply_bytes};
-ghost use Rattle.mctp_control.specs.Outcomes.{content_of, content_bytes};
-ghost use Rattle.mctp_control.specs.Responses.{answer_value};
+ghost use Rattle.mctp_control.{specs.EntryLists.{values_of}, specs.Replies.{reply_bytes}, specs.Outcomes.{content_of, content_bytes}, specs.Responses.{answer_value}};
 
 use crate::command_number::CommandNumber;
 use crate::eid_range::EidRange;
@@ -45,10 +42,7 @@ pub struct Device {
 impl Device {
     ghost use Rattle.std.specs.Prelude.{◌↔◌, ◌∷◌, ◌<◌, ◌+◌, ◌*◌, ℕ, List, [], length, IsTrue, Some, option_map};
     ghost use Rattle.mctp_transport.specs.PacketValues.{IsAssignable};
-    ghost use Rattle.mctp_control.specs.Numbers.{set_number, allocate_number, acceptance_number, allocation_number};
-    ghost use Rattle.mctp_control.specs.Requests.{command_value};
-    ghost use Rattle.mctp_control.specs.Devices.{device_value, configured_pool, size_of, present_eid, present_size, present_first, MayGiveEid, MayGivePool, allocation_of, pool_wanted, endpoint_type};
-    ghost use Rattle.mctp_control.specs.Replies.{Replies, SetReplies, AllocateReplies, CommandReplies, Supports};
+    ghost use Rattle.mctp_control.{specs.Numbers.{set_number, allocate_number, acceptance_number, allocation_number}, specs.Requests.{command_value}, specs.Devices.{device_value, configured_pool, size_of, present_eid, present_size, present_first, MayGiveEid, MayGivePool, allocation_of, pool_wanted, endpoint_type}, specs.Replies.{Replies, SetReplies, AllocateReplies, CommandReplies, Supports}};
 
     /// An endpoint that holds no EID.
     pub fn endpoint() -> Self

@@ -13,8 +13,7 @@ pub struct EidPool {
 }
 
 impl EidPool {
-    ghost use Rattle.mctp_control.specs.Ranges.{IsAssignableRange};
-    ghost use Rattle.mctp_control.specs.Pools.{pool_value, IsOut, IsFree, IsFreeRun, IsLowestFree, IsLowestRun, GoesOut, ComesBack};
+    ghost use Rattle.mctp_control.{specs.Ranges.{IsAssignableRange}, specs.Pools.{pool_value, IsOut, IsFree, IsFreeRun, IsLowestFree, IsLowestRun, GoesOut, ComesBack}};
 
     /// A pool of `size` EIDs from `first` on, none of which is out. `EidRange::of` says whether they can be a pool.
     pub fn new(first: Eid, size: u8) -> Self

@@ -1,8 +1,6 @@
 //! The entries that one response brings.
-ghost use Rattle.std.specs.Prelude.{◌≡◌, ◌<◌, ◌≤◌, ◌+◌, ◌∷◌, ◌++◌, ℕ, List, length, drop, IfSome, IsSomeAnd};
-ghost use Rattle.std.specs.List.{AllByRecursion};
-ghost use Rattle.mctp_control.specs.EntryLists.{SpellsEntries, entries_bytes, values_of};
-ghost use Rattle.mctp_control.specs.RouteEntries.{EntryValue, IsEntry, entry_bytes, entry_value};
+ghost use Rattle.std.{specs.Prelude.{◌≡◌, ◌<◌, ◌≤◌, ◌+◌, ◌∷◌, ◌++◌, ℕ, List, length, drop, IfSome, IsSomeAnd}, specs.List.{AllByRecursion}};
+ghost use Rattle.mctp_control.{specs.EntryLists.{SpellsEntries, entries_bytes, values_of}, specs.RouteEntries.{EntryValue, IsEntry, entry_bytes, entry_value}};
 
 use crate::route_entry::{FIXED_LENGTH, RouteEntry};
 use arrayvec::ArrayVec;

@@ -1,8 +1,6 @@
 //! A law of all devices. The function does nothing: its contract is the law.
 ghost use Rattle.std.specs.Prelude.{ℕ, List};
-ghost use Rattle.mctp_control.specs.RouteEntries.{EntryValue};
-ghost use Rattle.mctp_control.specs.Devices.{DeviceValue};
-ghost use Rattle.mctp_control.specs.Replies.{IsBytes, HasOneReply};
+ghost use Rattle.mctp_control.{specs.RouteEntries.{EntryValue}, specs.Devices.{DeviceValue}, specs.Replies.{IsBytes, HasOneReply}};
 
 /// What a device replies to a body, and what it holds afterwards, is fixed by what it holds, the bus, its routing table
 /// and the body.

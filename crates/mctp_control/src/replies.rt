@@ -1,9 +1,6 @@
 //! The bytes of a device's replies.
 ghost use Rattle.std.specs.Prelude.{◌≡◌, ◌<◌, ◌≤◌, ◌==◌, ◌∷◌, if◌then◌else◌, ℕ, List, length};
-ghost use Rattle.mctp_control.specs.EntryLists.{entries_bytes, values_of};
-ghost use Rattle.mctp_control.specs.Replies.{EntriesReplies, IsMost, reply_bytes};
-ghost use Rattle.mctp_control.specs.Outcomes.{content_of, content_bytes};
-ghost use Rattle.mctp_control.specs.Responses.{answer_value};
+ghost use Rattle.mctp_control.{specs.EntryLists.{entries_bytes, values_of}, specs.Replies.{EntriesReplies, IsMost, reply_bytes}, specs.Outcomes.{content_of, content_bytes}, specs.Responses.{answer_value}};
 
 use crate::entries::{MAX_ENTRY_BYTES, byte_count, put_table};
 use crate::response::{CompletionCode, ControlAnswer};

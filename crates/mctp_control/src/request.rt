@@ -51,8 +51,7 @@ pub struct Request {
 
 impl ControlCommand {
     ghost use Rattle.std.specs.Prelude.{◌↔◌, ◌≢◌, ◌≤◌, ◌∷◌, ◌++◌, ℕ, List, length, drop, IfOk, IsOkAnd, Err};
-    ghost use Rattle.mctp_control.specs.Requests.{CommandValue, IsCommand, command_bytes, command_value};
-    ghost use Rattle.mctp_control.specs.Refusals.{IsUnknown, IsCommandLength};
+    ghost use Rattle.mctp_control.{specs.Requests.{CommandValue, IsCommand, command_bytes, command_value}, specs.Refusals.{IsUnknown, IsCommandLength}};
 
     /// The command of this number with these data.
     fn read(number: u8, rest: &[u8]) -> Result<Self, ControlError>
@@ -131,9 +130,7 @@ impl ControlCommand {
 
 impl<'a> Wire<'a> for Request {
     ghost use Rattle.std.specs.Prelude.{◌≡◌, ◌↔◌, IfOk, IsOkAnd, Err};
-    ghost use Rattle.mctp_control.specs.Requests.{RequestValue, IsRequest, SpellsRequest, request_bytes, request_value};
-    ghost use Rattle.mctp_control.specs.RequestLaws.{one_request};
-    ghost use Rattle.mctp_control.specs.Refusals.{IsShortRequest, IsNoRequest, HasUnknownCommand, HasRequestLength};
+    ghost use Rattle.mctp_control.{specs.Requests.{RequestValue, IsRequest, SpellsRequest, request_bytes, request_value}, specs.RequestLaws.{one_request}, specs.Refusals.{IsShortRequest, IsNoRequest, HasUnknownCommand, HasRequestLength}};
 
     type Error = ControlError;
 

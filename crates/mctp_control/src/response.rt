@@ -93,8 +93,7 @@ pub struct Response {
 
 impl ControlAnswer {
     ghost use Rattle.std.specs.Prelude.{◌↔◌, ◌≢◌, ◌≤◌, ◌∷◌, ◌++◌, ℕ, List, length, drop, IfOk, IfErr, IsOkAnd, Err};
-    ghost use Rattle.mctp_control.specs.Responses.{AnswerValue, IsAnswer, answer_bytes, answer_value};
-    ghost use Rattle.mctp_control.specs.Refusals.{IsUnknown, IsAnswerData, IsTableData};
+    ghost use Rattle.mctp_control.{specs.Responses.{AnswerValue, IsAnswer, answer_bytes, answer_value}, specs.Refusals.{IsUnknown, IsAnswerData, IsTableData}};
 
     /// The answer to the command of this number with this completion code and these data.
     fn read(number: u8, code: u8, rest: &[u8]) -> Result<Self, ControlError>
@@ -215,9 +214,7 @@ fn put_front<const N: usize>(out: &mut [u8], bytes: [u8; N])
 
 impl<'a> Wire<'a> for Response {
     ghost use Rattle.std.specs.Prelude.{◌≡◌, ◌↔◌, IfOk, IsOkAnd, Err};
-    ghost use Rattle.mctp_control.specs.Responses.{ResponseValue, IsResponse, SpellsResponse, response_bytes, response_value};
-    ghost use Rattle.mctp_control.specs.ResponseLaws.{one_response};
-    ghost use Rattle.mctp_control.specs.Refusals.{IsShortResponse, IsNoResponse, HasUnknownCommand, HasResponseLength};
+    ghost use Rattle.mctp_control.{specs.Responses.{ResponseValue, IsResponse, SpellsResponse, response_bytes, response_value}, specs.ResponseLaws.{one_response}, specs.Refusals.{IsShortResponse, IsNoResponse, HasUnknownCommand, HasResponseLength}};
 
     type Error = ControlError;
 

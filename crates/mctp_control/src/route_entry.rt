@@ -82,9 +82,7 @@ pub struct RouteEntry {
 
 impl<'a> Wire<'a> for RouteEntry {
     ghost use Rattle.std.specs.Prelude.{◌≡◌, ◌↔◌, IfOk, IsOkAnd, Err};
-    ghost use Rattle.mctp_control.specs.RouteEntries.{EntryValue, IsEntry, SpellsEntry, entry_bytes, entry_value};
-    ghost use Rattle.mctp_control.specs.RouteEntryLaws.{one_entry};
-    ghost use Rattle.mctp_control.specs.Refusals.{IsShortEntry, HasEntryLength};
+    ghost use Rattle.mctp_control.{specs.RouteEntries.{EntryValue, IsEntry, SpellsEntry, entry_bytes, entry_value}, specs.RouteEntryLaws.{one_entry}, specs.Refusals.{IsShortEntry, HasEntryLength}};
 
     type Error = ControlError;
 

@@ -151,8 +151,7 @@ pub struct SetStatus {
 }
 
 impl SetStatus {
-    ghost use Rattle.mctp_control.specs.Numbers.{acceptance_number, allocation_number};
-    ghost use Rattle.mctp_control.specs.Statuses.{pairs_byte, set_status};
+    ghost use Rattle.mctp_control.{specs.Numbers.{acceptance_number, allocation_number}, specs.Statuses.{pairs_byte, set_status}};
 
     /// The status with clear reserved bits.
     pub fn new(acceptance: Acceptance, allocation: Allocation) -> Self
@@ -201,8 +200,7 @@ pub struct EndpointStatus {
 }
 
 impl EndpointStatus {
-    ghost use Rattle.mctp_control.specs.Numbers.{endpoint_number, eid_type_number};
-    ghost use Rattle.mctp_control.specs.Statuses.{pairs_byte, endpoint_status};
+    ghost use Rattle.mctp_control.{specs.Numbers.{endpoint_number, eid_type_number}, specs.Statuses.{pairs_byte, endpoint_status}};
 
     /// The status with clear reserved bits.
     pub fn new(endpoint: EndpointType, eid: EidType) -> Self
@@ -244,8 +242,7 @@ pub struct PoolStatus {
 }
 
 impl PoolStatus {
-    ghost use Rattle.mctp_control.specs.Numbers.{acceptance_number};
-    ghost use Rattle.mctp_control.specs.Statuses.{pool_byte, pool_status};
+    ghost use Rattle.mctp_control.{specs.Numbers.{acceptance_number}, specs.Statuses.{pool_byte, pool_status}};
 
     /// The status with clear reserved bits.
     pub fn new(acceptance: Acceptance) -> Self

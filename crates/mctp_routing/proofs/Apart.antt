@@ -1,17 +1,7 @@
 -- Rows that lie apart still do in another order, and in the order of their first endpoint IDs each lies below all later
 -- ones.
-use Rattle.std.proofs.Common.{◌≡◌, ◌≢◌, ℕ, ◌+◌, ◌<◌, ◌≤◌, List, length, get_or, cond, refl, ap, ◌∙◌, inl, inr, arith}
-use Rattle.std.proofs.Math.Dec.{eqb}
-use Rattle.std.proofs.lemmas.Bool.Decides.{nat_tests, eqb_tells}
-use Rattle.std.proofs.lemmas.Bool.{cases_lt}
-use Rattle.std.specs.Prelude.{All, AllPairs}
-use Rattle.std.specs.List.{swap}
-use Rattle.std.specs.List.Sorted.{IsPermutation, IsNonDecreasingBy}
-use Rattle.std.proofs.lemmas.List.Edits.{swapped_from_swap, length-swap}
-use Rattle.std.proofs.lemmas.List.Sorted.{IsPermutation-keeps, IsPermutation-sym, All-permutation, Contains-permutation}
-use Rattle.mctp_routing.specs.declared.row.TableRow.{TableRow}
-use Rattle.mctp_routing.specs.declared.row.Hop.{Hop}
-use Rattle.mctp_routing.specs.Rows.{AreApart, IsLawful, AreLawful, Routes, HasSameRoutes, LiesBelow, IsTable}
+use Rattle.std.{proofs.Common.{◌≡◌, ◌≢◌, ℕ, ◌+◌, ◌<◌, ◌≤◌, List, length, get_or, cond, refl, ap, ◌∙◌, inl, inr, arith}, proofs.Math.Dec.{eqb}, proofs.lemmas.Bool.Decides.{nat_tests, eqb_tells}, proofs.lemmas.Bool.{cases_lt}, specs.Prelude.{All, AllPairs}, specs.List.{swap}, specs.List.Sorted.{IsPermutation, IsNonDecreasingBy}, proofs.lemmas.List.Edits.{swapped_from_swap, length-swap}, proofs.lemmas.List.Sorted.{IsPermutation-keeps, IsPermutation-sym, All-permutation, Contains-permutation}}
+use Rattle.mctp_routing.{specs.declared.row.TableRow.{TableRow}, specs.declared.row.Hop.{Hop}, specs.Rows.{AreApart, IsLawful, AreLawful, Routes, HasSameRoutes, LiesBelow, IsTable}}
 
 -- the index in the list before a and b changed places
 index : ℕ → ℕ → ℕ → ℕ

@@ -1,14 +1,6 @@
 -- The rows before an index, and one more.
-use Rattle.std.proofs.Common.{◌≡◌, ℕ, ◌+◌, ◌<◌, List, length, get_or, take, Some, false, sym, ap, subst, ◌∙◌}
-use Rattle.std.specs.Prelude.{◌↔◌, IsTrue, All, slice_get}
-use Rattle.std.proofs.lemmas.Bool.{false≢true}
-use Rattle.std.proofs.lemmas.List.{take_more}
-use Rattle.std.proofs.lemmas.List.Elements.{All-more}
-use Rattle.std.proofs.lemmas.List.Quantifiers.{all_pairs_push}
-use Rattle.std.proofs.lemmas.Option.{slice_get-get_or}
-use Rattle.mctp_routing.specs.declared.row.TableRow.{TableRow}
-use Rattle.mctp_routing.specs.Rows.{AreApart, IsLawful, AreLawful}
-use Rattle.mctp_routing.proofs.Apart.{turned}
+use Rattle.std.{proofs.Common.{◌≡◌, ℕ, ◌+◌, ◌<◌, List, length, get_or, take, Some, false, sym, ap, subst, ◌∙◌}, specs.Prelude.{◌↔◌, IsTrue, All, slice_get}, proofs.lemmas.Bool.{false≢true}, proofs.lemmas.List.{take_more}, proofs.lemmas.List.Elements.{All-more}, proofs.lemmas.List.Quantifiers.{all_pairs_push}, proofs.lemmas.Option.{slice_get-get_or}}
+use Rattle.mctp_routing.{specs.declared.row.TableRow.{TableRow}, specs.Rows.{AreApart, IsLawful, AreLawful}, proofs.Apart.{turned}}
 
 -- a test that fails refutes what it decides
 pub refuted : {P : Type 0} → (IsTrue false ↔ P) → ¬ P

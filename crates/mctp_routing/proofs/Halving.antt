@@ -1,14 +1,6 @@
 -- The last row that begins no higher than an endpoint ID is the only one that can cover it.
-use Rattle.std.proofs.Common.{◌≡◌, ℕ, ◌+◌, ◌<◌, ◌≤◌, List, length, get_or, true, false, refl, sym, ap, subst, ◌∙◌, inl, inr, arith}
-use Rattle.std.proofs.Math.Dec.{leb}
-use Rattle.std.proofs.lemmas.Bool.{cases_lt}
-use Rattle.std.proofs.lemmas.Bool.Decides.{nat_tests}
-use Rattle.std.specs.List.{AllWithin}
-use Rattle.std.specs.List.Sorted.{IsNonDecreasingBy}
-use Rattle.std.proofs.lemmas.List.{get_or_default}
-use Rattle.mctp_routing.specs.declared.row.TableRow.{TableRow}
-use Rattle.mctp_routing.specs.declared.row.Hop.{Hop}
-use Rattle.mctp_routing.specs.Rows.{Covers, Routes, IsTable}
+use Rattle.std.{proofs.Common.{◌≡◌, ℕ, ◌+◌, ◌<◌, ◌≤◌, List, length, get_or, true, false, refl, sym, ap, subst, ◌∙◌, inl, inr, arith}, proofs.Math.Dec.{leb}, proofs.lemmas.Bool.{cases_lt}, proofs.lemmas.Bool.Decides.{nat_tests}, specs.List.{AllWithin}, specs.List.Sorted.{IsNonDecreasingBy}, proofs.lemmas.List.{get_or_default}}
+use Rattle.mctp_routing.{specs.declared.row.TableRow.{TableRow}, specs.declared.row.Hop.{Hop}, specs.Rows.{Covers, Routes, IsTable}}
 
 pub begins_by : (row : TableRow) (e : ℕ) → leb row.first.value e ≡ true → row.first.value ≤ e
 begins_by row e h = grind (arith, nat_tests)

@@ -1,14 +1,6 @@
 -- An interval has one list of pieces.
-use Rattle.std.proofs.Common.{◌≡◌, ℕ, suc, ◌+◌, ◌<◌, ◌≤◌, List, [], ◌∷◌, length, get_or, refl, sym, ap, subst, ◌∙◌, arith, inl, inr}
-use Rattle.std.specs.Prelude.{Option, Some, None, All, Any, AllPairs, ◌↔◌, MatchOption}
-use Rattle.std.proofs.lemmas.Bool.{cases_lt}
-use Rattle.std.proofs.lemmas.List.{get_or_default}
-use Rattle.std.proofs.lemmas.List.Elements.{All-head, All-tail}
-use Rattle.mctp_routing.specs.declared.row.TableRow.{TableRow}
-use Rattle.mctp_routing.specs.declared.row.Hop.{Hop}
-use Rattle.mctp_routing.specs.Rows.{Covers, IsTable}
-use Rattle.mctp_routing.specs.Pieces.{PieceValue, LiesIn, IsPartOf, IsGap, IsWhole, ArePieces}
-use Rattle.mctp_routing.proofs.PieceChains.{any_cases, any_here, any_later, any_none}
+use Rattle.std.{proofs.Common.{◌≡◌, ℕ, suc, ◌+◌, ◌<◌, ◌≤◌, List, [], ◌∷◌, length, get_or, refl, sym, ap, subst, ◌∙◌, arith, inl, inr}, specs.Prelude.{Option, Some, None, All, Any, AllPairs, ◌↔◌, MatchOption}, proofs.lemmas.Bool.{cases_lt}, proofs.lemmas.List.{get_or_default}, proofs.lemmas.List.Elements.{All-head, All-tail}}
+use Rattle.mctp_routing.{specs.declared.row.TableRow.{TableRow}, specs.declared.row.Hop.{Hop}, specs.Rows.{Covers, IsTable}, specs.Pieces.{PieceValue, LiesIn, IsPartOf, IsGap, IsWhole, ArePieces}, proofs.PieceChains.{any_cases, any_here, any_later, any_none}}
 
 -- one row of a table covers an EID
 one_row : (rows : List TableRow) (i j e : ℕ) (row other : TableRow) → IsTable rows → i < length rows → get_or rows i row ≡ row → Covers row e

@@ -1,16 +1,7 @@
 -- The pieces ahead follow one another from an EID to an end.
-use Rattle.std.proofs.Common.{◌≡◌, ℕ, zero, suc, ◌+◌, ◌<◌, ◌≤◌, List, [], ◌∷◌, ◌++◌, length, refl, arith, inl, inr, ◌⊎◌}
+use Rattle.std.{proofs.Common.{◌≡◌, ℕ, zero, suc, ◌+◌, ◌<◌, ◌≤◌, List, [], ◌∷◌, ◌++◌, length, refl, arith, inl, inr, ◌⊎◌}, specs.Prelude.{Option, Some, None, All, Any, AllPairs}, specs.List.{AllAdjacentBelow}, proofs.lemmas.Bool.{cases_lt}, proofs.lemmas.List.Elements.{All-nil, All-cons, All-weaker}, proofs.lemmas.List.Kept.{AllPairs-cons}}
 use native.Mathlib.Numerals.{unary_clauses}
-use Rattle.std.specs.Prelude.{Option, Some, None, All, Any, AllPairs}
-use Rattle.std.specs.List.{AllAdjacentBelow}
-use Rattle.std.proofs.lemmas.Bool.{cases_lt}
-use Rattle.std.proofs.lemmas.List.Elements.{All-nil, All-cons, All-weaker}
-use Rattle.std.proofs.lemmas.List.Kept.{AllPairs-cons}
-use Rattle.mctp_routing.specs.declared.row.TableRow.{TableRow}
-use Rattle.mctp_routing.specs.declared.row.Hop.{Hop}
-use Rattle.mctp_routing.specs.Pieces.{PieceValue, LiesIn}
-use Rattle.mctp_routing.specs.PiecesLeft.{run, clipped, pieces_from}
-use Rattle.mctp_routing.proofs.PieceSteps.{run_some, run_none, row_parts, no_rows}
+use Rattle.mctp_routing.{specs.declared.row.TableRow.{TableRow}, specs.declared.row.Hop.{Hop}, specs.Pieces.{PieceValue, LiesIn}, specs.PiecesLeft.{run, clipped, pieces_from}, proofs.PieceSteps.{run_some, run_none, row_parts, no_rows}}
 
 -- what holds of some element of a list holds of its first or of some later one
 pub any_cases : {X : Type 0} (P : X → Type 0) (x : X) (xs : List X) → Any P (x ∷ xs) → P x ⊎ Any P xs

@@ -1,11 +1,6 @@
 -- For a loop over pieces: the pieces that came so far, the next one, and the endpoint IDs that they have.
-use Rattle.std.proofs.Common.{◌≡◌, ℕ, zero, suc, ◌<◌, ◌≤◌, List, [], ◌∷◌, length, get_or, take, map, refl, sym, ap, subst, ◌∙◌, arith, inl, inr}
-use Rattle.std.specs.Prelude.{All, Any}
-use Rattle.std.proofs.lemmas.Bool.{cases_lt}
-use Rattle.std.proofs.lemmas.List.{get_or_default, get_or-take, get_or-map}
-use Rattle.mctp_routing.specs.declared.row.TableRow.{TableRow}
-use Rattle.mctp_routing.specs.declared.pieces.Piece.{Piece}
-use Rattle.mctp_routing.specs.Pieces.{PieceValue, piece_value, LiesIn, ArePieces}
+use Rattle.std.{proofs.Common.{◌≡◌, ℕ, zero, suc, ◌<◌, ◌≤◌, List, [], ◌∷◌, length, get_or, take, map, refl, sym, ap, subst, ◌∙◌, arith, inl, inr}, specs.Prelude.{All, Any}, proofs.lemmas.Bool.{cases_lt}, proofs.lemmas.List.{get_or_default, get_or-take, get_or-map}}
+use Rattle.mctp_routing.{specs.declared.row.TableRow.{TableRow}, specs.declared.pieces.Piece.{Piece}, specs.Pieces.{PieceValue, piece_value, LiesIn, ArePieces}}
 
 -- an element of a list, at its index
 element : {X : Type 0} (xs : List X) (k : ℕ) → k < length xs → (x : X) × (get_or xs k x ≡ x)

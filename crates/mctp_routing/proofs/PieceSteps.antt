@@ -1,16 +1,6 @@
 -- What the pieces ahead begin with.
-use Rattle.std.proofs.Common.{◌≡◌, ℕ, zero, suc, ◌+◌, ◌<◌, ◌≤◌, min, List, [], ◌∷◌, ◌++◌, length, get_or, true, false, refl, arith, inl, inr}
-use Rattle.std.proofs.Math.Dec.{ltb, leb}
-use Rattle.std.specs.Prelude.{Option, Some, None, All}
-use Rattle.std.proofs.lemmas.Bool.{cond-true, cond-false, lt-ltb, le-ltb, cases_lt}
-use Rattle.std.proofs.lemmas.Bool.Decides.{nat_tests}
-use Rattle.std.specs.List.Sorted.{IsNonDecreasingBy}
-use Rattle.std.proofs.lemmas.List.Elements.{All-tail}
-use Rattle.mctp_routing.specs.declared.row.TableRow.{TableRow}
-use Rattle.mctp_routing.specs.declared.row.Hop.{Hop}
-use Rattle.mctp_routing.specs.Rows.{IsLawful, IsTable}
-use Rattle.mctp_routing.specs.Pieces.{PieceValue}
-use Rattle.mctp_routing.specs.PiecesLeft.{piece_to, run, clipped, pieces_from, Reaches, AreAhead}
+use Rattle.std.{proofs.Common.{◌≡◌, ℕ, zero, suc, ◌+◌, ◌<◌, ◌≤◌, min, List, [], ◌∷◌, ◌++◌, length, get_or, true, false, refl, arith, inl, inr}, proofs.Math.Dec.{ltb, leb}, specs.Prelude.{Option, Some, None, All}, proofs.lemmas.Bool.{cond-true, cond-false, lt-ltb, le-ltb, cases_lt}, proofs.lemmas.Bool.Decides.{nat_tests}, specs.List.Sorted.{IsNonDecreasingBy}, proofs.lemmas.List.Elements.{All-tail}}
+use Rattle.mctp_routing.{specs.declared.row.TableRow.{TableRow}, specs.declared.row.Hop.{Hop}, specs.Rows.{IsLawful, IsTable}, specs.Pieces.{PieceValue}, specs.PiecesLeft.{piece_to, run, clipped, pieces_from, Reaches, AreAhead}}
 
 pub run_some : (from stop : ℕ) (hop : Option Hop) → from < stop → run from stop hop ≡ piece_to from stop hop ∷ []
 unfolding run

@@ -1,18 +1,6 @@
 -- The pieces ahead are whole parts of rows and whole gaps.
-use Rattle.std.proofs.Common.{◌≡◌, ℕ, ◌+◌, ◌-◌, ◌<◌, ◌≤◌, List, [], ◌∷◌, ◌++◌, length, get_or, drop, refl, sym, subst, ap, ◌∙◌, arith, inl, inr, ◌⊎◌}
-use Rattle.std.specs.Prelude.{Option, Some, None, All, Any, MatchOption}
-use Rattle.std.specs.List.{AllWithin}
-use Rattle.std.proofs.lemmas.Bool.{cases_lt}
-use Rattle.std.proofs.lemmas.List.{get_or-drop, length-drop}
-use Rattle.std.proofs.lemmas.List.Elements.{All-nil, All-cons, All-append, All-weaker, All-drop}
-use Rattle.mctp_routing.specs.declared.row.TableRow.{TableRow}
-use Rattle.mctp_routing.specs.declared.row.Hop.{Hop}
-use Rattle.mctp_routing.specs.Rows.{Covers, IsLawful, IsTable, IsNext, Routes}
-use Rattle.mctp_routing.specs.Pieces.{PieceValue, LiesIn, IsCovered, IsPartOf, IsGap, IsWhole, ArePieces}
-use Rattle.mctp_routing.specs.PiecesLeft.{piece_to, run, clipped, pieces_from, Reaches}
-use Rattle.mctp_routing.proofs.Apart.{ends_within}
-use Rattle.mctp_routing.proofs.PieceSteps.{run_some, run_none, row_parts, no_rows, none_left, table_tail, later_begin, later_reach}
-use Rattle.mctp_routing.proofs.PieceChains.{any_cases, any_here, any_later, any_none, chain_ahead, chain_filled, chain_ascends, chain_joined, chain_within, chain_covers}
+use Rattle.std.{proofs.Common.{◌≡◌, ℕ, ◌+◌, ◌-◌, ◌<◌, ◌≤◌, List, [], ◌∷◌, ◌++◌, length, get_or, drop, refl, sym, subst, ap, ◌∙◌, arith, inl, inr, ◌⊎◌}, specs.Prelude.{Option, Some, None, All, Any, MatchOption}, specs.List.{AllWithin}, proofs.lemmas.Bool.{cases_lt}, proofs.lemmas.List.{get_or-drop, length-drop}, proofs.lemmas.List.Elements.{All-nil, All-cons, All-append, All-weaker, All-drop}}
+use Rattle.mctp_routing.{specs.declared.row.TableRow.{TableRow}, specs.declared.row.Hop.{Hop}, specs.Rows.{Covers, IsLawful, IsTable, IsNext, Routes}, specs.Pieces.{PieceValue, LiesIn, IsCovered, IsPartOf, IsGap, IsWhole, ArePieces}, specs.PiecesLeft.{piece_to, run, clipped, pieces_from, Reaches}, proofs.Apart.{ends_within}, proofs.PieceSteps.{run_some, run_none, row_parts, no_rows, none_left, table_tail, later_begin, later_reach}, proofs.PieceChains.{any_cases, any_here, any_later, any_none, chain_ahead, chain_filled, chain_ascends, chain_joined, chain_within, chain_covers}}
 
 -- The rows that can still cover an EID from here on, in an interval that began at first: of all rows no other does. The
 -- interval begins here, or the EID before is covered and no row began before.

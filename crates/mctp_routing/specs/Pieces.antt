@@ -1,11 +1,6 @@
 -- The pieces of an interval of endpoint IDs: what the rows of a table make of it (they are this project's own).
-use Rattle.std.specs.Prelude.{◌≡◌, ◌⊎◌, ◌↔◌, ℕ, ◌+◌, ◌-◌, ◌<◌, ◌≤◌, List}
-use Rattle.std.specs.Prelude.{length, Option, MatchOption, All, Any, AllPairs}
-use Rattle.std.specs.List.{AllAdjacentBelow}
-use Rattle.mctp_routing.specs.declared.row.TableRow.{TableRow}
-use Rattle.mctp_routing.specs.declared.row.Hop.{Hop}
-use Rattle.mctp_routing.specs.declared.pieces.Piece.{Piece}
-use Rattle.mctp_routing.specs.Rows.{Covers, IsNext}
+use Rattle.std.{specs.Prelude.{◌≡◌, ◌⊎◌, ◌↔◌, ℕ, ◌+◌, ◌-◌, ◌<◌, ◌≤◌, List, length, Option, MatchOption, All, Any, AllPairs}, specs.List.{AllAdjacentBelow}}
+use Rattle.mctp_routing.{specs.declared.row.TableRow.{TableRow}, specs.declared.row.Hop.{Hop}, specs.declared.pieces.Piece.{Piece}, specs.Rows.{Covers, IsNext}}
 
 -- a piece's first and last EID, and the hop of its row, none for a gap between rows
 pub record PieceValue : Type 0 where

@@ -1,10 +1,6 @@
 -- What an iterator over pieces has yet to give.
-use Rattle.std.specs.Prelude.{ℕ, ◌+◌, ◌-◌, ◌<◌, ◌≤◌, min, max, Option, Some, None}
-use Rattle.std.specs.Prelude.{nat_lt, if◌then◌else◌, List, [], ◌∷◌, ◌++◌, All}
-use Rattle.mctp_routing.specs.declared.row.TableRow.{TableRow}
-use Rattle.mctp_routing.specs.declared.row.Hop.{Hop}
-use Rattle.mctp_routing.specs.Rows.{IsTable}
-use Rattle.mctp_routing.specs.Pieces.{PieceValue}
+use Rattle.std.specs.Prelude.{ℕ, ◌+◌, ◌-◌, ◌<◌, ◌≤◌, min, max, Option, Some, None, nat_lt, if◌then◌else◌, List, [], ◌∷◌, ◌++◌, All}
+use Rattle.mctp_routing.{specs.declared.row.TableRow.{TableRow}, specs.declared.row.Hop.{Hop}, specs.Rows.{IsTable}, specs.Pieces.{PieceValue}}
 
 -- the piece from an EID up to the one before the stop
 abbrev pub piece_to : (from stop : ℕ) → Option Hop → PieceValue

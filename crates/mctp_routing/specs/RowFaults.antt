@@ -1,9 +1,6 @@
 -- Why rows make no routing table (the order of the causes is this project's own).
 use Rattle.std.specs.Prelude.{◌≡◌, ℕ, List, take, Option, Some, None, slice_get, All, codes}
-use Rattle.mctp_routing.specs.declared.row.TableRow.{TableRow}
-use Rattle.mctp_routing.specs.declared.table_fault.TableFault.{TableFault}
-use Rattle.mctp_routing.specs.declared.table_fault.TableFault.TheVariants.{Empty, Outside, Overlap, Memory}
-use Rattle.mctp_routing.specs.Rows.{IsEmpty, IsOutside, AreApart, AreLawful}
+use Rattle.mctp_routing.{specs.declared.row.TableRow.{TableRow}, specs.declared.table_fault.TableFault.{TableFault}, specs.declared.table_fault.TableFault.TheVariants.{Empty, Outside, Overlap, Memory}, specs.Rows.{IsEmpty, IsOutside, AreApart, AreLawful}}
 
 -- there is a row at this index, and this is true of it
 abbrev pub IsAt : List TableRow → ℕ → (TableRow → Type 0) → Type 0

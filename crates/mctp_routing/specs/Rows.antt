@@ -1,7 +1,6 @@
 -- The rows of a routing table (DSP0236, bridging): which endpoint IDs each covers, and which rows make a table.
 use Rattle.std.specs.Prelude.{◌≡◌, ◌⊎◌, ◌↔◌, ℕ, ◌+◌, ◌<◌, ◌≤◌, List, Option, Some, None, All, Any, AllPairs}
-use Rattle.mctp_routing.specs.declared.row.TableRow.{TableRow}
-use Rattle.mctp_routing.specs.declared.row.Hop.{Hop}
+use Rattle.mctp_routing.{specs.declared.row.TableRow.{TableRow}, specs.declared.row.Hop.{Hop}}
 
 -- e is one of the row's EIDs; a row that reaches past 255 covers those up to 255
 abbrev pub Covers : TableRow → ℕ → Type 0

@@ -1,8 +1,6 @@
 //! A law of pieces. The function does nothing: its contract is the law.
 ghost use Rattle.std.specs.Prelude.{◌≡◌, ℕ, List};
-ghost use Rattle.mctp_routing.specs.declared.row.TableRow.{TableRow};
-ghost use Rattle.mctp_routing.specs.Rows.{IsTable};
-ghost use Rattle.mctp_routing.specs.Pieces.{PieceValue, ArePieces};
+ghost use Rattle.mctp_routing.{specs.declared.row.TableRow.{TableRow}, specs.Rows.{IsTable}, specs.Pieces.{PieceValue, ArePieces}};
 
 /// A table cuts an interval into one list of pieces only.
 pub fn one_list_of_pieces()

@@ -1,9 +1,6 @@
 //! The pieces that a routing table makes of an interval of endpoint IDs.
-ghost use Rattle.std.specs.Prelude.{◌≡◌, ◌<◌, ◌≤◌, length};
-ghost use Rattle.std.specs.List.{AllWithin};
-ghost use Rattle.mctp_routing.specs.Rows.{IsTable};
-ghost use Rattle.mctp_routing.specs.Pieces.{piece_value};
-ghost use Rattle.mctp_routing.specs.PiecesLeft.{piece_to, Reaches};
+ghost use Rattle.std.{specs.Prelude.{◌≡◌, ◌<◌, ◌≤◌, length}, specs.List.{AllWithin}};
+ghost use Rattle.mctp_routing.{specs.Rows.{IsTable}, specs.Pieces.{piece_value}, specs.PiecesLeft.{piece_to, Reaches}};
 
 use crate::row::{Hop, TableRow};
 use mctp_transport::Eid;
@@ -33,8 +30,7 @@ pub struct Pieces<'a> {
 
 impl<'a> Model for Pieces<'a> {
     ghost use Rattle.std.specs.Prelude.{List};
-    ghost use Rattle.mctp_routing.specs.Pieces.{PieceValue};
-    ghost use Rattle.mctp_routing.specs.PiecesLeft.{pieces_from, AreAhead};
+    ghost use Rattle.mctp_routing.{specs.Pieces.{PieceValue}, specs.PiecesLeft.{pieces_from, AreAhead}};
 
     ghost Value = { List PieceValue };
 

@@ -1,11 +1,6 @@
 //! A routing table (DSP0236, bridging), ready for look-ups.
-ghost use Rattle.std.specs.Prelude.{◌≡◌, ◌<◌, ◌≤◌, List, length, IfOk, IfErr, OnOk};
-ghost use Rattle.std.specs.List.{AllWithin};
-ghost use Rattle.std.specs.List.Sorted.{IsPermutation};
-ghost use Rattle.mctp_routing.specs.declared.row.TableRow.{TableRow};
-ghost use Rattle.mctp_routing.specs.Rows.{AreLawful, IsTable, HasSameRoutes, IsNext};
-ghost use Rattle.mctp_routing.specs.RowFaults.{IsFirstFault};
-ghost use Rattle.mctp_routing.specs.Pieces.{ArePieces};
+ghost use Rattle.std.{specs.Prelude.{◌≡◌, ◌<◌, ◌≤◌, List, length, IfOk, IfErr, OnOk}, specs.List.{AllWithin}, specs.List.Sorted.{IsPermutation}};
+ghost use Rattle.mctp_routing.{specs.declared.row.TableRow.{TableRow}, specs.Rows.{AreLawful, IsTable, HasSameRoutes, IsNext}, specs.RowFaults.{IsFirstFault}, specs.Pieces.{ArePieces}};
 
 use crate::pieces::Pieces;
 use crate::row::{Hop, TableRow};

@@ -1,7 +1,6 @@
 //! The first fault of a list of rows.
 ghost use Rattle.std.specs.Prelude.{◌<◌, ◌+◌, length, take, All, MatchOption};
-ghost use Rattle.mctp_routing.specs.Rows.{AreApart, AreLawful};
-ghost use Rattle.mctp_routing.specs.RowFaults.{IsFirstFault, IsFirstOverlap};
+ghost use Rattle.mctp_routing.{specs.Rows.{AreApart, AreLawful}, specs.RowFaults.{IsFirstFault, IsFirstOverlap}};
 
 use crate::row::TableRow;
 use crate::table_fault::TableFault;

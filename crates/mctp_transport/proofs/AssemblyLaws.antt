@@ -1,31 +1,6 @@
 -- The slots of an assembler.
-use Rattle.std.proofs.Common.{◌≡◌, ℕ, zero, suc, ◌<◌, ◌+◌, Bool, true, false, List, [], ◌∷◌, length, get_or, slice_set, slice_get, Option, Some, None, position, not, cond, refl, sym, ap, ◌∙◌, arith}
-use Rattle.std.specs.List.{prefix_len}
-use Rattle.std.proofs.Common.{subst}
-use Rattle.mctp_transport.specs.declared.assembler.open_message.OpenMessage.{OpenMessage}
-use Rattle.mctp_transport.specs.Parts.{part, rows}
-use Rattle.mctp_transport.proofs.Parts.{rows_length, rows_get}
-use Rattle.std.proofs.lemmas.Option.{slice_get_read}
-use Rattle.std.proofs.lemmas.Nat.{row_fits}
-use Rattle.std.proofs.lemmas.List.{length-take-le, length-drop, take-take}
-use Rattle.std.proofs.Common.{take, drop, ◌≤◌, ◌*◌, ◌-◌, IfSome}
-use Rattle.std.specs.Prelude.{slice_range}
-use Rattle.mctp_transport.specs.Packets.{key_value}
-use Rattle.mctp_transport.specs.Tables.{Partial, Table, TableStandsFor, is_at}
-use Rattle.mctp_transport.specs.TableChanges.{moved, started, carried, expired, next_partial, next_answer, answers_on, goes_on, extended, fault_of, fault_at}
-use Rattle.mctp_transport.specs.PacketValues.{PacketValue, KeyValue, key_of}
-use Rattle.mctp_transport.specs.Histories.{History, Arrived, TimeUp, after, IsOpen, IsKeyCount}
-use Rattle.mctp_transport.specs.Hearing.{Answer, Whole, Held, Dropped, HearsOnly}
-use Rattle.mctp_transport.specs.declared.drop_cause.DropCause.{DropCause}
-use Rattle.mctp_transport.specs.declared.assembler.Assembler.{Assembler}
-use Rattle.mctp_transport.specs.Assembly.{partial_of, Feeds, HoldsHistory, table_of, assembler_slots, assembler_limit, assembler_memory}
-use Rattle.mctp_transport.specs.Steps.{Takes}
-use Rattle.mctp_transport.proofs.Clearing.{found_key}
-use Rattle.mctp_transport.proofs.Standing.{moved_is, pick_true, found_open, expired_stands, nothing_stands, open_count}
-use Rattle.mctp_transport.proofs.Slots.{position-some}
-use Rattle.std.proofs.lemmas.Option.{same_Some, none-some}
-use Rattle.std.specs.Prelude.{◌↔◌, is_some, count_by, fold, ◌++◌, All}
-use Rattle.std.proofs.lemmas.List.Elements.{All-head, All-tail}
+use Rattle.std.{proofs.Common.{◌≡◌, ℕ, zero, suc, ◌<◌, ◌+◌, Bool, true, false, List, [], ◌∷◌, length, get_or, slice_set, slice_get, Option, Some, None, position, not, cond, refl, sym, ap, ◌∙◌, arith, subst, take, drop, ◌≤◌, ◌*◌, ◌-◌, IfSome}, specs.List.{prefix_len}, proofs.lemmas.Option.{slice_get_read, same_Some, none-some}, proofs.lemmas.Nat.{row_fits}, proofs.lemmas.List.{length-take-le, length-drop, take-take}, specs.Prelude.{slice_range, ◌↔◌, is_some, count_by, fold, ◌++◌, All}, proofs.lemmas.List.Elements.{All-head, All-tail}}
+use Rattle.mctp_transport.{specs.declared.assembler.open_message.OpenMessage.{OpenMessage}, specs.Parts.{part, rows}, proofs.Parts.{rows_length, rows_get}, specs.Packets.{key_value}, specs.Tables.{Partial, Table, TableStandsFor, is_at}, specs.TableChanges.{moved, started, carried, expired, next_partial, next_answer, answers_on, goes_on, extended, fault_of, fault_at}, specs.PacketValues.{PacketValue, KeyValue, key_of}, specs.Histories.{History, Arrived, TimeUp, after, IsOpen, IsKeyCount}, specs.Hearing.{Answer, Whole, Held, Dropped, HearsOnly}, specs.declared.drop_cause.DropCause.{DropCause}, specs.declared.assembler.Assembler.{Assembler}, specs.Assembly.{partial_of, Feeds, HoldsHistory, table_of, assembler_slots, assembler_limit, assembler_memory}, specs.Steps.{Takes}, proofs.Clearing.{found_key}, proofs.Standing.{moved_is, pick_true, found_open, expired_stands, nothing_stands, open_count}, proofs.Slots.{position-some}}
 
 -- the index among the slots is the index in the table
 prefix_rows : (test : Option Partial → Bool) (open_test : Option OpenMessage → Bool) (size : ℕ) (block : List ℕ) (i : ℕ) (os : List (Option OpenMessage))

@@ -1,16 +1,6 @@
 -- Tables without a key, and with it in a slot that was free: what they stand for, and how many other keys are open.
-use Rattle.std.proofs.Common.{◌≡◌, ◌≢◌, ℕ, true, false, length, slice_get, set, position, Option, Some, None, is_none, refl, sym, ap, ◌∙◌, arith, inl, inr, subst}
-use Rattle.std.proofs.lemmas.Bool.{false≢true, true≢false, cases_eq}
-use Rattle.std.proofs.lemmas.Option.{same_Some, none-some, slice_get_within}
-use Rattle.std.proofs.lemmas.List.{length-set}
-use Rattle.mctp_transport.specs.PacketValues.{KeyValue}
-use Rattle.mctp_transport.specs.Histories.{Input, History, after, same_key, key_of_input, ArePackets, FewerThan, AsManyAs, IsOpen, IsOtherOpen}
-use Rattle.mctp_transport.specs.Tables.{Partial, Holds, HoldsLast, TableStandsFor, Table, is_at}
-use Rattle.mctp_transport.specs.TableChanges.{ended}
-use Rattle.mctp_transport.proofs.FirstIndexes.{key_cases, same_key-same}
-use Rattle.mctp_transport.proofs.LastStarts.{last-other}
-use Rattle.mctp_transport.proofs.Openness.{open_other}
-use Rattle.mctp_transport.proofs.Slots.{Among, get_set_same, get_set_other, position-none, position-some, no_more, held_keys, keys_fewer, keys_all, keys_among, keys_have, keys_apart}
+use Rattle.std.{proofs.Common.{◌≡◌, ◌≢◌, ℕ, true, false, length, slice_get, set, position, Option, Some, None, is_none, refl, sym, ap, ◌∙◌, arith, inl, inr, subst}, proofs.lemmas.Bool.{false≢true, true≢false, cases_eq}, proofs.lemmas.Option.{same_Some, none-some, slice_get_within}, proofs.lemmas.List.{length-set}}
+use Rattle.mctp_transport.{specs.PacketValues.{KeyValue}, specs.Histories.{Input, History, after, same_key, key_of_input, ArePackets, FewerThan, AsManyAs, IsOpen, IsOtherOpen}, specs.Tables.{Partial, Holds, HoldsLast, TableStandsFor, Table, is_at}, specs.TableChanges.{ended}, proofs.FirstIndexes.{key_cases, same_key-same}, proofs.LastStarts.{last-other}, proofs.Openness.{open_other}, proofs.Slots.{Among, get_set_same, get_set_other, position-none, position-some, no_more, held_keys, keys_fewer, keys_all, keys_among, keys_have, keys_apart}}
 
 -- u is the table without the key
 pub record Cleared (key : KeyValue) (t u : Table) : Type 0 where

@@ -1,14 +1,6 @@
 -- What holds of each packet of a key that is given holds of what is collected for the key, as long as it is open.
-use Rattle.std.proofs.Common.{◌≡◌, ◌⊎◌, true, List, [], ◌∷◌, sym, subst, inl, inr}
-use Rattle.std.specs.List.{AllByRecursion}
-use Rattle.std.proofs.lemmas.Bool.{cases_Bool}
-use Rattle.mctp_transport.specs.PacketValues.{PacketValue, KeyValue, key_of}
-use Rattle.mctp_transport.specs.Messages.{Joined}
-use Rattle.mctp_transport.specs.Histories.{Input, Arrived, TimeUp, History, EachArrival, after, key_of_input, last_of, IsOpen, Comes}
-use Rattle.mctp_transport.proofs.FirstIndexes.{key_cases, same_key-same}
-use Rattle.mctp_transport.proofs.Arrivals.{EachArrival-append, packets_arrived}
-use Rattle.mctp_transport.proofs.LastStarts.{last-other, last-start, last-more}
-use Rattle.mctp_transport.proofs.Openness.{open_other, open_expired, open_more, has_started, comes_with}
+use Rattle.std.{proofs.Common.{◌≡◌, ◌⊎◌, true, List, [], ◌∷◌, sym, subst, inl, inr}, specs.List.{AllByRecursion}, proofs.lemmas.Bool.{cases_Bool}}
+use Rattle.mctp_transport.{specs.PacketValues.{PacketValue, KeyValue, key_of}, specs.Messages.{Joined}, specs.Histories.{Input, Arrived, TimeUp, History, EachArrival, after, key_of_input, last_of, IsOpen, Comes}, proofs.FirstIndexes.{key_cases, same_key-same}, proofs.Arrivals.{EachArrival-append, packets_arrived}, proofs.LastStarts.{last-other, last-start, last-more}, proofs.Openness.{open_other, open_expired, open_more, has_started, comes_with}}
 
 module _ (P : PacketValue → Type 0) (slots limit : _) where
   -- with a packet of the open key

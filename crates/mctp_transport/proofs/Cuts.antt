@@ -1,8 +1,5 @@
 -- Cuts of a message: a payload put before one, and that there is one at most.
-use Rattle.std.proofs.Common.{◌≡◌, ℕ, zero, suc, ◌+◌, ◌<◌, ◌≤◌, List, [], ◌∷◌, ◌++◌, length, take, drop, slice_get, Some, refl, sym, ap, ◌∙◌, arith, subst}
-use Rattle.std.specs.List.{concat}
-use Rattle.std.proofs.lemmas.Option.{same_Some}
-use Rattle.std.proofs.lemmas.List.{length-append, append_cancel_right, take_at, drop_at}
+use Rattle.std.{proofs.Common.{◌≡◌, ℕ, zero, suc, ◌+◌, ◌<◌, ◌≤◌, List, [], ◌∷◌, ◌++◌, length, take, drop, slice_get, Some, refl, sym, ap, ◌∙◌, arith, subst}, specs.List.{concat}, proofs.lemmas.Option.{same_Some}, proofs.lemmas.List.{length-append, append_cancel_right, take_at, drop_at}}
 use Rattle.mctp_transport.specs.Cutting.{IsCut}
 
 pub cut_nothing : (unit : ℕ) → IsCut unit [] []

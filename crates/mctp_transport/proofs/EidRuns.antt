@@ -1,6 +1,5 @@
 -- Runs of endpoint IDs that lie apart: it is enough to look at the endpoint IDs up to 255.
-use Rattle.std.proofs.Common.{ℕ, ◌+◌, ◌<◌, ◌≤◌, arith, inl, inr}
-use Rattle.std.proofs.lemmas.Bool.{cases_lt}
+use Rattle.std.{proofs.Common.{ℕ, ◌+◌, ◌<◌, ◌≤◌, arith, inl, inr}, proofs.lemmas.Bool.{cases_lt}}
 
 -- two runs that share no number up to 255, and begin there, share none
 pub apart_everywhere : (first size other count : ℕ) → first ≤ 255 → other ≤ 255

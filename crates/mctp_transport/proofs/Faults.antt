@@ -1,15 +1,7 @@
 -- What it means of the packets since the start that a packet goes on from a held message, or not.
-use Rattle.std.proofs.Common.{◌≡◌, ℕ, ◌+◌, ◌%◌, ◌<◌, ◌≤◌, true, false, not, ◌&&◌, ◌||◌, List, length, Option, Some, None, sym, ap, ◌∙◌, arith, inl, inr}
-use Rattle.std.specs.Prelude.{nat_lt, nat_eq}
-use Rattle.std.proofs.lemmas.Bool.{cases_Bool, eqb-true, eqb-false, ltb-true, ltb-false, or_cases, and_parts, not-true, or_parts}
-use Rattle.mctp_transport.specs.PacketValues.{PacketValue}
-use Rattle.mctp_transport.specs.Messages.{payloads_of, NumberFollows, LengthFits}
-use Rattle.mctp_transport.specs.Histories.{History}
-use Rattle.mctp_transport.specs.Tables.{Partial, HoldsLast}
-use Rattle.mctp_transport.specs.TableChanges.{fault_at}
-use Rattle.mctp_transport.specs.declared.drop_cause.DropCause.{DropCause}
+use Rattle.std.{proofs.Common.{◌≡◌, ℕ, ◌+◌, ◌%◌, ◌<◌, ◌≤◌, true, false, not, ◌&&◌, ◌||◌, List, length, Option, Some, None, sym, ap, ◌∙◌, arith, inl, inr}, specs.Prelude.{nat_lt, nat_eq}, proofs.lemmas.Bool.{cases_Bool, eqb-true, eqb-false, ltb-true, ltb-false, or_cases, and_parts, not-true, or_parts}}
+use Rattle.mctp_transport.{specs.PacketValues.{PacketValue}, specs.Messages.{payloads_of, NumberFollows, LengthFits}, specs.Histories.{History}, specs.Tables.{Partial, HoldsLast}, specs.TableChanges.{fault_at}, specs.declared.drop_cause.DropCause.{DropCause}, proofs.FirstIndexes.{get_first, get_end}}
 use Rattle.mctp_transport.specs.declared.drop_cause.DropCause.TheVariants as drop_cause
-use Rattle.mctp_transport.proofs.FirstIndexes.{get_first, get_end}
 
 -- what each cause means of the packets since the start
 abbrev pub Means : ℕ → List PacketValue → PacketValue → Option DropCause → Type 0

@@ -1,15 +1,6 @@
 -- Packets that join to a message and come in order, with nothing before: the message comes with the last.
-use Rattle.std.proofs.Common.{◌≡◌, ℕ, suc, ◌<◌, ◌≤◌, true, false, List, [], ◌∷◌, ◌++◌, length, map, slice_get, Some, sym, refl, ap, ◌∙◌, subst, inl, inr, arith}
-use Rattle.std.proofs.lemmas.Bool.{ne_eqb}
-use Rattle.std.specs.List.{AllByRecursion}
-use Rattle.std.proofs.lemmas.List.{map-append}
-use Rattle.std.proofs.lemmas.List.Elements.{All-head}
-use Rattle.mctp_transport.specs.PacketValues.{PacketValue, KeyValue, key_of}
-use Rattle.mctp_transport.specs.Messages.{Joined, EachPacket}
-use Rattle.mctp_transport.specs.Histories.{Input, Arrived, History, after, has_start, inputs_of, last_of, before_last_start, ArePackets, FewerThan, IsOpen, IsOtherOpen, Comes}
-use Rattle.mctp_transport.proofs.FirstIndexes.{same_key-equal}
-use Rattle.mctp_transport.proofs.Joining.{payloads_length}
-use Rattle.mctp_transport.proofs.Openness.{open_from}
+use Rattle.std.{proofs.Common.{◌≡◌, ℕ, suc, ◌<◌, ◌≤◌, true, false, List, [], ◌∷◌, ◌++◌, length, map, slice_get, Some, sym, refl, ap, ◌∙◌, subst, inl, inr, arith}, proofs.lemmas.Bool.{ne_eqb}, specs.List.{AllByRecursion}, proofs.lemmas.List.{map-append}, proofs.lemmas.List.Elements.{All-head}}
+use Rattle.mctp_transport.{specs.PacketValues.{PacketValue, KeyValue, key_of}, specs.Messages.{Joined, EachPacket}, specs.Histories.{Input, Arrived, History, after, has_start, inputs_of, last_of, before_last_start, ArePackets, FewerThan, IsOpen, IsOtherOpen, Comes}, proofs.FirstIndexes.{same_key-equal}, proofs.Joining.{payloads_length}, proofs.Openness.{open_from}}
 
 -- the packets have come, and nothing else
 abbrev pub arrivals : List PacketValue → History

@@ -1,21 +1,6 @@
 -- A slot is found by its number.
-use Rattle.std.proofs.Common.{◌≡◌, ℕ, zero, suc, ◌+◌, ◌*◌, ◌<◌, ◌≤◌, Bool, true, false, not, cond, nat_eq, nat_lt, get_or, List, [], ◌∷◌, length, take, map, set, replicate, position, Option, Some, None, is_none, refl, sym, ap, ◌∙◌, arith, inl, inr}
-use Rattle.std.specs.Prelude.{All}
-use Rattle.std.specs.List.{position_or_len}
-use Rattle.std.proofs.lemmas.Bool.{eq-eqb, true≢false, false≢true, lt-ltb, le-ltb, ne_eqb}
-use Rattle.std.proofs.lemmas.List.Sums.{position_or_len_is}
-use Rattle.std.proofs.lemmas.List.{map-set, length-set}
-use Rattle.std.proofs.lemmas.List.Elements.{All-head, All-tail}
-use Rattle.std.proofs.Math.Seq.{take-set-lt, map-set_same}
-use Rattle.mctp_transport.specs.declared.address.Key.{Key}
-use Rattle.mctp_transport.specs.declared.assembler.open_message.OpenMessage.{OpenMessage}
-use Rattle.mctp_transport.specs.PacketValues.{KeyValue, bit}
-use Rattle.mctp_transport.specs.Bits.{bit_most, bit_one}
-use Rattle.mctp_transport.specs.Packets.{key_value}
-use Rattle.mctp_transport.specs.Tables.{is_at}
-use Rattle.mctp_transport.specs.Assembly.{partial_of}
-use Rattle.mctp_transport.specs.KeyNumbers.{key_number, slot_number, IsGoneOnFrom}
-use Rattle.mctp_transport.proofs.FirstIndexes.{key_cases}
+use Rattle.std.{proofs.Common.{◌≡◌, ℕ, zero, suc, ◌+◌, ◌*◌, ◌<◌, ◌≤◌, Bool, true, false, not, cond, nat_eq, nat_lt, get_or, List, [], ◌∷◌, length, take, map, set, replicate, position, Option, Some, None, is_none, refl, sym, ap, ◌∙◌, arith, inl, inr}, specs.Prelude.{All}, specs.List.{position_or_len}, proofs.lemmas.Bool.{eq-eqb, true≢false, false≢true, lt-ltb, le-ltb, ne_eqb}, proofs.lemmas.List.Sums.{position_or_len_is}, proofs.lemmas.List.{map-set, length-set}, proofs.lemmas.List.Elements.{All-head, All-tail}, proofs.Math.Seq.{take-set-lt, map-set_same}}
+use Rattle.mctp_transport.{specs.declared.address.Key.{Key}, specs.declared.assembler.open_message.OpenMessage.{OpenMessage}, specs.PacketValues.{KeyValue, bit}, specs.Bits.{bit_most, bit_one}, specs.Packets.{key_value}, specs.Tables.{is_at}, specs.Assembly.{partial_of}, specs.KeyNumbers.{key_number, slot_number, IsGoneOnFrom}, proofs.FirstIndexes.{key_cases}}
 
 -- the source, the owner bit and the tag are known from a number
 source_is : (s o t s' o' t' : ℕ) → o ≤ 1 → t < 8 → o' ≤ 1 → t' < 8 → 16 * s + 8 * o + t ≡ 16 * s' + 8 * o' + t' → s ≡ s'

@@ -1,16 +1,6 @@
 -- The packets of a message: there is one list of them, they join to the message, and the iterator gives them.
-use Rattle.std.proofs.Common.{◌≡◌, ◌⊎◌, ℕ, zero, suc, ◌+◌, ◌%◌, ◌<◌, ◌≤◌, Bool, true, false, cond, nat_eq, nat_le, List, [], ◌∷◌, ◌++◌, length, take, drop, map, slice_get, Some, refl, sym, ap, ◌∙◌, arith, subst, inl, inr}
-use Rattle.std.specs.List.{concat}
-use Rattle.std.proofs.lemmas.Bool.{cases_lt, ne_eqb}
-use Rattle.std.proofs.lemmas.Bool.Decides.{nat_tests}
-use Rattle.std.proofs.lemmas.Option.{same_Some, none-some, slice_get_within}
-use Rattle.std.proofs.lemmas.List.{length-map, length-take, length-drop, take-append-drop}
-use Rattle.mctp_transport.specs.PacketValues.{PacketValue, KeyValue, key_of}
-use Rattle.mctp_transport.specs.Messages.{EachPacket, Joined, payloads_of}
-use Rattle.mctp_transport.specs.Cutting.{IsCut, ArePacketsOf}
-use Rattle.mctp_transport.specs.PacketsLeft.{cut}
-use Rattle.mctp_transport.proofs.PacketsLeftLaws.{first_of, later_of}
-use Rattle.mctp_transport.proofs.Cuts.{cut_nothing, cut_more, cut_some, some_payloads, same_cuts}
+use Rattle.std.{proofs.Common.{◌≡◌, ◌⊎◌, ℕ, zero, suc, ◌+◌, ◌%◌, ◌<◌, ◌≤◌, Bool, true, false, cond, nat_eq, nat_le, List, [], ◌∷◌, ◌++◌, length, take, drop, map, slice_get, Some, refl, sym, ap, ◌∙◌, arith, subst, inl, inr}, specs.List.{concat}, proofs.lemmas.Bool.{cases_lt, ne_eqb}, proofs.lemmas.Bool.Decides.{nat_tests}, proofs.lemmas.Option.{same_Some, none-some, slice_get_within}, proofs.lemmas.List.{length-map, length-take, length-drop, take-append-drop}}
+use Rattle.mctp_transport.{specs.PacketValues.{PacketValue, KeyValue, key_of}, specs.Messages.{EachPacket, Joined, payloads_of}, specs.Cutting.{IsCut, ArePacketsOf}, specs.PacketsLeft.{cut}, proofs.PacketsLeftLaws.{first_of, later_of}, proofs.Cuts.{cut_nothing, cut_more, cut_some, some_payloads, same_cuts}}
 
 abbrev payloads : List PacketValue → List (List ℕ)
 payloads fs = map (λ f. f.payload) fs

@@ -1,10 +1,6 @@
 -- What an iterator over packets gives next, and what is left then.
-use Rattle.std.proofs.Common.{◌≡◌, ℕ, zero, suc, ◌<◌, ◌≤◌, ◌+◌, ◌%◌, min, Bool, true, false, nat_eq, nat_le, cond, List, [], ◌∷◌, length, take, drop, refl, sym, ap, ◌∙◌, arith, inl, inr, ◌⊎◌}
-use Rattle.std.proofs.lemmas.Bool.{cond-false, cond-true, ne_eqb}
-use Rattle.std.proofs.lemmas.Bool.Decides.{nat_tests}
-use Rattle.std.proofs.lemmas.List.{length-drop, take_all, drop_all}
-use Rattle.mctp_transport.specs.PacketValues.{PacketValue}
-use Rattle.mctp_transport.specs.PacketsLeft.{cut}
+use Rattle.std.{proofs.Common.{◌≡◌, ℕ, zero, suc, ◌<◌, ◌≤◌, ◌+◌, ◌%◌, min, Bool, true, false, nat_eq, nat_le, cond, List, [], ◌∷◌, length, take, drop, refl, sym, ap, ◌∙◌, arith, inl, inr, ◌⊎◌}, proofs.lemmas.Bool.{cond-false, cond-true, ne_eqb}, proofs.lemmas.Bool.Decides.{nat_tests}, proofs.lemmas.List.{length-drop, take_all, drop_all}}
+use Rattle.mctp_transport.{specs.PacketValues.{PacketValue}, specs.PacketsLeft.{cut}}
 
 pick : {A : Type 0} (b : Bool) (x y z : A) → (b ≡ false → y ≡ z) → cond b x y ≡ cond b x z
 pick true x y z h = refl

@@ -1,15 +1,6 @@
 -- What joins packets of one message, of five packets at most, is that message.
-use Rattle.std.proofs.Common.{◌≡◌, ◌≢◌, ℕ, zero, suc, ◌+◌, ◌*◌, ◌%◌, ◌<◌, ◌≤◌, true, nat_eq, List, [], ◌∷◌, length, map, slice_get, Some, sym, refl, ap, ◌∙◌, subst, arith, inl, inr, length-append, suc-mul, zero-mul}
-use Rattle.std.specs.List.{AllByRecursion, concat}
-use Rattle.std.proofs.lemmas.Bool.{true≢false, eqb-true, eq-eqb, ne_eqb}
-use Rattle.std.proofs.lemmas.List.{length-map}
-use Rattle.std.proofs.lemmas.Option.{same_Some, none-some, slice_get_within, slice_get_cases}
-use Rattle.mctp_transport.specs.PacketValues.{PacketValue, KeyValue, key_of}
-use Rattle.mctp_transport.specs.Messages.{Joined, payloads_of}
-use Rattle.mctp_transport.specs.Cutting.{IsCut, ArePacketsOf}
-use Rattle.mctp_transport.specs.Sending.{IsPacketOf}
-use Rattle.mctp_transport.proofs.Cuts.{cut_rest, cut_some}
-use Rattle.mctp_transport.proofs.PacketLists.{same_packets, joined_payloads}
+use Rattle.std.{proofs.Common.{◌≡◌, ◌≢◌, ℕ, zero, suc, ◌+◌, ◌*◌, ◌%◌, ◌<◌, ◌≤◌, true, nat_eq, List, [], ◌∷◌, length, map, slice_get, Some, sym, refl, ap, ◌∙◌, subst, arith, inl, inr, length-append, suc-mul, zero-mul}, specs.List.{AllByRecursion, concat}, proofs.lemmas.Bool.{true≢false, eqb-true, eq-eqb, ne_eqb}, proofs.lemmas.List.{length-map}, proofs.lemmas.Option.{same_Some, none-some, slice_get_within, slice_get_cases}}
+use Rattle.mctp_transport.{specs.PacketValues.{PacketValue, KeyValue, key_of}, specs.Messages.{Joined, payloads_of}, specs.Cutting.{IsCut, ArePacketsOf}, specs.Sending.{IsPacketOf}, proofs.Cuts.{cut_rest, cut_some}, proofs.PacketLists.{same_packets, joined_payloads}}
 
 -- so many bytes make no more packets than they fill
 few_payloads : (unit n : ℕ) (message : List ℕ) (ps : List (List ℕ)) → IsCut unit message ps → length message ≤ n * unit → length ps ≤ n

@@ -1,15 +1,6 @@
 -- Places of a table, and how many keys there are.
-use Rattle.std.proofs.Common.{◌≡◌, ◌≢◌, ◌⊎◌, ℕ, zero, suc, ◌<◌, ◌≤◌, Bool, true, false, List, [], ◌∷◌, length, slice_get, set, position, Option, Some, None, is_none, is_some, cond, count_by, fold, ◌+◌, refl, sym, ap, ◌∙◌, arith, inl, inr}
-use Rattle.std.specs.Prelude.{All, AllPairs}
-use Rattle.std.specs.List.{position_or_len}
-use Rattle.std.proofs.lemmas.Bool.{true≢false, cases_Bool, ltb-false, ltb-true}
-use Rattle.std.proofs.lemmas.Option.{same_Some, none-some, slice_get_within, slice_get_cases, get_or_from_slice_get, cond_some}
-use Rattle.std.proofs.lemmas.List.Quantifiers.{position-Some}
-use Rattle.std.proofs.lemmas.List.Sums.{fails_before_first}
-use Rattle.std.proofs.lemmas.List.Elements.{All-head, All-tail, All-cons, All-nil, All-weaker}
-use Rattle.std.specs.Prelude.{nat_lt}
-use Rattle.mctp_transport.specs.PacketValues.{KeyValue}
-use Rattle.mctp_transport.specs.Tables.{Partial, Holds, Table}
+use Rattle.std.{proofs.Common.{◌≡◌, ◌≢◌, ◌⊎◌, ℕ, zero, suc, ◌<◌, ◌≤◌, Bool, true, false, List, [], ◌∷◌, length, slice_get, set, position, Option, Some, None, is_none, is_some, cond, count_by, fold, ◌+◌, refl, sym, ap, ◌∙◌, arith, inl, inr}, specs.Prelude.{All, AllPairs, nat_lt}, specs.List.{position_or_len}, proofs.lemmas.Bool.{true≢false, cases_Bool, ltb-false, ltb-true}, proofs.lemmas.Option.{same_Some, none-some, slice_get_within, slice_get_cases, get_or_from_slice_get, cond_some}, proofs.lemmas.List.Quantifiers.{position-Some}, proofs.lemmas.List.Sums.{fails_before_first}, proofs.lemmas.List.Elements.{All-head, All-tail, All-cons, All-nil, All-weaker}}
+use Rattle.mctp_transport.{specs.PacketValues.{KeyValue}, specs.Tables.{Partial, Holds, Table}}
 
 pub get_set_same : {A : Type 0} (xs : List A) (i : ℕ) (y : A) → i < length xs → slice_get (set xs i y) i ≡ Some y
 get_set_same [] i y h = absurd (omega arith)

@@ -1,15 +1,6 @@
 -- Some table stands for each history: so each packet has its answer, and each key is open or not.
-use Rattle.std.proofs.Common.{◌≡◌, ℕ, zero, suc, Bool, true, [], ◌∷◌, ◌++◌, length, slice_get, position, Option, Some, None, is_none, is_some, refl, sym, ap, ◌∙◌, inl, inr, subst}
-use Rattle.std.specs.Prelude.{◌↔◌, nat_lt}
-use Rattle.std.proofs.lemmas.Bool.{cases_Bool}
-use Rattle.std.proofs.lemmas.List.{length-set, append_assoc, append-nil}
-use Rattle.std.proofs.lemmas.Option.{same_Some, none-some}
-use Rattle.mctp_transport.specs.PacketValues.{PacketValue, KeyValue, key_of}
-use Rattle.mctp_transport.specs.Histories.{Input, Arrived, TimeUp, History, after, IsOpen}
-use Rattle.mctp_transport.specs.Hearing.{Answer, HearsOnly}
-use Rattle.mctp_transport.specs.Tables.{Partial, Holds, TableStandsFor, Table, is_at}
-use Rattle.mctp_transport.specs.TableChanges.{next_partial, placed, started, ended, carried_at, carried, moved, expired}
-use Rattle.mctp_transport.proofs.Standing.{moved_is, pick_true, pick_false, found_open, expired_stands, nothing_stands}
+use Rattle.std.{proofs.Common.{◌≡◌, ℕ, zero, suc, Bool, true, [], ◌∷◌, ◌++◌, length, slice_get, position, Option, Some, None, is_none, is_some, refl, sym, ap, ◌∙◌, inl, inr, subst}, specs.Prelude.{◌↔◌, nat_lt}, proofs.lemmas.Bool.{cases_Bool}, proofs.lemmas.List.{length-set, append_assoc, append-nil}, proofs.lemmas.Option.{same_Some, none-some}}
+use Rattle.mctp_transport.{specs.PacketValues.{PacketValue, KeyValue, key_of}, specs.Histories.{Input, Arrived, TimeUp, History, after, IsOpen}, specs.Hearing.{Answer, HearsOnly}, specs.Tables.{Partial, Holds, TableStandsFor, Table, is_at}, specs.TableChanges.{next_partial, placed, started, ended, carried_at, carried, moved, expired}, proofs.Standing.{moved_is, pick_true, pick_false, found_open, expired_stands, nothing_stands}}
 
 -- a table with nothing in its slots
 abbrev free_table : ℕ → Table

@@ -1,8 +1,6 @@
 -- Bytes are a packet's, or no packet's.
-use Rattle.std.proofs.Common.{◌≡◌, ◌⊎◌, ℕ, ◌/◌, ◌%◌, ◌<◌, ◌≤◌, Bool, true, false, List, [], ◌∷◌, length, ap, arith, inl, inr}
-use Rattle.std.proofs.lemmas.Bool.{cases_lt, cases_order}
-use Rattle.mctp_transport.specs.PacketValues.{PacketValue, Spelled, bit, flag_byte, version_byte}
-use Rattle.mctp_transport.specs.Bits.{bit_most}
+use Rattle.std.{proofs.Common.{◌≡◌, ◌⊎◌, ℕ, ◌/◌, ◌%◌, ◌<◌, ◌≤◌, Bool, true, false, List, [], ◌∷◌, length, ap, arith, inl, inr}, proofs.lemmas.Bool.{cases_lt, cases_order}}
+use Rattle.mctp_transport.{specs.PacketValues.{PacketValue, Spelled, bit, flag_byte, version_byte}, specs.Bits.{bit_most}}
 
 -- a digit of 0 or 1 is a flag
 pub flag_of : (n : ℕ) → n < 2 → (b : Bool) × (bit b ≡ n)

@@ -1,24 +1,7 @@
 -- What a table stands for after one more input.
-use Rattle.std.proofs.Common.{◌≡◌, ℕ, zero, suc, ◌<◌, ◌≤◌, Bool, true, false, cond, List, [], ◌∷◌, ◌++◌, length, slice_get, set, position, Option, Some, None, is_none, is_some, count_by, refl, sym, ap, ◌∙◌, arith, inl, inr, subst}
-use Rattle.std.specs.Prelude.{◌↔◌, nat_lt}
-use Rattle.std.proofs.lemmas.Bool.{false≢true, true≢false, cases_Bool, ltb-true, ltb-false}
-use Rattle.std.proofs.lemmas.Option.{same_Some, none-some, slice_get_within}
-use Rattle.std.proofs.lemmas.List.{length-append, set-set}
-use Rattle.mctp_transport.specs.PacketValues.{PacketValue, KeyValue, key_of}
-use Rattle.mctp_transport.specs.Messages.{payloads_of, AtFirst}
-use Rattle.mctp_transport.specs.Histories.{Arrived, TimeUp, History, after, has_start, inputs_of, last_of, ArePackets, IsKeyCount, IsOpen}
-use Rattle.mctp_transport.specs.Hearing.{Answer, Whole, Held, Dropped, HearsOnly}
-use Rattle.mctp_transport.specs.Tables.{Partial, Holds, HoldsLast, TableStandsFor, Table, is_at}
-use Rattle.mctp_transport.specs.TableChanges.{begun, fault_at, extended, goes_on, answers_on, placed, started, ended, carried_at, carried, moved, expired}
-use Rattle.mctp_transport.specs.declared.drop_cause.DropCause.{DropCause}
+use Rattle.std.{proofs.Common.{◌≡◌, ℕ, zero, suc, ◌<◌, ◌≤◌, Bool, true, false, cond, List, [], ◌∷◌, ◌++◌, length, slice_get, set, position, Option, Some, None, is_none, is_some, count_by, refl, sym, ap, ◌∙◌, arith, inl, inr, subst}, specs.Prelude.{◌↔◌, nat_lt}, proofs.lemmas.Bool.{false≢true, true≢false, cases_Bool, ltb-true, ltb-false}, proofs.lemmas.Option.{same_Some, none-some, slice_get_within}, proofs.lemmas.List.{length-append, set-set}}
+use Rattle.mctp_transport.{specs.PacketValues.{PacketValue, KeyValue, key_of}, specs.Messages.{payloads_of, AtFirst}, specs.Histories.{Arrived, TimeUp, History, after, has_start, inputs_of, last_of, ArePackets, IsKeyCount, IsOpen}, specs.Hearing.{Answer, Whole, Held, Dropped, HearsOnly}, specs.Tables.{Partial, Holds, HoldsLast, TableStandsFor, Table, is_at}, specs.TableChanges.{begun, fault_at, extended, goes_on, answers_on, placed, started, ended, carried_at, carried, moved, expired}, specs.declared.drop_cause.DropCause.{DropCause}, proofs.FirstIndexes.{same_key-same, get_cases}, proofs.Joining.{first_of_snoc, payloads_snoc}, proofs.Openness.{open_expired, open_packets, are_alone, one_payload, are_more, has_started}, proofs.Verdicts.{Told, heard_from, hears_one, hears_only}, proofs.Slots.{Among, get_set_same, position-none, position-some, no_more, held_keys, keys_among, keys_have, keys_apart, keys_count}, proofs.Clearing.{Cleared, found_key, ended_cleared, cleared_stands, placed_stands, room, full}, proofs.Faults.{Means, means}}
 use Rattle.mctp_transport.specs.declared.drop_cause.DropCause.TheVariants as drop_cause
-use Rattle.mctp_transport.proofs.FirstIndexes.{same_key-same, get_cases}
-use Rattle.mctp_transport.proofs.Joining.{first_of_snoc, payloads_snoc}
-use Rattle.mctp_transport.proofs.Openness.{open_expired, open_packets, are_alone, one_payload, are_more, has_started}
-use Rattle.mctp_transport.proofs.Verdicts.{Told, heard_from, hears_one, hears_only}
-use Rattle.mctp_transport.proofs.Slots.{Among, get_set_same, position-none, position-some, no_more, held_keys, keys_among, keys_have, keys_apart, keys_count}
-use Rattle.mctp_transport.proofs.Clearing.{Cleared, found_key, ended_cleared, cleared_stands, placed_stands, room, full}
-use Rattle.mctp_transport.proofs.Faults.{Means, means}
 
 only_first : (p q : PacketValue) (i : ℕ) → slice_get (p ∷ []) i ≡ Some q → p ≡ q
 only_first p q zero a = same_Some p q a

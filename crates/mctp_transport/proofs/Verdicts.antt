@@ -1,13 +1,7 @@
 -- What is heard, test by test in the order in which an assembler goes.
-use Rattle.std.proofs.Common.{◌≡◌, ◌⊎◌, ℕ, ◌+◌, ◌<◌, ◌≤◌, Bool, true, false, List, ◌++◌, length, refl, sym, ap, ◌∙◌, arith, inl, inr, subst}
-use Rattle.std.proofs.lemmas.Bool.{false≢true, cases_Bool}
-use Rattle.mctp_transport.specs.PacketValues.{PacketValue, KeyValue, key_of}
-use Rattle.mctp_transport.specs.Messages.{payloads_of, NumberFollows, LengthFits}
-use Rattle.mctp_transport.specs.Histories.{History, last_of, ArePackets, FewerThan, AsManyAs, IsOpen, IsOtherOpen}
-use Rattle.mctp_transport.specs.Hearing.{Answer, Whole, Held, Dropped, ContinuesMessage, Hears, HearsOnly}
+use Rattle.std.{proofs.Common.{◌≡◌, ◌⊎◌, ℕ, ◌+◌, ◌<◌, ◌≤◌, Bool, true, false, List, ◌++◌, length, refl, sym, ap, ◌∙◌, arith, inl, inr, subst}, proofs.lemmas.Bool.{false≢true, cases_Bool}}
+use Rattle.mctp_transport.{specs.PacketValues.{PacketValue, KeyValue, key_of}, specs.Messages.{payloads_of, NumberFollows, LengthFits}, specs.Histories.{History, last_of, ArePackets, FewerThan, AsManyAs, IsOpen, IsOtherOpen}, specs.Hearing.{Answer, Whole, Held, Dropped, ContinuesMessage, Hears, HearsOnly}, proofs.LastStarts.{packets_same}, proofs.Openness.{open_start, open_start_from, Continues, open_more, open_more_from, comes_start, comes_start_from, comes_more, comes_more_from}}
 use Rattle.mctp_transport.specs.declared.drop_cause.DropCause.TheVariants as drop_cause
-use Rattle.mctp_transport.proofs.LastStarts.{packets_same}
-use Rattle.mctp_transport.proofs.Openness.{open_start, open_start_from, Continues, open_more, open_more_from, comes_start, comes_start_from, comes_more, comes_more_from}
 
 -- where P, this answer; where Q, by the rest
 abbrev pub Test : Type 0 → Answer → Type 0 → (Answer → Type 0) → Answer → Type 0

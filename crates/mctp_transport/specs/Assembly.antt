@@ -1,14 +1,6 @@
 -- What an assembler stands for, and what feeding it does.
 use Rattle.std.specs.Prelude.{◌≡◌, ℕ, List, length, take, Option, Some, None, vec_capacity}
-use Rattle.mctp_transport.specs.PacketValues.{PacketValue}
-use Rattle.mctp_transport.specs.Histories.{History, Arrived, after}
-use Rattle.mctp_transport.specs.Hearing.{Answer, Whole, Held, Dropped, HearsOnly}
-use Rattle.mctp_transport.specs.Tables.{Partial, Table, TableStandsFor}
-use Rattle.mctp_transport.specs.Packets.{key_value}
-use Rattle.mctp_transport.specs.Parts.{rows}
-use Rattle.mctp_transport.specs.declared.assembler.open_message.OpenMessage.{OpenMessage}
-use Rattle.mctp_transport.specs.declared.assembler.Assembler.{Assembler}
-use Rattle.mctp_transport.specs.declared.assembler.Fed.{Fed}
+use Rattle.mctp_transport.{specs.PacketValues.{PacketValue}, specs.Histories.{History, Arrived, after}, specs.Hearing.{Answer, Whole, Held, Dropped, HearsOnly}, specs.Tables.{Partial, Table, TableStandsFor}, specs.Packets.{key_value}, specs.Parts.{rows}, specs.declared.assembler.open_message.OpenMessage.{OpenMessage}, specs.declared.assembler.Assembler.{Assembler}, specs.declared.assembler.Fed.{Fed}}
 use Rattle.mctp_transport.specs.declared.assembler.Fed.TheVariants as fed
 
 -- the message that is open in a slot, by the slot's part of the block

@@ -1,6 +1,5 @@
 -- Flags as the numbers 0 and 1.
-use Rattle.std.specs.Prelude.{◌≡◌, ◌≤◌, Bool, true, false, refl}
-use Rattle.std.proofs.Common.{arith}
+use Rattle.std.{specs.Prelude.{◌≡◌, ◌≤◌, Bool, true, false, refl}, proofs.Common.{arith}}
 use Rattle.mctp_transport.specs.PacketValues.{bit}
 
 -- a flag is 0 or 1

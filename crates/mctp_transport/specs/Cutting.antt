@@ -1,8 +1,6 @@
 -- What the packets of a message are.
-use Rattle.std.specs.Prelude.{◌≡◌, ℕ, ◌+◌, ◌%◌, ◌<◌, ◌≤◌, ◌==◌, List, length, map, slice_get, Some}
-use Rattle.std.specs.List.{concat}
-use Rattle.mctp_transport.specs.PacketValues.{PacketValue, KeyValue, key_of}
-use Rattle.mctp_transport.specs.Messages.{EachPacket}
+use Rattle.std.{specs.Prelude.{◌≡◌, ℕ, ◌+◌, ◌%◌, ◌<◌, ◌≤◌, ◌==◌, List, length, map, slice_get, Some}, specs.List.{concat}}
+use Rattle.mctp_transport.{specs.PacketValues.{PacketValue, KeyValue, key_of}, specs.Messages.{EachPacket}}
 
 -- The message is cut into these payloads: one after another they are the message, each but the last is as
 -- long as the transmission unit, and the last has at least one byte and at most the unit.

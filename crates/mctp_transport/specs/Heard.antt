@@ -1,9 +1,6 @@
 -- What an assembler made of a packet, wherever the message lies.
 use Rattle.std.specs.Prelude.{◌≡◌, []}
-use Rattle.mctp_transport.specs.Assembly.{HoldsHistory, assembler_slots, assembler_limit}
-use Rattle.mctp_transport.specs.Hearing.{Answer, Whole, Held, Dropped}
-use Rattle.mctp_transport.specs.declared.assembler.Assembler.{Assembler}
-use Rattle.mctp_transport.specs.declared.heard.Heard.{Heard}
+use Rattle.mctp_transport.{specs.Assembly.{HoldsHistory, assembler_slots, assembler_limit}, specs.Hearing.{Answer, Whole, Held, Dropped}, specs.declared.assembler.Assembler.{Assembler}, specs.declared.heard.Heard.{Heard}}
 use Rattle.mctp_transport.specs.declared.heard.Heard.TheVariants as heard
 
 abbrev pub heard_answer : Heard → Answer

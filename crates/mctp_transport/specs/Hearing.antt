@@ -1,10 +1,6 @@
 -- What an assembler answers to a packet, by what it was given before.
 use Rattle.std.specs.Prelude.{◌≡◌, ◌⊎◌, ℕ, ◌+◌, ◌<◌, ◌≤◌, List, length, true, false}
-use Rattle.mctp_transport.specs.PacketValues.{PacketValue, key_of}
-use Rattle.mctp_transport.specs.Messages.{payloads_of, NumberFollows, LengthFits}
-use Rattle.mctp_transport.specs.Histories.{History, Arrived, after, last_of, ArePackets}
-use Rattle.mctp_transport.specs.Histories.{IsOpen, IsOtherOpen, AsManyAs, Comes}
-use Rattle.mctp_transport.specs.declared.drop_cause.DropCause.{DropCause}
+use Rattle.mctp_transport.{specs.PacketValues.{PacketValue, key_of}, specs.Messages.{payloads_of, NumberFollows, LengthFits}, specs.Histories.{History, Arrived, after, last_of, ArePackets, IsOpen, IsOtherOpen, AsManyAs, Comes}, specs.declared.drop_cause.DropCause.{DropCause}}
 use Rattle.mctp_transport.specs.declared.drop_cause.DropCause.TheVariants as drop_cause
 
 -- what the assembler answers, without where it lies in memory

@@ -1,9 +1,6 @@
 -- What an assembler has been given, and what follows from it.
-use Rattle.std.specs.Prelude.{◌≡◌, ◌≢◌, ◌⊎◌, ℕ, zero, suc, ◌<◌, ◌≤◌, List, [], ◌∷◌, ◌++◌, length}
-use Rattle.std.specs.Prelude.{Bool, true, false, ◌&&◌, ◌==◌, filter, if◌then◌else◌, All, AllPairs}
-use Rattle.std.specs.Bool.{beq}
-use Rattle.mctp_transport.specs.PacketValues.{PacketValue, KeyValue, key_of}
-use Rattle.mctp_transport.specs.Messages.{Joined, payloads_of}
+use Rattle.std.{specs.Prelude.{◌≡◌, ◌≢◌, ◌⊎◌, ℕ, zero, suc, ◌<◌, ◌≤◌, List, [], ◌∷◌, ◌++◌, length, Bool, true, false, ◌&&◌, ◌==◌, filter, if◌then◌else◌, All, AllPairs}, specs.Bool.{beq}}
+use Rattle.mctp_transport.{specs.PacketValues.{PacketValue, KeyValue, key_of}, specs.Messages.{Joined, payloads_of}}
 
 -- one thing that an assembler is given: a packet, or word that a key's time is up
 pub data Input : Type 0 where

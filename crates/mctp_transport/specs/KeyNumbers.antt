@@ -1,8 +1,6 @@
 -- The keys of open messages as numbers.
 use Rattle.std.specs.Prelude.{◌≡◌, ℕ, ◌+◌, ◌*◌, Option, Some, None}
-use Rattle.mctp_transport.specs.declared.address.Key.{Key}
-use Rattle.mctp_transport.specs.declared.assembler.open_message.OpenMessage.{OpenMessage}
-use Rattle.mctp_transport.specs.PacketValues.{bit}
+use Rattle.mctp_transport.{specs.declared.address.Key.{Key}, specs.declared.assembler.open_message.OpenMessage.{OpenMessage}, specs.PacketValues.{bit}}
 
 -- a key as the bits that it has in a packet's header: the source, the owner bit, the tag
 abbrev pub key_number : Key → ℕ

@@ -1,7 +1,6 @@
 -- When a key is open, said of the history as it is.
 use Rattle.std.specs.Prelude.{ℕ}
-use Rattle.mctp_transport.specs.PacketValues.{KeyValue}
-use Rattle.mctp_transport.specs.Histories.{History, IsUnderWay, before_last_start, FewerThan, IsOtherOpen}
+use Rattle.mctp_transport.{specs.PacketValues.{KeyValue}, specs.Histories.{History, IsUnderWay, before_last_start, FewerThan, IsOtherOpen}}
 
 -- The key is open: its message is under way, and other keys were open in fewer than all slots before it
 -- began.

@@ -1,9 +1,6 @@
 -- No two packets have the same bytes.
-use Rattle.std.specs.Prelude.{◌≡◌, ℕ, ◌<◌, ◌≤◌, ◌+◌, ◌*◌}
-use Rattle.std.proofs.Common.{arith}
-use Rattle.mctp_transport.specs.PacketValues.{PacketValue, IsPacketValue, packet_value_bytes}
-use Rattle.mctp_transport.specs.PacketValues.{bit, flag_byte, version_byte}
-use Rattle.mctp_transport.specs.Bits.{bit_most, bit_one}
+use Rattle.std.{specs.Prelude.{◌≡◌, ℕ, ◌<◌, ◌≤◌, ◌+◌, ◌*◌}, proofs.Common.{arith}}
+use Rattle.mctp_transport.{specs.PacketValues.{PacketValue, IsPacketValue, packet_value_bytes, bit, flag_byte, version_byte}, specs.Bits.{bit_most, bit_one}}
 
 -- digits in the places 128, 64, 16, 8 and 1: from the sum each is known
 pub record SameDigits (a b n c t a' b' n' c' t' : ℕ) : Type 0 where

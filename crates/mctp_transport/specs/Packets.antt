@@ -1,10 +1,6 @@
 -- What the packets and keys of the code stand for.
 use Rattle.std.specs.Prelude.{ℕ, List}
-use Rattle.mctp_transport.specs.declared.address.Key.{Key}
-use Rattle.mctp_transport.specs.declared.packet.Header.{Header}
-use Rattle.mctp_transport.specs.declared.packet.Packet.{Packet}
-use Rattle.mctp_transport.specs.declared.packet.PacketView.{PacketView}
-use Rattle.mctp_transport.specs.PacketValues.{PacketValue, KeyValue}
+use Rattle.mctp_transport.{specs.declared.address.Key.{Key}, specs.declared.packet.Header.{Header}, specs.declared.packet.Packet.{Packet}, specs.declared.packet.PacketView.{PacketView}, specs.PacketValues.{PacketValue, KeyValue}}
 
 abbrev pub packet_value : Header → List ℕ → PacketValue
 packet_value h payload = record {

@@ -1,9 +1,6 @@
 -- What an iterator over a message's packets has yet to give.
-use Rattle.std.specs.Prelude.{ℕ, zero, suc, ◌+◌, ◌%◌, false, ◌==◌, if◌then◌else◌}
-use Rattle.std.specs.Prelude.{nat_le, List, [], ◌∷◌, length, take, drop}
-use Rattle.mctp_transport.specs.PacketValues.{PacketValue}
-use Rattle.mctp_transport.specs.Packets.{packet_value}
-use Rattle.mctp_transport.specs.declared.cutting.Packets.{Packets}
+use Rattle.std.specs.Prelude.{ℕ, zero, suc, ◌+◌, ◌%◌, false, ◌==◌, if◌then◌else◌, nat_le, List, [], ◌∷◌, length, take, drop}
+use Rattle.mctp_transport.{specs.PacketValues.{PacketValue}, specs.Packets.{packet_value}, specs.declared.cutting.Packets.{Packets}}
 
 -- the packets that come of a packet_value that has all bytes that are left, at most so many packets
 unfoldable pub cut : ℕ → ℕ → PacketValue → List PacketValue

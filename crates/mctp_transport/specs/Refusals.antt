@@ -1,7 +1,6 @@
 -- Why bytes are no packet: each cause by itself.
 use Rattle.std.specs.Prelude.{◌≡◌, ◌≢◌, ℕ, ◌<◌, ◌+◌, ◌%◌, List, length, slice_index, codes}
-use Rattle.mctp_transport.specs.declared.packet_error.PacketError.{PacketError}
-use Rattle.mctp_transport.specs.declared.packet_error.PacketError.TheVariants.{Short, Empty, Long, Version}
+use Rattle.mctp_transport.{specs.declared.packet_error.PacketError.{PacketError}, specs.declared.packet_error.PacketError.TheVariants.{Short, Empty, Long, Version}}
 
 -- not even a header
 abbrev pub IsShort : List ℕ → Type 0

@@ -1,7 +1,6 @@
 -- The packets that a message is sent in.
 use Rattle.std.specs.Prelude.{◌≡◌, ℕ, List, slice_get, Some}
-use Rattle.mctp_transport.specs.PacketValues.{PacketValue, KeyValue}
-use Rattle.mctp_transport.specs.Cutting.{ArePacketsOf}
+use Rattle.mctp_transport.{specs.PacketValues.{PacketValue, KeyValue}, specs.Cutting.{ArePacketsOf}}
 
 -- the packet is one of those of the message, to the destination, under the key and with numbers from the start on
 abbrev pub IsPacketOf : ℕ → List ℕ → ℕ → KeyValue → ℕ → PacketValue → Type 0

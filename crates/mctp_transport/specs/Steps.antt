@@ -1,11 +1,6 @@
 -- What an assembler's private calls do, by the table.
 use Rattle.std.specs.Prelude.{◌≡◌, ◌≤◌, length, slice_range}
-use Rattle.mctp_transport.specs.PacketValues.{PacketValue}
-use Rattle.mctp_transport.specs.Hearing.{Answer, Whole, Held, Dropped}
-use Rattle.mctp_transport.specs.TableChanges.{moved}
-use Rattle.mctp_transport.specs.Assembly.{table_of, assembler_slots, assembler_limit, assembler_memory}
-use Rattle.mctp_transport.specs.declared.assembler.Assembler.{Assembler}
-use Rattle.mctp_transport.specs.declared.assembler.Step.{Step}
+use Rattle.mctp_transport.{specs.PacketValues.{PacketValue}, specs.Hearing.{Answer, Whole, Held, Dropped}, specs.TableChanges.{moved}, specs.Assembly.{table_of, assembler_slots, assembler_limit, assembler_memory}, specs.declared.assembler.Assembler.{Assembler}, specs.declared.assembler.Step.{Step}}
 use Rattle.mctp_transport.specs.declared.assembler.Step.TheVariants as step
 
 -- what a step says, as an answer

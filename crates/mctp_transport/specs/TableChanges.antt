@@ -1,11 +1,7 @@
 -- What a packet, or the end of a key's time, makes of a table, as the code does it.
-use Rattle.std.specs.Prelude.{ℕ, ◌+◌, ◌%◌, Bool, true, false, not, ◌&&◌, ◌||◌, ◌==◌, if◌then◌else◌, nat_lt}
-use Rattle.std.specs.Prelude.{◌++◌, length, slice_get, slice_set, position, is_none, Option, Some, None}
-use Rattle.mctp_transport.specs.PacketValues.{PacketValue, KeyValue, key_of}
-use Rattle.mctp_transport.specs.Hearing.{Answer, Whole, Held, Dropped}
-use Rattle.mctp_transport.specs.declared.drop_cause.DropCause.{DropCause}
+use Rattle.std.specs.Prelude.{ℕ, ◌+◌, ◌%◌, Bool, true, false, not, ◌&&◌, ◌||◌, ◌==◌, if◌then◌else◌, nat_lt, ◌++◌, length, slice_get, slice_set, position, is_none, Option, Some, None}
+use Rattle.mctp_transport.{specs.PacketValues.{PacketValue, KeyValue, key_of}, specs.Hearing.{Answer, Whole, Held, Dropped}, specs.declared.drop_cause.DropCause.{DropCause}, specs.Tables.{Partial, Table, is_at}}
 use Rattle.mctp_transport.specs.declared.drop_cause.DropCause.TheVariants as drop_cause
-use Rattle.mctp_transport.specs.Tables.{Partial, Table, is_at}
 
 -- what a first packet begins
 abbrev pub begun : PacketValue → Partial

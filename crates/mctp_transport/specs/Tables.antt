@@ -1,8 +1,6 @@
 -- A table of the messages that are open, and the histories that it stands for.
 use Rattle.std.specs.Prelude.{◌≡◌, ℕ, Bool, false, List, length, slice_get, Option, Some, None}
-use Rattle.mctp_transport.specs.PacketValues.{PacketValue, KeyValue}
-use Rattle.mctp_transport.specs.Messages.{payloads_of, AtFirst, AtLast}
-use Rattle.mctp_transport.specs.Histories.{History, same_key, last_of, ArePackets, IsOpen}
+use Rattle.mctp_transport.{specs.PacketValues.{PacketValue, KeyValue}, specs.Messages.{payloads_of, AtFirst, AtLast}, specs.Histories.{History, same_key, last_of, ArePackets, IsOpen}}
 
 -- an open message: the number of its last packet, the length of its first payload, its bytes
 pub record Partial : Type 0 where

@@ -1,8 +1,6 @@
 //! Joining packets to messages (DSP0236, "Message assembly").
-ghost use Rattle.std.specs.Prelude.{◌≡◌, ◌<◌, ◌≤◌, ◌+◌, ◌*◌, length, All, IfSome, IfOk, take, map};
-ghost use Rattle.std.proofs.Props.{props};
-ghost use Rattle.mctp_transport.specs.KeyNumbers.{slot_number, IsGoneOnFrom};
-ghost use Rattle.mctp_transport.specs.declared.assembler.open_message.OpenMessage.{OpenMessage};
+ghost use Rattle.std.{specs.Prelude.{◌≡◌, ◌<◌, ◌≤◌, ◌+◌, ◌*◌, length, All, IfSome, IfOk, take, map}, proofs.Props.{props}};
+ghost use Rattle.mctp_transport.{specs.KeyNumbers.{slot_number, IsGoneOnFrom}, specs.declared.assembler.open_message.OpenMessage.{OpenMessage}};
 
 mod block;
 mod key_numbers;
@@ -67,18 +65,8 @@ enum Step {
 }
 
 impl Assembler {
-    ghost use Rattle.std.specs.Prelude.{◌↔◌, IsTrue, position, is_none, is_some, slice_set, slice_get, count_by, Option, Some, None, [], ◌++◌, ◌==◌};
-    ghost use Rattle.std.specs.Borrow.{sem};
-    ghost use Rattle.mctp_transport.specs.PacketValues.{key_of};
-    ghost use Rattle.mctp_transport.specs.Packets.{packet_value_of, key_value};
-    ghost use Rattle.mctp_transport.specs.Histories.{History, TimeUp, after, IsOpen, IsKeyCount};
-    ghost use Rattle.mctp_transport.specs.Tables.{Partial, is_at};
-    ghost use Rattle.mctp_transport.specs.TableChanges.{begun, started, carried, expired, next_partial, next_answer};
-    ghost use Rattle.mctp_transport.specs.Parts.{part};
-    ghost use Rattle.mctp_transport.specs.Assembly.{answer_of, Feeds, HoldsHistory, partial_of, table_of, assembler_slots, assembler_limit, assembler_memory};
-    ghost use Rattle.mctp_transport.specs.Hearing.{HearsOnly};
-    ghost use Rattle.mctp_transport.specs.Lending.{EndsAs};
-    ghost use Rattle.mctp_transport.specs.Steps.{IsWithinBlock, Takes, step_answer};
+    ghost use Rattle.std.{specs.Prelude.{◌↔◌, IsTrue, position, is_none, is_some, slice_set, slice_get, count_by, Option, Some, None, [], ◌++◌, ◌==◌}, specs.Borrow.{sem}};
+    ghost use Rattle.mctp_transport.{specs.PacketValues.{key_of}, specs.Packets.{packet_value_of, key_value}, specs.Histories.{History, TimeUp, after, IsOpen, IsKeyCount}, specs.Tables.{Partial, is_at}, specs.TableChanges.{begun, started, carried, expired, next_partial, next_answer}, specs.Parts.{part}, specs.Assembly.{answer_of, Feeds, HoldsHistory, partial_of, table_of, assembler_slots, assembler_limit, assembler_memory}, specs.Hearing.{HearsOnly}, specs.Lending.{EndsAs}, specs.Steps.{IsWithinBlock, Takes, step_answer}};
 
     /// An assembler of 1 to 64 slots for messages of at most `limit` bytes, 1 to 4096. All of its memory is taken
     /// here: `slots * limit` bytes and the table of slots.

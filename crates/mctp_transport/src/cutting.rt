@@ -26,9 +26,7 @@ pub struct Packets<'a> {
 }
 
 impl<'a> Packets<'a> {
-    ghost use Rattle.mctp_transport.specs.Packets.{key_value};
-    ghost use Rattle.mctp_transport.specs.Cutting.{ArePacketsOf};
-    ghost use Rattle.mctp_transport.specs.PacketsLeft.{frames_left};
+    ghost use Rattle.mctp_transport.{specs.Packets.{key_value}, specs.Cutting.{ArePacketsOf}, specs.PacketsLeft.{frames_left}};
 
     /// The packets of a message of 1 to 4096 bytes under the baseline transmission unit of 64 bytes. They are numbered
     /// from `start` on, modulo 4; SOM is on the first alone and EOM on the last alone, and the reserved bits are 0.
@@ -91,8 +89,7 @@ impl<'a> Clone for Packets<'a> {
 
 impl<'a> Iterator for Packets<'a> {
     ghost use Rattle.std.specs.Iterator.{YieldsFirstBy, item_count};
-    ghost use Rattle.mctp_transport.specs.Packets.{packet_value_of};
-    ghost use Rattle.mctp_transport.specs.PacketsLeft.{frames_left};
+    ghost use Rattle.mctp_transport.{specs.Packets.{packet_value_of}, specs.PacketsLeft.{frames_left}};
 
     type Item = PacketView<'a>;
 

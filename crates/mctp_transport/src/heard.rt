@@ -1,10 +1,6 @@
 //! What assemblers make of packets, with the messages that come whole copied.
 ghost use Rattle.std.specs.Prelude.{◌≡◌, All, IfOk, length};
-ghost use Rattle.mctp_transport.specs.Assembly.{HoldsHistory, assembler_slots, assembler_limit};
-ghost use Rattle.mctp_transport.specs.Heard.{IsIdle, heard_answer};
-ghost use Rattle.mctp_transport.specs.Hearing.{HearsOnly, Whole};
-ghost use Rattle.mctp_transport.specs.Histories.{History, Arrived, after};
-ghost use Rattle.mctp_transport.specs.Packets.{packet_value_of};
+ghost use Rattle.mctp_transport.{specs.Assembly.{HoldsHistory, assembler_slots, assembler_limit}, specs.Heard.{IsIdle, heard_answer}, specs.Hearing.{HearsOnly, Whole}, specs.Histories.{History, Arrived, after}, specs.Packets.{packet_value_of}};
 
 use crate::assembler::{Assembler, Fed};
 use crate::cutting::MAX_MESSAGE;

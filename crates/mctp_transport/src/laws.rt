@@ -1,8 +1,6 @@
 //! Laws that hold of all packets. The functions do nothing: their contracts are the laws.
 ghost use Rattle.std.specs.Prelude.{◌≡◌, ◌↔◌, ℕ, List};
-ghost use Rattle.mctp_transport.specs.PacketValues.{PacketValue, KeyValue, Spelled};
-ghost use Rattle.mctp_transport.specs.Histories.{History, IsOpen};
-ghost use Rattle.mctp_transport.specs.OpenKeys.{IsOpenNow};
+ghost use Rattle.mctp_transport.{specs.PacketValues.{PacketValue, KeyValue, Spelled}, specs.Histories.{History, IsOpen}, specs.OpenKeys.{IsOpenNow}};
 
 /// A byte list spells one packet at most, and a packet has one spelling.
 pub fn one_spelling()

@@ -56,9 +56,7 @@ pub struct PacketView<'a> {
 
 impl<'a> PacketView<'a> {
     ghost use Rattle.std.specs.Prelude.{◌↔◌, ◌++◌, drop, IfOk, IsOkAnd, Err};
-    ghost use Rattle.mctp_transport.specs.PacketValues.{PacketValue, IsPacketValue, IsUnit, Spelled, packet_value_bytes, key_of};
-    ghost use Rattle.mctp_transport.specs.Packets.{packet_value, packet_value_of, key_value};
-    ghost use Rattle.mctp_transport.specs.Refusals.{IsShort, IsEmpty, IsLong, HasOtherVersion};
+    ghost use Rattle.mctp_transport.{specs.PacketValues.{PacketValue, IsPacketValue, IsUnit, Spelled, packet_value_bytes, key_of}, specs.Packets.{packet_value, packet_value_of, key_value}, specs.Refusals.{IsShort, IsEmpty, IsLong, HasOtherVersion}};
 
     /// The packet of a header and a payload of 1 to 1024 bytes.
     pub fn new(header: Header, payload: &'a [u8]) -> PacketView<'a>

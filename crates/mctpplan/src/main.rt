@@ -9,7 +9,7 @@ ghost use Rattle.std.specs.Prelude.{◌≡◌};
 use audit_commands::run_audit;
 use bus_commands::{Emulation, run_capture, run_emulate};
 use byte_commands::{ShownKind, WordQuestion, run_decode, run_decode_named, run_show, run_worded};
-use command_answers::{Refused, Status, refuse, run_known};
+use command_answers::{Refused, Status, given_plan, refuse, run_known};
 use command_line::{
     FileAtPath, FileToWrite, FilesAtPaths, FilesBeside, Subcommand, VERSION, hint_node, hint_nodes,
     hint_record, hint_words, links_of_words, parse_command,
@@ -22,16 +22,17 @@ use json_commands::{CertifiedJson, PlanJson, run_certified_json, run_planned_jso
 use kit::PROVED;
 use net_plan::Counted;
 use plan_commands::{
-    PlanQuestion, Question, run_certified, run_certify_move, run_make, run_make_certified,
-    run_move, run_planned, run_require,
+    MakeFiles, PlanQuestion, Question, run_certified, run_certify_move, run_make,
+    run_make_certified, run_make_kept, run_move, run_planned, run_require,
 };
 use plan_differences::run_diff;
+use plan_values::Plan;
 use play_commands::{WalkScript, run_expect, run_script, simulate, simulate_move};
 use report_commands::{run_report, run_report_certified};
 use rollout_commands::{run_rollout, run_rollout_written};
-use std::env;
 use std::io::IsTerminal;
 use std::process::ExitCode;
+use std::{env, fs};
 
 /// Runs a command over the files at these paths and the standard streams. Behind its name stands what else it is asked.
 macro_rules! over {
@@ -114,7 +115,12 @@ fn run_command<'a>(rt: &'a HostRuntime, command: Subcommand<'a>) -> Status {
             certificate,
             wanted,
         } => require(rt, plan, certificate, wanted),
-        Subcommand::Make { board, certificate } => make(rt, board, certificate),
+        Subcommand::Make {
+            board,
+            keep,
+            anew,
+            files,
+        } => make(rt, board, keep, anew, &files),
         Subcommand::Sim {
             plan,
             certificate,
@@ -231,8 +237,81 @@ fn require<'a>(
     over!(rt, run_require(), plan, certificate, wanted)
 }
 
-/// Makes a plan of a board, and its certificate where a file for it is given.
-fn make<'a>(rt: &'a HostRuntime, board: &'a str, certificate: Option<&'a str>) -> Status {
+/// Makes a plan of a board, and its certificate where a file for it is given. The numbers of an old plan are kept, or
+/// those of the plan that stands where the new one is written.
+fn make<'a>(
+    rt: &'a HostRuntime,
+    board: &'a str,
+    keep: Option<&'a str>,
+    anew: bool,
+    files: &MakeFiles<'a>,
+) -> Status {
+    match (keep, files.plan) {
+        (None, None) => make_plain(rt, board, files.certificate),
+        (None, Some(plan)) if anew || !may_exist(rt, plan) => make_kept(rt, board, None, files),
+        (None, plan) => make_kept(rt, board, plan, files),
+        (keep, _) => make_kept(rt, board, keep, files),
+    }
+}
+
+/// Whether there is a file at a path, as far as the system tells.
+fn may_exist(rt: &HostRuntime, path: &str) -> bool {
+    fs::exists(rt, path).unwrap_or(true)
+}
+
+/// Makes a plan of a board that keeps the numbers of the plan at a path. Where a file can't be read or written, standard
+/// error tells its path and the system's reason.
+fn make_kept<'a>(
+    rt: &'a HostRuntime,
+    board: &'a str,
+    old: Option<&'a str>,
+    files: &MakeFiles<'a>,
+) -> Status {
+    let Some(path) = old else {
+        return make_into(rt, board, None, files);
+    };
+    let mut source = file(rt, path);
+    let mut errors = Counted::new(rt.stderr());
+    match given_plan(rt.alloc(), &mut source) {
+        Ok(plan) => make_into(rt, board, Some(&plan), files),
+        Err(refused) => {
+            let status = refuse(rt.alloc(), refused, &mut errors);
+            source
+                .inner()
+                .tell_failure(rt.alloc(), &mut Counted::new(rt.stderr()));
+            status
+        }
+    }
+}
+
+fn make_into<'a>(
+    rt: &'a HostRuntime,
+    board: &'a str,
+    old: Option<&Plan>,
+    files: &MakeFiles<'a>,
+) -> Status {
+    let alloc = rt.alloc();
+    let records = FilesBeside::new(rt, board);
+    let mut board = file(rt, board);
+    let mut written = FilesAtPaths::new(rt, alloc);
+    let mut output = Counted::new(rt.stdout());
+    let mut errors = Counted::new(rt.stderr());
+    let status = run_make_kept(
+        alloc,
+        files,
+        old,
+        &mut board,
+        &records,
+        &mut written,
+        &mut output,
+        &mut errors,
+    );
+    written.tell_failure(&mut Counted::new(rt.stderr()));
+    status
+}
+
+/// Makes a plan of a board and prints it. Its certificate is written where a file for it is given.
+fn make_plain<'a>(rt: &'a HostRuntime, board: &'a str, certificate: Option<&'a str>) -> Status {
     if let Some(path) = certificate {
         return make_certified(rt, board, path);
     }

@@ -1,17 +1,7 @@
 -- Of the sites where something isn't met one at most is the first.
-use Rattle.std.proofs.Common.{◌≡◌, ◌⊎◌, ℕ, List, [], ◌∷◌, length, Option, Some, None, refl, sym, ap, ◌∙◌, arith, inl, inr}
-use Rattle.std.proofs.lemmas.Bool.{cases_order}
-use Rattle.plan_values.specs.declared.plan.Plan.{Plan}
-use Rattle.plan_values.specs.declared.certificate.Certificate.{Certificate}
-use Rattle.net_rules.specs.declared.rule.Rule.{Rule}
-use Rattle.net_rules.specs.declared.rule.Rule.TheVariants.{C01}
-use Rattle.net_rules.specs.Faults.{FaultSite, order_of, order_of_number, LessByFirstDifference, IsMet, IsFirstFault}
-use Rattle.net_rules.specs.PlanFaults.{IsMetByPlan, IsFirstPlanFault}
-use Rattle.net_rules.specs.MoveRules.{Requirement, SameFrame, SameNode, Before, After, WayOnBefore, WayOnAfter, Given}
-use Rattle.net_rules.specs.MoveFaults.{MoveFaultSite, order_of_requirement, order_of_its_rule, IsMoveMet, IsFirstMoveFault}
-use Rattle.net_rules.specs.MoveObstacles.{IsSureFault}
-use Rattle.net_rules.proofs.RuleOrder.{one_order}
-use Rattle.net_rules.proofs.MoveOrder.{asked_at}
+use Rattle.std.{proofs.Common.{◌≡◌, ◌⊎◌, ℕ, List, [], ◌∷◌, length, Option, Some, None, refl, sym, ap, ◌∙◌, arith, inl, inr}, proofs.lemmas.Bool.{cases_order}}
+use Rattle.plan_values.{specs.declared.plan.Plan.{Plan}, specs.declared.certificate.Certificate.{Certificate}}
+use Rattle.net_rules.{specs.declared.rule.Rule.{Rule}, specs.declared.rule.Rule.TheVariants.{C01}, specs.Faults.{FaultSite, order_of, order_of_number, LessByFirstDifference, IsMet, IsFirstFault}, specs.PlanFaults.{IsMetByPlan, IsFirstPlanFault}, specs.MoveRules.{Requirement, SameFrame, SameNode, Before, After, WayOnBefore, WayOnAfter, Given}, specs.MoveFaults.{MoveFaultSite, order_of_requirement, order_of_its_rule, IsMoveMet, IsFirstMoveFault}, specs.MoveObstacles.{IsSureFault}, proofs.RuleOrder.{one_order}, proofs.MoveOrder.{asked_at}}
 
 -- two lists of one length are the same, or one of them is the less
 ordered : (xs ys : List ℕ) → length xs ≡ length ys → (xs ≡ ys) ⊎ (LessByFirstDifference xs ys ⊎ LessByFirstDifference ys xs)

@@ -1,47 +1,13 @@
 -- Of a move one cause at most is the first why there is no certificate.
-use Rattle.std.proofs.Common.{add-one, ◌≡◌, ◌≢◌, ℕ, zero, suc, ◌+◌, ◌-◌, ◌<◌, ◌≤◌, List, [], ◌∷◌, length, get_or, true, false, Option, Some, None, refl, sym, ap, ◌∙◌, subst, arith, inl, inr}
-use Rattle.std.specs.Prelude.{slice_get, Vec}
-use Rattle.std.proofs.lemmas.Bool.{cases_order, and_from, le-leb, lt-ltb, eq-eqb, ne_eqb}
-use Rattle.std.proofs.lemmas.List.{same_lists}
-use Rattle.std.proofs.lemmas.Option.{same_Some, slice_get-get_or, slice_get_within}
+use Rattle.std.{proofs.Common.{add-one, ◌≡◌, ◌≢◌, ℕ, zero, suc, ◌+◌, ◌-◌, ◌<◌, ◌≤◌, List, [], ◌∷◌, length, get_or, true, false, Option, Some, None, refl, sym, ap, ◌∙◌, subst, arith, inl, inr}, specs.Prelude.{slice_get, Vec}, proofs.lemmas.Bool.{cases_order, and_from, le-leb, lt-ltb, eq-eqb, ne_eqb}, proofs.lemmas.List.{same_lists}, proofs.lemmas.Option.{same_Some, slice_get-get_or, slice_get_within}}
 use Rattle.mctp_transport.specs.declared.address.Eid.{Eid}
-use Rattle.plan_values.specs.declared.plan.Plan.{Plan}
-use Rattle.plan_values.specs.declared.nodes.Row.{Row}
-use Rattle.plan_values.specs.declared.certificate.RankRange.{RankRange}
-use Rattle.plan_values.specs.declared.certificate.Certificate.{Certificate}
-use Rattle.net_tables.specs.Routing.{MovesTo, Covers, rows_of, eid_number}
-use Rattle.net_tables.specs.Rows.{RowsAreApart, NamesNeighbor}
-use Rattle.net_tables.specs.Ranks.{is_in_range, rank, Falls}
-use Rattle.net_rules.specs.declared.rule.Rule.{Rule}
-use Rattle.net_rules.specs.declared.rule.Rule.TheVariants.{C05, C06, C10}
-use Rattle.net_rules.specs.declared.certify_error.CertifyError.{CertifyError}
+use Rattle.plan_values.{specs.declared.plan.Plan.{Plan}, specs.declared.nodes.Row.{Row}, specs.declared.certificate.RankRange.{RankRange}, specs.declared.certificate.Certificate.{Certificate}}
+use Rattle.net_tables.{specs.Routing.{MovesTo, Covers, rows_of, eid_number}, specs.Rows.{RowsAreApart, NamesNeighbor}, specs.Ranks.{is_in_range, rank, Falls}, proofs.Elements.{element}}
+use Rattle.net_rules.{specs.declared.rule.Rule.{Rule}, specs.declared.rule.Rule.TheVariants.{C05, C06, C10}, specs.declared.certify_error.CertifyError.{CertifyError}, specs.declared.move_fault.MoveRule.{MoveRule}, specs.declared.move_fault.MoveRule.TheVariants.{OfPlan, M02, M03}, specs.declared.move_fault.MoveFault.{MoveFault}, specs.declared.move_error.MoveError.{MoveError}, specs.declared.mixed_loop.MixedLoop.{MixedLoop}, specs.declared.mixed_loop.Side.{Side}, specs.declared.mixed_loop.Side.TheVariants.{Old, New}, specs.Moves.{Leads}, specs.MixedLoops.{EitherOf, MovesOn, IsMixedLoop}, specs.Faults.{order_of}, specs.MoveRules.{Requirement, SameFrame, SameNode, Before, After, WayOnBefore, WayOnAfter, DemandsBefore, DemandsAfter}, specs.MoveFaults.{MoveFaultSite, order_of_requirement, required_after, move_site}, specs.MoveRanks.{MayMoveTo, IsFirstMixedLoop}, specs.Certificates.{NamesObstacle}, specs.MoveObstacles.{DifferInRowsAlone, CanReach, IsSureFault, IsSureFaultOf, NamesSureFault}, proofs.Circling.{no_circle_down}, proofs.EidMoves.{moves_only}, proofs.Ends.{falls_by_rule}, proofs.Obstacles.{ruled_out_before}, proofs.RuleOrder.{one_order}}
+use Rattle.net_check.{specs.OneObstacle.{IsSameMoveObstacle, HasOneMoveObstacle}, proofs.OneFault.{one_sure_site}, proofs.OneObstacle.{one_on_circle, one_eid, one_eid_number, one_obstacle}}
 use Rattle.net_rules.specs.declared.certify_error.CertifyError.TheVariants as alone
-use Rattle.net_rules.specs.declared.move_fault.MoveRule.{MoveRule}
-use Rattle.net_rules.specs.declared.move_fault.MoveRule.TheVariants.{OfPlan, M02, M03}
-use Rattle.net_rules.specs.declared.move_fault.MoveFault.{MoveFault}
-use Rattle.net_rules.specs.declared.move_error.MoveError.{MoveError}
 use Rattle.net_rules.specs.declared.move_error.MoveError.TheVariants as error
 use Rattle.net_rules.specs.declared.move_obstacle.MoveObstacle.TheVariants as obstacle
-use Rattle.net_rules.specs.declared.mixed_loop.MixedLoop.{MixedLoop}
-use Rattle.net_rules.specs.declared.mixed_loop.Side.{Side}
-use Rattle.net_rules.specs.declared.mixed_loop.Side.TheVariants.{Old, New}
-use Rattle.net_rules.specs.Moves.{Leads}
-use Rattle.net_rules.specs.MixedLoops.{EitherOf, MovesOn, IsMixedLoop}
-use Rattle.net_rules.specs.Faults.{order_of}
-use Rattle.net_rules.specs.MoveRules.{Requirement, SameFrame, SameNode, Before, After, WayOnBefore, WayOnAfter, DemandsBefore, DemandsAfter}
-use Rattle.net_rules.specs.MoveFaults.{MoveFaultSite, order_of_requirement, required_after, move_site}
-use Rattle.net_rules.specs.MoveRanks.{MayMoveTo, IsFirstMixedLoop}
-use Rattle.net_rules.specs.Certificates.{NamesObstacle}
-use Rattle.net_rules.specs.MoveObstacles.{DifferInRowsAlone, CanReach, IsSureFault, IsSureFaultOf, NamesSureFault}
-use Rattle.net_rules.proofs.Circling.{no_circle_down}
-use Rattle.net_rules.proofs.EidMoves.{moves_only}
-use Rattle.net_rules.proofs.Ends.{falls_by_rule}
-use Rattle.net_rules.proofs.Obstacles.{ruled_out_before}
-use Rattle.net_rules.proofs.RuleOrder.{one_order}
-use Rattle.net_tables.proofs.Elements.{element}
-use Rattle.net_check.specs.OneObstacle.{IsSameMoveObstacle, HasOneMoveObstacle}
-use Rattle.net_check.proofs.OneFault.{one_sure_site}
-use Rattle.net_check.proofs.OneObstacle.{one_on_circle, one_eid, one_eid_number, one_obstacle}
 
 -- ---- mixed loops, where at most one move by each relation leaves an index
 

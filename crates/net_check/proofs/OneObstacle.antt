@@ -1,35 +1,11 @@
 -- Of a plan one cause at most is the first why there is no certificate.
-use Rattle.std.proofs.Common.{add-one, ◌≡◌, ◌≢◌, ℕ, zero, suc, ◌+◌, ◌-◌, ◌<◌, List, length, get_or, Option, Some, None, refl, sym, ap, ◌∙◌, subst, arith, inl, inr}
-use Rattle.std.specs.Prelude.{slice_get}
-use Rattle.std.proofs.Props.{props}
-use Rattle.std.proofs.lemmas.Bool.{cases_order}
-use Rattle.std.proofs.lemmas.List.{same_lists}
-use Rattle.std.proofs.lemmas.Option.{same_Some, slice_get-get_or, slice_get_within}
+use Rattle.std.{proofs.Common.{add-one, ◌≡◌, ◌≢◌, ℕ, zero, suc, ◌+◌, ◌-◌, ◌<◌, List, length, get_or, Option, Some, None, refl, sym, ap, ◌∙◌, subst, arith, inl, inr}, specs.Prelude.{slice_get}, proofs.Props.{props}, proofs.lemmas.Bool.{cases_order}, proofs.lemmas.List.{same_lists}, proofs.lemmas.Option.{same_Some, slice_get-get_or, slice_get_within}}
 use Rattle.mctp_transport.specs.declared.address.Eid.{Eid}
-use Rattle.plan_values.specs.declared.plan.Plan.{Plan}
-use Rattle.plan_values.specs.declared.terminus.PlannedRecord.{PlannedRecord}
-use Rattle.net_tables.specs.Routing.{MovesTo, OfItem, eid_number}
-use Rattle.net_tables.specs.Ownership.{IsOwnedBy}
-use Rattle.net_tables.specs.Repositories.{records_of}
-use Rattle.net_rules.specs.declared.rule.Rule.{Rule}
-use Rattle.net_rules.specs.declared.rule.Rule.TheVariants.{C05, C07, C10, C12, C14}
-use Rattle.net_rules.specs.declared.fault.Fault.{Fault}
-use Rattle.net_rules.specs.declared.certify_error.CertifyError.{CertifyError}
+use Rattle.plan_values.{specs.declared.plan.Plan.{Plan}, specs.declared.terminus.PlannedRecord.{PlannedRecord}}
+use Rattle.net_tables.{specs.Routing.{MovesTo, OfItem, eid_number}, specs.Ownership.{IsOwnedBy}, specs.Repositories.{records_of}}
+use Rattle.net_rules.{specs.declared.rule.Rule.{Rule}, specs.declared.rule.Rule.TheVariants.{C05, C07, C10, C12, C14}, specs.declared.fault.Fault.{Fault}, specs.declared.certify_error.CertifyError.{CertifyError}, specs.declared.certifying.chains.ChainFault.{ChainFault}, specs.declared.certifying.chains.ChainFault.TheVariants.{Missing, Doubled, Circle}, specs.Circles.{IsLoopFrom, IsLeastOnCircle, IsLeastLoop}, specs.RecordChains.{HasNext, HasNewNext, IsFollowedBy, HaveNewHandles, IsBadChain}, specs.Faults.{order_of, site_of}, specs.PlanFaults.{PlanMeets, IsFirstPlanFault}, specs.RoutingLoops.{IsFirstRoutingLoop}, specs.Certificates.{CanBeMetBefore, NamesObstacle}, proofs.RuleOrder.{one_order}, proofs.LevelLaws.{one_owner}, proofs.EidMoves.{moves_only}, proofs.ChainLaws.{bad_chain_breaks_places}}
+use Rattle.net_check.{specs.OneObstacle.{IsSameObstacle, HasOneObstacle}, proofs.OneFault.{one_plan_site}}
 use Rattle.net_rules.specs.declared.certify_error.CertifyError.TheVariants as error
-use Rattle.net_rules.specs.declared.certifying.chains.ChainFault.{ChainFault}
-use Rattle.net_rules.specs.declared.certifying.chains.ChainFault.TheVariants.{Missing, Doubled, Circle}
-use Rattle.net_rules.specs.Circles.{IsLoopFrom, IsLeastOnCircle, IsLeastLoop}
-use Rattle.net_rules.specs.RecordChains.{HasNext, HasNewNext, IsFollowedBy, HaveNewHandles, IsBadChain}
-use Rattle.net_rules.specs.Faults.{order_of, site_of}
-use Rattle.net_rules.specs.PlanFaults.{PlanMeets, IsFirstPlanFault}
-use Rattle.net_rules.specs.RoutingLoops.{IsFirstRoutingLoop}
-use Rattle.net_rules.specs.Certificates.{CanBeMetBefore, NamesObstacle}
-use Rattle.net_rules.proofs.RuleOrder.{one_order}
-use Rattle.net_rules.proofs.LevelLaws.{one_owner}
-use Rattle.net_rules.proofs.EidMoves.{moves_only}
-use Rattle.net_rules.proofs.ChainLaws.{bad_chain_breaks_places}
-use Rattle.net_check.specs.OneObstacle.{IsSameObstacle, HasOneObstacle}
-use Rattle.net_check.proofs.OneFault.{one_plan_site}
 
 -- ---- the first of its kind
 

@@ -1,37 +1,11 @@
 -- What the rules demand of plans of one value, and of certificates of one value, is the same.
-use Rattle.std.proofs.Common.{◌≡◌, ℕ, List, [], ◌∷◌, length, Option, Some, None, refl, sym, ap, ◌∙◌, subst, arith, inl, inr}
-use Rattle.std.specs.Prelude.{slice_get, option_map}
-use Rattle.std.proofs.lemmas.Option.{same_Some, none-some}
+use Rattle.std.{proofs.Common.{◌≡◌, ℕ, List, [], ◌∷◌, length, Option, Some, None, refl, sym, ap, ◌∙◌, subst, arith, inl, inr}, specs.Prelude.{slice_get, option_map}, proofs.lemmas.Option.{same_Some, none-some}}
 use Rattle.mctp_transport.specs.PacketValues.{IsAssignable}
-use Rattle.plan_values.specs.declared.plan.Plan.{Plan}
-use Rattle.plan_values.specs.declared.nodes.Row.{Row}
-use Rattle.plan_values.specs.declared.nodes.Pool.{Pool}
-use Rattle.plan_values.specs.declared.terminus.PlannedRecord.{PlannedRecord}
-use Rattle.plan_values.specs.declared.terminus.PlannedTerminus.{PlannedTerminus}
-use Rattle.plan_values.specs.declared.certificate.Certificate.{Certificate}
-use Rattle.plan_values.specs.NodeValues.{TerminusValue, terminus_value, record_value}
-use Rattle.plan_values.specs.PlanValues.{plan_value}
-use Rattle.plan_values.specs.CertificateValues.{certificate_value}
+use Rattle.plan_values.{specs.declared.plan.Plan.{Plan}, specs.declared.nodes.Row.{Row}, specs.declared.nodes.Pool.{Pool}, specs.declared.terminus.PlannedRecord.{PlannedRecord}, specs.declared.terminus.PlannedTerminus.{PlannedTerminus}, specs.declared.certificate.Certificate.{Certificate}, specs.NodeValues.{TerminusValue, terminus_value, record_value}, specs.PlanValues.{plan_value}, specs.CertificateValues.{certificate_value}}
 use Rattle.pdr_repository.specs.Records.{IsRecordOf}
-use Rattle.net_tables.specs.Routing.{rows_of}
-use Rattle.net_tables.specs.Rows.{IsInRange, IsApartFromEarlier, IsJoined, NamesNeighbor}
-use Rattle.net_tables.specs.Ownership.{owner_of, IsInPoolOf, level}
-use Rattle.net_tables.specs.Ranks.{Falls}
-use Rattle.net_tables.specs.Repositories.{terminus_of, records_of, places_of, HasRecords, HasNewHandle, IsChained}
-use Rattle.net_tables.specs.TwoPlans.{one_plan, HasRowInBoth, HasRowInEither}
-use Rattle.net_rules.specs.declared.rule.Rule.{Rule}
-use Rattle.net_rules.specs.declared.rule.Rule.TheVariants.{C01, C02, C03, C04, C05, C06, C07, C08, C09, C10, C11, C12, C13, C14, C15, C16}
-use Rattle.net_rules.specs.Names.{HaveOneName, HasNewName}
-use Rattle.net_rules.specs.Eids.{IsNewlyHeld}
-use Rattle.net_rules.specs.Owners.{ShareBus, HasBridgeAsOwner, IsBelowItsOwner}
-use Rattle.net_rules.specs.Pools.{IsInOwnersPool, IsInNoPeersPool, IsInItsPool, LiesInOwnersPool, LiesApartFromEarlierPools, IsLawfulPool, HasLawfulPool}
-use Rattle.net_rules.specs.HeldEids.{IsLedOn}
-use Rattle.net_rules.specs.Locators.{HasOneByteAsEid, IsHeldByTerminus, LocatesTerminus}
-use Rattle.net_rules.specs.Superfluous.{NeedsItsLevel, NeedsItsPlaces, NeedsWhatItIsGiven, NeedsItsRank}
-use Rattle.net_rules.specs.Rules.{AtNode, AtItsEid, AtNodeOrEid, AtItem, AtRowEid, PlanDemands, CertificateDemands, Demands}
-use Rattle.net_check.proofs.SeenAlike.{as_many}
-use Rattle.net_check.proofs.SameRecords.{spelled, locator, one_byte, at_item, at_node_or_item, at_item_or_eid, new_handle, chained}
-use Rattle.net_check.proofs.SameNodes.{many, names, owners, pools, rows, termini, records, on_buses, buses, bridges, held, owned, has_row, unheld, levels, places, ranks, levels_are}
+use Rattle.net_tables.{specs.Routing.{rows_of}, specs.Rows.{IsInRange, IsApartFromEarlier, IsJoined, NamesNeighbor}, specs.Ownership.{owner_of, IsInPoolOf, level}, specs.Ranks.{Falls}, specs.Repositories.{terminus_of, records_of, places_of, HasRecords, HasNewHandle, IsChained}, specs.TwoPlans.{one_plan, HasRowInBoth, HasRowInEither}}
+use Rattle.net_rules.{specs.declared.rule.Rule.{Rule}, specs.declared.rule.Rule.TheVariants.{C01, C02, C03, C04, C05, C06, C07, C08, C09, C10, C11, C12, C13, C14, C15, C16}, specs.Names.{HaveOneName, HasNewName}, specs.Eids.{IsNewlyHeld}, specs.Owners.{ShareBus, HasBridgeAsOwner, IsBelowItsOwner}, specs.Pools.{IsInOwnersPool, IsInNoPeersPool, IsInItsPool, LiesInOwnersPool, LiesApartFromEarlierPools, IsLawfulPool, HasLawfulPool}, specs.HeldEids.{IsLedOn}, specs.Locators.{HasOneByteAsEid, IsHeldByTerminus, LocatesTerminus}, specs.Superfluous.{NeedsItsLevel, NeedsItsPlaces, NeedsWhatItIsGiven, NeedsItsRank}, specs.Rules.{AtNode, AtItsEid, AtNodeOrEid, AtItem, AtRowEid, PlanDemands, CertificateDemands, Demands}}
+use Rattle.net_check.{proofs.SeenAlike.{as_many}, proofs.SameRecords.{spelled, locator, one_byte, at_item, at_node_or_item, at_item_or_eid, new_handle, chained}, proofs.SameNodes.{many, names, owners, pools, rows, termini, records, on_buses, buses, bridges, held, owned, has_row, unheld, levels, places, ranks, levels_are}}
 
 -- ---- where a rule speaks
 

@@ -1,28 +1,9 @@
 -- What plans of one value say of their nodes, and certificates of one value give them, is the same.
-use Rattle.std.proofs.Common.{◌≡◌, ℕ, List, [], length, map, Bool, Option, Some, None, refl, sym, ap, ◌∙◌, subst}
-use Rattle.std.specs.Prelude.{slice_get, option_map, option_and_then, unwrap_or, find, nat_le, nat_lt, ◌==◌, ◌&&◌, ◌+◌}
-use Rattle.std.proofs.lemmas.Option.{same_Some, none-some}
-use Rattle.plan_values.specs.declared.plan.Plan.{Plan}
-use Rattle.plan_values.specs.declared.nodes.Node.{Node}
-use Rattle.plan_values.specs.declared.nodes.Row.{Row}
-use Rattle.plan_values.specs.declared.nodes.Pool.{Pool}
-use Rattle.plan_values.specs.declared.terminus.PlannedTerminus.{PlannedTerminus}
-use Rattle.plan_values.specs.declared.certificate.Certificate.{Certificate}
-use Rattle.plan_values.specs.declared.certificate.NodeLevel.{NodeLevel}
-use Rattle.plan_values.specs.declared.certificate.NodePlaces.{NodePlaces}
-use Rattle.plan_values.specs.declared.certificate.NodeRanks.{NodeRanks}
-use Rattle.plan_values.specs.declared.certificate.RankRange.{RankRange}
-use Rattle.plan_values.specs.PlanValues.{PlanValue, plan_value}
-use Rattle.plan_values.specs.NodeValues.{row_value, pool_value, PortValue, port_value, record_value, TerminusValue, terminus_value, NodeValue, node_value, but_rows}
-use Rattle.plan_values.specs.CertificateValues.{CertificateValue, certificate_value, LevelValue, level_value, PlacesValue, places_value, RangeValue, range_value, NodeRanksValue, node_ranks_value}
-use Rattle.net_tables.specs.Routing.{node_at, eid_of, rows_of, ports_of, IsBridge, Holds, NamesFor, Routes, HasRow, MovesTo}
-use Rattle.net_tables.specs.Rows.{IsOnBus, bus_of}
-use Rattle.net_tables.specs.Ownership.{owner_of, IsOwnedBy, pool_of, given_level, level}
-use Rattle.net_tables.specs.Ranks.{is_in_range, rank_in, rank}
-use Rattle.net_tables.specs.Repositories.{terminus_of, records_of, places_of}
+use Rattle.std.{proofs.Common.{◌≡◌, ℕ, List, [], length, map, Bool, Option, Some, None, refl, sym, ap, ◌∙◌, subst}, specs.Prelude.{slice_get, option_map, option_and_then, unwrap_or, find, nat_le, nat_lt, ◌==◌, ◌&&◌, ◌+◌}, proofs.lemmas.Option.{same_Some, none-some}}
+use Rattle.plan_values.{specs.declared.plan.Plan.{Plan}, specs.declared.nodes.Node.{Node}, specs.declared.nodes.Row.{Row}, specs.declared.nodes.Pool.{Pool}, specs.declared.terminus.PlannedTerminus.{PlannedTerminus}, specs.declared.certificate.Certificate.{Certificate}, specs.declared.certificate.NodeLevel.{NodeLevel}, specs.declared.certificate.NodePlaces.{NodePlaces}, specs.declared.certificate.NodeRanks.{NodeRanks}, specs.declared.certificate.RankRange.{RankRange}, specs.PlanValues.{PlanValue, plan_value}, specs.NodeValues.{row_value, pool_value, PortValue, port_value, record_value, TerminusValue, terminus_value, NodeValue, node_value, but_rows}, specs.CertificateValues.{CertificateValue, certificate_value, LevelValue, level_value, PlacesValue, places_value, RangeValue, range_value, NodeRanksValue, node_ranks_value}}
+use Rattle.net_tables.{specs.Routing.{node_at, eid_of, rows_of, ports_of, IsBridge, Holds, NamesFor, Routes, HasRow, MovesTo}, specs.Rows.{IsOnBus, bus_of}, specs.Ownership.{owner_of, IsOwnedBy, pool_of, given_level, level}, specs.Ranks.{is_in_range, rank_in, rank}, specs.Repositories.{terminus_of, records_of, places_of}}
 use Rattle.net_rules.specs.Names.{name_of}
-use Rattle.net_check.proofs.OneObstacle.{one_eid}
-use Rattle.net_check.proofs.SeenAlike.{read_alike, then_alike, as_many, at_alike, found_alike, any_alike, one_option, one_list}
+use Rattle.net_check.{proofs.OneObstacle.{one_eid}, proofs.SeenAlike.{read_alike, then_alike, as_many, at_alike, found_alike, any_alike, one_option, one_list}}
 
 one_row : (a b : Row) → row_value a ≡ row_value b → a ≡ b
 one_row a b same = λ i. record { first = one_eid a.first b.first (λ j. (same j).first) i; size = (same i).size; port = (same i).port; next = (same i).next }

@@ -1,35 +1,12 @@
 -- Why there is no certificate, and which one is exact, depends on the values of plans alone.
 use Rattle.std.proofs.Common.{◌≡◌, ℕ, Option, Some, None, refl, sym, ap, arith, inl, inr}
-use Rattle.plan_values.specs.declared.plan.Plan.{Plan}
-use Rattle.plan_values.specs.declared.certificate.Certificate.{Certificate}
-use Rattle.plan_values.specs.PlanValues.{plan_value}
-use Rattle.net_tables.specs.Routing.{MovesTo}
-use Rattle.net_tables.specs.Ownership.{IsOwnedBy, level_given}
-use Rattle.net_tables.specs.Repositories.{records_of, places_given}
-use Rattle.net_rules.specs.declared.rule.Rule.TheVariants.{C07, C10}
-use Rattle.net_rules.specs.declared.certify_error.CertifyError.{CertifyError}
+use Rattle.plan_values.{specs.declared.plan.Plan.{Plan}, specs.declared.certificate.Certificate.{Certificate}, specs.PlanValues.{plan_value}}
+use Rattle.net_tables.{specs.Routing.{MovesTo}, specs.Ownership.{IsOwnedBy, level_given}, specs.Repositories.{records_of, places_given}}
+use Rattle.net_rules.{specs.declared.rule.Rule.TheVariants.{C07, C10}, specs.declared.certify_error.CertifyError.{CertifyError}, specs.declared.certifying.longest_ways.Longest.TheVariants.{Circled}, specs.declared.move_fault.MoveFault.{MoveFault}, specs.declared.move_error.MoveError.{MoveError}, specs.declared.move_obstacle.MoveObstacle.{MoveObstacle}, specs.Promises.{WayEnds}, specs.RoutingLoops.{IsRank}, specs.MoveRules.{Requirement, After, WayOnBefore}, specs.MoveFaults.{MoveFaultSite, required_after, move_site}, specs.MoveRanks.{MayMoveTo, WayEndsInBoth, IsMoveRank}, specs.Faults.{FaultSite, site_of}, specs.PlanFaults.{IsFirstPlanFault}, specs.Certificates.{IsExactBy, IsExact, CanBeMetBefore, NamesObstacle}, specs.MoveObstacles.{IsExactForMove, DifferInRowsAlone, CanReach, IsSureFault, IsSureFaultOf, NamesSureFault, NamesMoveObstacle}, proofs.SameMoves.{Leads-same, EndsAfter-same, HasNoCircle-same, IsLeastLoop-same, no_circle_either, IsLongestOrLoop-same}}
+use Rattle.net_check.{specs.DependsOnValues.{DependsOnPlan, DependsOnPlans}, proofs.SameNodes.{many, records, held, owned, has_row, moved}, proofs.SameRecords.{are_places, have_places, bad_chain}, proofs.SameDemands.{plan_demands}, proofs.SameVerdicts.{same_frames, same_nodes, move_demands}}
 use Rattle.net_rules.specs.declared.certify_error.CertifyError.TheVariants as alone
-use Rattle.net_rules.specs.declared.certifying.longest_ways.Longest.TheVariants.{Circled}
-use Rattle.net_rules.specs.declared.move_fault.MoveFault.{MoveFault}
-use Rattle.net_rules.specs.declared.move_error.MoveError.{MoveError}
 use Rattle.net_rules.specs.declared.move_error.MoveError.TheVariants as error
-use Rattle.net_rules.specs.declared.move_obstacle.MoveObstacle.{MoveObstacle}
 use Rattle.net_rules.specs.declared.move_obstacle.MoveObstacle.TheVariants as obstacle
-use Rattle.net_rules.specs.Promises.{WayEnds}
-use Rattle.net_rules.specs.RoutingLoops.{IsRank}
-use Rattle.net_rules.specs.MoveRules.{Requirement, After, WayOnBefore}
-use Rattle.net_rules.specs.MoveFaults.{MoveFaultSite, required_after, move_site}
-use Rattle.net_rules.specs.MoveRanks.{MayMoveTo, WayEndsInBoth, IsMoveRank}
-use Rattle.net_rules.specs.Faults.{FaultSite, site_of}
-use Rattle.net_rules.specs.PlanFaults.{IsFirstPlanFault}
-use Rattle.net_rules.specs.Certificates.{IsExactBy, IsExact, CanBeMetBefore, NamesObstacle}
-use Rattle.net_rules.specs.MoveObstacles.{IsExactForMove, DifferInRowsAlone, CanReach, IsSureFault, IsSureFaultOf, NamesSureFault, NamesMoveObstacle}
-use Rattle.net_rules.proofs.SameMoves.{Leads-same, EndsAfter-same, HasNoCircle-same, IsLeastLoop-same, no_circle_either, IsLongestOrLoop-same}
-use Rattle.net_check.specs.DependsOnValues.{DependsOnPlan, DependsOnPlans}
-use Rattle.net_check.proofs.SameNodes.{many, records, held, owned, has_row, moved}
-use Rattle.net_check.proofs.SameRecords.{are_places, have_places, bad_chain}
-use Rattle.net_check.proofs.SameDemands.{plan_demands}
-use Rattle.net_check.proofs.SameVerdicts.{same_frames, same_nodes, move_demands}
 
 -- ---- of one plan
 

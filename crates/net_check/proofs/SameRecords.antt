@@ -1,19 +1,9 @@
 -- What is said of records holds of all records of the same values.
-use Rattle.std.proofs.Common.{◌≡◌, ℕ, suc, ◌+◌, List, [], length, map, Option, Some, None, sym, ap, ◌∙◌, subst, arith, inl, inr}
-use Rattle.std.specs.Prelude.{slice_get}
-use Rattle.plan_values.specs.declared.terminus.PlannedRecord.{PlannedRecord}
-use Rattle.plan_values.specs.NodeValues.{RecordValue, record_value}
+use Rattle.std.{proofs.Common.{◌≡◌, ℕ, suc, ◌+◌, List, [], length, map, Option, Some, None, sym, ap, ◌∙◌, subst, arith, inl, inr}, specs.Prelude.{slice_get}}
+use Rattle.plan_values.{specs.declared.terminus.PlannedRecord.{PlannedRecord}, specs.NodeValues.{RecordValue, record_value}}
 use Rattle.pdr_repository.specs.Records.{IsRecordOf}
-use Rattle.net_tables.specs.Routing.{OfItem}
-use Rattle.net_tables.specs.Repositories.{HasNewHandle, IsHandleAt, IsChained}
-use Rattle.net_rules.specs.declared.certifying.chains.ChainFault.{ChainFault}
-use Rattle.net_rules.specs.declared.certifying.chains.ChainFault.TheVariants.{Missing, Doubled, Circle}
-use Rattle.net_rules.specs.Rules.{AtItem, AtNodeOrItem, AtItemOrEid}
-use Rattle.net_rules.specs.Locators.{IsEidLocator, HasOneByteAsEid}
-use Rattle.net_rules.specs.Circles.{IsLeastOnCircle}
-use Rattle.net_rules.specs.RecordChains.{HasNext, HasNewNext, IsFollowedBy, IsBadChain, ArePlaces}
-use Rattle.net_rules.specs.Certificates.{HavePlaces}
-use Rattle.net_rules.proofs.SameMoves.{Leads-same}
+use Rattle.net_tables.{specs.Routing.{OfItem}, specs.Repositories.{HasNewHandle, IsHandleAt, IsChained}}
+use Rattle.net_rules.{specs.declared.certifying.chains.ChainFault.{ChainFault}, specs.declared.certifying.chains.ChainFault.TheVariants.{Missing, Doubled, Circle}, specs.Rules.{AtItem, AtNodeOrItem, AtItemOrEid}, specs.Locators.{IsEidLocator, HasOneByteAsEid}, specs.Circles.{IsLeastOnCircle}, specs.RecordChains.{HasNext, HasNewNext, IsFollowedBy, IsBadChain, ArePlaces}, specs.Certificates.{HavePlaces}, proofs.SameMoves.{Leads-same}}
 use Rattle.net_check.proofs.SeenAlike.{as_many, there}
 
 abbrev AreAlike : PlannedRecord → PlannedRecord → Type 0

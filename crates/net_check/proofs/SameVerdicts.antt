@@ -1,21 +1,9 @@
 -- What is decided of a plan and a certificate, and of a move, depends on their values alone.
 use Rattle.std.proofs.Common.{◌≡◌, ℕ, Option, Some, None, refl, sym, ap, ◌∙◌, inl, inr}
-use Rattle.plan_values.specs.declared.plan.Plan.{Plan}
-use Rattle.plan_values.specs.declared.certificate.Certificate.{Certificate}
-use Rattle.plan_values.specs.PlanValues.{PlanValue, plan_value}
-use Rattle.plan_values.specs.CertificateValues.{certificate_value}
+use Rattle.plan_values.{specs.declared.plan.Plan.{Plan}, specs.declared.certificate.Certificate.{Certificate}, specs.PlanValues.{PlanValue, plan_value}, specs.CertificateValues.{certificate_value}}
 use Rattle.net_tables.specs.TwoPlans.{moving, HasRowInBoth, HasRowInEither}
-use Rattle.net_rules.specs.declared.rule.Rule.{Rule}
-use Rattle.net_rules.specs.declared.rule.Rule.TheVariants.{C01, C02, C03, C04, C05, C06, C07, C08, C09, C10, C11, C12, C13, C14, C15, C16}
-use Rattle.net_rules.specs.HeldEids.{IsLedOn}
-use Rattle.net_rules.specs.Superfluous.{NeedsWhatItIsGiven, NeedsItsRank}
-use Rattle.net_rules.specs.Rules.{Accepts}
-use Rattle.net_rules.specs.Faults.{FaultSite, IsFirstFault}
-use Rattle.net_rules.specs.MoveRules.{Requirement, SameFrame, SameNode, Before, After, WayOnBefore, WayOnAfter, Given, IsSameNode, HaveSameFrame, DemandsBefore, DemandsAfter, MoveDemands, AcceptsMove}
-use Rattle.net_rules.specs.MoveFaults.{MoveFaultSite, IsFirstMoveFault}
-use Rattle.net_check.specs.DependsOnValues.{DependsOnValues, DependsOnMoveValues}
-use Rattle.net_check.proofs.SameNodes.{many, nodes_but_rows, has_row}
-use Rattle.net_check.proofs.SameDemands.{at_node, at_node_or_eid, at_row_eid, led_by, needs_given, needs_rank, demands}
+use Rattle.net_rules.{specs.declared.rule.Rule.{Rule}, specs.declared.rule.Rule.TheVariants.{C01, C02, C03, C04, C05, C06, C07, C08, C09, C10, C11, C12, C13, C14, C15, C16}, specs.HeldEids.{IsLedOn}, specs.Superfluous.{NeedsWhatItIsGiven, NeedsItsRank}, specs.Rules.{Accepts}, specs.Faults.{FaultSite, IsFirstFault}, specs.MoveRules.{Requirement, SameFrame, SameNode, Before, After, WayOnBefore, WayOnAfter, Given, IsSameNode, HaveSameFrame, DemandsBefore, DemandsAfter, MoveDemands, AcceptsMove}, specs.MoveFaults.{MoveFaultSite, IsFirstMoveFault}}
+use Rattle.net_check.{specs.DependsOnValues.{DependsOnValues, DependsOnMoveValues}, proofs.SameNodes.{many, nodes_but_rows, has_row}, proofs.SameDemands.{at_node, at_node_or_eid, at_row_eid, led_by, needs_given, needs_rank, demands}}
 
 -- ---- of a plan and a certificate
 

@@ -1,10 +1,5 @@
 -- Lists and options whose items are seen as the same.
-use Rattle.std.proofs.Common.{◌≡◌, ℕ, List, [], ◌∷◌, length, map, Bool, ◌||◌, Option, Some, None, refl, sym, ap, ◌∙◌, inl, inr}
-use Rattle.std.specs.Prelude.{slice_get, option_map, option_and_then, find}
-use Rattle.std.specs.List.{list_any}
-use Rattle.std.proofs.lemmas.Bool.{cases_Bool}
-use Rattle.std.proofs.lemmas.List.{length-map}
-use Rattle.std.proofs.lemmas.Option.{same_Some, none-some, slice_get-map}
+use Rattle.std.{proofs.Common.{◌≡◌, ℕ, List, [], ◌∷◌, length, map, Bool, ◌||◌, Option, Some, None, refl, sym, ap, ◌∙◌, inl, inr}, specs.Prelude.{slice_get, option_map, option_and_then, find}, specs.List.{list_any}, proofs.lemmas.Bool.{cases_Bool}, proofs.lemmas.List.{length-map}, proofs.lemmas.Option.{same_Some, none-some, slice_get-map}}
 
 module _ {X V : Type 0} (see : X → V) where
   -- what is read of what is seen is the same

@@ -1,36 +1,11 @@
 -- A plan that moves to itself has the certificate, or the obstacle, that it has alone.
 use Rattle.std.proofs.Common.{◌≡◌, ◌≢◌, ℕ, ◌<◌, Option, Some, None, refl, arith, inl, inr}
-use Rattle.net_rules.specs.declared.rule.Rule.{Rule}
-use Rattle.net_rules.specs.declared.rule.Rule.TheVariants.{C01, C02, C03, C04, C05, C06, C07, C08, C09, C10, C11, C12, C13, C14, C15, C16}
-use Rattle.net_rules.specs.declared.certify_error.CertifyError.{CertifyError}
-use Rattle.net_rules.specs.declared.move_error.MoveError.{MoveError}
-use Rattle.net_rules.specs.declared.move_error.MoveError.TheVariants as error
-use Rattle.net_rules.specs.declared.move_fault.MoveRule.{MoveRule}
-use Rattle.net_rules.specs.declared.move_fault.MoveRule.TheVariants.{OfPlan, M02, M03}
-use Rattle.net_rules.specs.declared.move_fault.MoveFault.{MoveFault}
-use Rattle.net_rules.specs.declared.move_obstacle.MoveObstacle.{MoveObstacle}
-use Rattle.net_rules.specs.declared.move_obstacle.MoveObstacle.TheVariants as obstacle
-use Rattle.plan_values.specs.declared.plan.Plan.{Plan}
-use Rattle.plan_values.specs.declared.certificate.Certificate.{Certificate}
-use Rattle.net_tables.specs.Routing.{MovesTo, eid_number}
-use Rattle.net_tables.specs.Rows.{RowsAreApart}
-use Rattle.net_tables.specs.Ranks.{rank}
-use Rattle.net_tables.specs.TwoPlans.{one_plan, moving}
-use Rattle.net_rules.specs.Superfluous.{NeedsItsRank}
-use Rattle.net_rules.specs.Rules.{Accepts, Demands}
-use Rattle.net_rules.specs.Promises.{WayEnds}
-use Rattle.net_rules.specs.RoutingLoops.{IsRank}
-use Rattle.net_rules.specs.MoveRules.{Before, After, WayOnBefore, WayOnAfter, Given, DemandsBefore, AcceptsMove}
-use Rattle.net_rules.specs.MoveFaults.{MoveFaultSite, order_of_requirement, required_after}
-use Rattle.net_rules.specs.Certificates.{IsExact, NamesObstacle}
-use Rattle.net_rules.specs.MoveRanks.{MayMoveTo, WayEndsInBoth, IsMoveRank}
-use Rattle.net_rules.specs.MoveObstacles.{IsExactForMove, CanReach, IsSureFaultOf, NamesSureFault, NamesMoveObstacle}
-use Rattle.net_rules.proofs.Circling.{no_circle_down}
-use Rattle.net_rules.proofs.EidMoves.{rank_only}
-use Rattle.net_rules.proofs.Ends.{falls_by_rule}
-use Rattle.net_rules.proofs.MoveCertificates.{plan_rows_apart}
-use Rattle.net_rules.proofs.SameMoves.{Leads-same}
+use Rattle.net_rules.{specs.declared.rule.Rule.{Rule}, specs.declared.rule.Rule.TheVariants.{C01, C02, C03, C04, C05, C06, C07, C08, C09, C10, C11, C12, C13, C14, C15, C16}, specs.declared.certify_error.CertifyError.{CertifyError}, specs.declared.move_error.MoveError.{MoveError}, specs.declared.move_fault.MoveRule.{MoveRule}, specs.declared.move_fault.MoveRule.TheVariants.{OfPlan, M02, M03}, specs.declared.move_fault.MoveFault.{MoveFault}, specs.declared.move_obstacle.MoveObstacle.{MoveObstacle}, specs.Superfluous.{NeedsItsRank}, specs.Rules.{Accepts, Demands}, specs.Promises.{WayEnds}, specs.RoutingLoops.{IsRank}, specs.MoveRules.{Before, After, WayOnBefore, WayOnAfter, Given, DemandsBefore, AcceptsMove}, specs.MoveFaults.{MoveFaultSite, order_of_requirement, required_after}, specs.Certificates.{IsExact, NamesObstacle}, specs.MoveRanks.{MayMoveTo, WayEndsInBoth, IsMoveRank}, specs.MoveObstacles.{IsExactForMove, CanReach, IsSureFaultOf, NamesSureFault, NamesMoveObstacle}, proofs.Circling.{no_circle_down}, proofs.EidMoves.{rank_only}, proofs.Ends.{falls_by_rule}, proofs.MoveCertificates.{plan_rows_apart}, proofs.SameMoves.{Leads-same}}
+use Rattle.plan_values.{specs.declared.plan.Plan.{Plan}, specs.declared.certificate.Certificate.{Certificate}}
+use Rattle.net_tables.{specs.Routing.{MovesTo, eid_number}, specs.Rows.{RowsAreApart}, specs.Ranks.{rank}, specs.TwoPlans.{one_plan, moving}}
 use Rattle.net_check.proofs.SelfMoves.{same_frame, same_node, moves_to_itself, after_of_before, way_on_itself}
+use Rattle.net_rules.specs.declared.move_error.MoveError.TheVariants as error
+use Rattle.net_rules.specs.declared.move_obstacle.MoveObstacle.TheVariants as obstacle
 
 -- ---- ranks
 

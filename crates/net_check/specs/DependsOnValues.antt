@@ -1,9 +1,6 @@
 -- Facts of plans and certificates that depend on what these say alone.
 use Rattle.std.specs.Prelude.{◌≡◌}
-use Rattle.plan_values.specs.declared.plan.Plan.{Plan}
-use Rattle.plan_values.specs.declared.certificate.Certificate.{Certificate}
-use Rattle.plan_values.specs.PlanValues.{plan_value}
-use Rattle.plan_values.specs.CertificateValues.{certificate_value}
+use Rattle.plan_values.{specs.declared.plan.Plan.{Plan}, specs.declared.certificate.Certificate.{Certificate}, specs.PlanValues.{plan_value}, specs.CertificateValues.{certificate_value}}
 
 -- where it holds of one plan, it holds of each of the same value
 abbrev pub DependsOnPlan : (Plan → Type 0) → Type 0

@@ -1,12 +1,9 @@
 -- That one cause at most is the first why there is no certificate.
 use Rattle.std.specs.Prelude.{◌≡◌, ◌≢◌}
 use Rattle.plan_values.specs.declared.plan.Plan.{Plan}
-use Rattle.net_rules.specs.declared.certify_error.CertifyError.{CertifyError}
+use Rattle.net_rules.{specs.declared.certify_error.CertifyError.{CertifyError}, specs.declared.move_obstacle.MoveObstacle.{MoveObstacle}, specs.Certificates.{NamesObstacle}, specs.MoveObstacles.{NamesMoveObstacle}}
 use Rattle.net_rules.specs.declared.certify_error.CertifyError.TheVariants as alone
-use Rattle.net_rules.specs.declared.move_obstacle.MoveObstacle.{MoveObstacle}
 use Rattle.net_rules.specs.declared.move_obstacle.MoveObstacle.TheVariants as moving
-use Rattle.net_rules.specs.Certificates.{NamesObstacle}
-use Rattle.net_rules.specs.MoveObstacles.{NamesMoveObstacle}
 
 -- the errors name the same fault, the same loop, or the same chain
 abbrev pub IsSameObstacle : CertifyError → CertifyError → Type 0

@@ -1,17 +1,9 @@
 //! `check`, and what it answers.
 ghost use Rattle.std.specs.Prelude.{◌≡◌, ℕ, IfOk, OnOk, IfErr};
-ghost use Rattle.net_rules.specs.Rules.{Accepts};
+ghost use Rattle.net_rules.{specs.Rules.{Accepts}, specs.Promises.{EndsWithinRank}};
 ghost use Rattle.net_check.specs.Errors.{NamesFirstFault};
-ghost use Rattle.net_rules.specs.Promises.{EndsWithinRank};
 ghost use Rattle.mctp_transport.specs.PacketValues.{KeyValue};
-ghost use Rattle.net_runs.specs.States.{NetworkState, unit_of};
-ghost use Rattle.net_runs.specs.Headline.{Headline};
-ghost use Rattle.net_runs.specs.Deliveries.{Delivers};
-ghost use Rattle.net_runs.specs.ExactMessages.{RunsAsSent};
-ghost use Rattle.net_runs.specs.NetworkWalks.{WalksOverNetworks};
-ghost use Rattle.net_runs.specs.Walkers.{WalkedState};
-ghost use Rattle.net_runs.specs.WalkedMessages.{WalkedRunsAsSent};
-ghost use Rattle.net_runs.specs.WalkedPromises.{WalkedHeadline, WalkedDelivers};
+ghost use Rattle.net_runs.{specs.States.{NetworkState, unit_of}, specs.Headline.{Headline}, specs.Deliveries.{Delivers}, specs.ExactMessages.{RunsAsSent}, specs.NetworkWalks.{WalksOverNetworks}, specs.Walkers.{WalkedState}, specs.WalkedMessages.{WalkedRunsAsSent}, specs.WalkedPromises.{WalkedHeadline, WalkedDelivers}};
 ghost use Rattle.net_tables.specs.TwoPlans.{one_plan};
 
 use crate::check_error::CheckError;
@@ -28,8 +20,7 @@ pub struct Checked<'a> {
 }
 
 impl<'a> Model for Checked<'a> {
-    ghost use Rattle.plan_values.specs.declared.plan.Plan.{Plan};
-    ghost use Rattle.plan_values.specs.declared.certificate.Certificate.{Certificate};
+    ghost use Rattle.plan_values.{specs.declared.plan.Plan.{Plan}, specs.declared.certificate.Certificate.{Certificate}};
     ghost use Rattle.net_rules.specs.Rules.{Accepts};
 
     ghost Value = { Plan × Certificate };

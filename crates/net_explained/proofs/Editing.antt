@@ -1,16 +1,7 @@
 -- What an edit of one item makes of a list, and of a plan.
-use Rattle.std.proofs.Common.{◌≡◌, ◌<◌, ◌++◌, ◌∙◌, ℕ, suc, List, Option, Some, None, map, option_map, take, drop, length, slice_get, slice_set, slice_index_or, ap, sym}
-use Rattle.std.specs.Prelude.{IfSome, Vec}
-use Rattle.std.specs.List.{remove}
-use Rattle.std.specs.declared.alloc.Global.{Global}
-use Rattle.std.proofs.lemmas.List.{map-append, map-set, take-map, drop-map}
-use Rattle.std.proofs.lemmas.Option.{slice_get-map, slice_get-get_or}
-use Rattle.plan_values.specs.NodeValues.{BusValue, NodeValue, bus_value, node_value}
-use Rattle.plan_values.specs.PlanValues.{PlanValue, plan_value}
-use Rattle.plan_values.specs.declared.nodes.Node.{Node}
-use Rattle.plan_values.specs.declared.plan.Plan.{Plan}
-use Rattle.net_explained.specs.Edits.{IsEdited, changed, with_item}
-use Rattle.net_explained.specs.declared.edit.Edit.{Edit}
+use Rattle.std.{proofs.Common.{◌≡◌, ◌<◌, ◌++◌, ◌∙◌, ℕ, suc, List, Option, Some, None, map, option_map, take, drop, length, slice_get, slice_set, slice_index_or, ap, sym}, specs.Prelude.{IfSome, Vec}, specs.List.{remove}, specs.declared.alloc.Global.{Global}, proofs.lemmas.List.{map-append, map-set, take-map, drop-map}, proofs.lemmas.Option.{slice_get-map, slice_get-get_or}}
+use Rattle.plan_values.{specs.NodeValues.{BusValue, NodeValue, bus_value, node_value}, specs.PlanValues.{PlanValue, plan_value}, specs.declared.nodes.Node.{Node}, specs.declared.plan.Plan.{Plan}}
+use Rattle.net_explained.{specs.Edits.{IsEdited, changed, with_item}, specs.declared.edit.Edit.{Edit}}
 
 -- ---- lists
 

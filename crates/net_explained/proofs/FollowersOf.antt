@@ -1,16 +1,7 @@
 -- Where each record has a handle of its own, the table of followers has the moves along next handles.
-use Rattle.std.proofs.Common.{◌≡◌, ℕ, suc, ◌<◌, Bool, true, eqb, List, length, get_or, Option, Some, None, refl, sym, ◌∙◌, ap, subst, arith, inl, inr}
-use Rattle.std.specs.Prelude.{slice_get, position, option_and_then, option_map}
-use Rattle.std.specs.List.{position_or_len}
-use Rattle.std.proofs.lemmas.Bool.{cases_lt, false≢true, lt-ltb, eqb-true, eq-eqb}
-use Rattle.std.proofs.lemmas.List.Sums.{fails_before_first}
-use Rattle.std.proofs.lemmas.List.Quantifiers.{position-Some}
-use Rattle.std.proofs.lemmas.Option.{none-some, slice_get-map, slice_get-get_or, get_or_from_slice_get, slice_get_within}
+use Rattle.std.{proofs.Common.{◌≡◌, ℕ, suc, ◌<◌, Bool, true, eqb, List, length, get_or, Option, Some, None, refl, sym, ◌∙◌, ap, subst, arith, inl, inr}, specs.Prelude.{slice_get, position, option_and_then, option_map}, specs.List.{position_or_len}, proofs.lemmas.Bool.{cases_lt, false≢true, lt-ltb, eqb-true, eq-eqb}, proofs.lemmas.List.Sums.{fails_before_first}, proofs.lemmas.List.Quantifiers.{position-Some}, proofs.lemmas.Option.{none-some, slice_get-map, slice_get-get_or, get_or_from_slice_get, slice_get_within}}
 use Rattle.plan_values.specs.declared.terminus.PlannedRecord.{PlannedRecord}
-use Rattle.net_rules.specs.Circles.{MovesBy, IsOnCircle, IsLoopFrom, next_in}
-use Rattle.net_rules.specs.RecordChains.{IsFollowedBy, HaveNewHandles}
-use Rattle.net_rules.proofs.ChainLaws.{one_follows}
-use Rattle.net_rules.proofs.SameMoves.{Leads-same}
+use Rattle.net_rules.{specs.Circles.{MovesBy, IsOnCircle, IsLoopFrom, next_in}, specs.RecordChains.{IsFollowedBy, HaveNewHandles}, proofs.ChainLaws.{one_follows}, proofs.SameMoves.{Leads-same}}
 use Rattle.net_explained.specs.Followers.{record_of_handle, followers}
 
 -- an item that passes has a first one

@@ -1,18 +1,9 @@
 -- What an edit that was tried leaves of a fault.
 use Rattle.std.proofs.Common.{◌≡◌, ◌⊎◌, ◌<◌, ℕ, List, [], ◌∷◌, Option, Some, None, sym, ◌∙◌, ap, subst, arith, inl, inr}
-use Rattle.net_explained.specs.Obstacles.{IsLater, IsLeft, IsUpTo, EditsTakeFaultsAway, key_of}
-use Rattle.net_explained.proofs.Later.{not_less}
+use Rattle.net_explained.{specs.Obstacles.{IsLater, IsLeft, IsUpTo, EditsTakeFaultsAway, key_of}, proofs.Later.{not_less}}
 use Rattle.plan_values.specs.declared.plan.Plan.{Plan}
-use Rattle.net_rules.specs.Certificates.{NamesObstacle}
-use Rattle.net_rules.specs.Faults.{FaultSite, LessByFirstDifference, ComesBefore, site_of, order_of, order_of_number}
-use Rattle.net_rules.specs.PlanFaults.{IsMetByPlan, PlanMeets}
-use Rattle.net_rules.specs.Rules.{PlanDemands}
-use Rattle.net_rules.specs.declared.certify_error.CertifyError.{CertifyError}
+use Rattle.net_rules.{specs.Certificates.{NamesObstacle}, specs.Faults.{FaultSite, LessByFirstDifference, ComesBefore, site_of, order_of, order_of_number}, specs.PlanFaults.{IsMetByPlan, PlanMeets}, specs.Rules.{PlanDemands}, specs.declared.certify_error.CertifyError.{CertifyError}, specs.declared.fault.Fault.{Fault}, specs.declared.rule.Rule.{Rule}, specs.declared.rule.Rule.TheVariants.{C07, C10, C14}, proofs.RuleOrder.{one_order}}
 use Rattle.net_rules.specs.declared.certify_error.CertifyError.TheVariants as error
-use Rattle.net_rules.specs.declared.fault.Fault.{Fault}
-use Rattle.net_rules.specs.declared.rule.Rule.{Rule}
-use Rattle.net_rules.specs.declared.rule.Rule.TheVariants.{C07, C10, C14}
-use Rattle.net_rules.proofs.RuleOrder.{one_order}
 
 -- ---- lists of numbers
 

@@ -1,7 +1,5 @@
 -- What is said of the item at a place of a list, where it is known, and where there is none.
-use Rattle.std.proofs.Common.{◌≡◌, ℕ, List, Bool, IsTrue, Some, None, sym, ◌∙◌, subst}
-use Rattle.std.specs.Prelude.{◌↔◌, slice_get}
-use Rattle.std.proofs.lemmas.Option.{same_Some, none-some}
+use Rattle.std.{proofs.Common.{◌≡◌, ℕ, List, Bool, IsTrue, Some, None, sym, ◌∙◌, subst}, specs.Prelude.{◌↔◌, slice_get}, proofs.lemmas.Option.{same_Some, none-some}}
 use Rattle.net_tables.specs.Routing.{OfItem}
 
 pub of_item : {A : Type 0} (items : List A) (i : ℕ) (P : A → Type 0) (x : A) → Some x ≡ slice_get items i → P x → OfItem items i P

@@ -1,12 +1,8 @@
 -- What an obstacle that comes later is.
 use Rattle.std.proofs.Common.{◌≡◌, ◌≢◌, ℕ, List, [], ◌∷◌, Some, None, Ok, sym, subst}
-use Rattle.net_explained.specs.Edits.{IsEdited}
-use Rattle.net_explained.specs.Obstacles.{IsLater, IsLeft, IsTried, key_of}
-use Rattle.net_explained.specs.declared.trial.Tried.{Tried}
-use Rattle.plan_values.specs.PlanValues.{PlanValue, plan_value}
-use Rattle.plan_values.specs.declared.plan.Plan.{Plan}
-use Rattle.net_rules.specs.Faults.{LessByFirstDifference}
-use Rattle.net_rules.specs.declared.certify_error.CertifyError.{CertifyError}
+use Rattle.net_explained.{specs.Edits.{IsEdited}, specs.Obstacles.{IsLater, IsLeft, IsTried, key_of}, specs.declared.trial.Tried.{Tried}}
+use Rattle.plan_values.{specs.PlanValues.{PlanValue, plan_value}, specs.declared.plan.Plan.{Plan}}
+use Rattle.net_rules.{specs.Faults.{LessByFirstDifference}, specs.declared.certify_error.CertifyError.{CertifyError}}
 use Rattle.net_rules.specs.declared.certify_error.CertifyError.TheVariants as error
 
 -- no numbers come before none

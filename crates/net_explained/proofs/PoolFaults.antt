@@ -1,13 +1,8 @@
 -- What is lawful of a node's pool, and what is not.
-use Rattle.std.proofs.Common.{◌≡◌, ℕ, ◌+◌, ◌<◌, ◌≤◌, Option, Some, None, refl, sym, ◌∙◌, subst, arith, inl, inr}
-use Rattle.std.proofs.lemmas.Bool.{cases_lt}
-use Rattle.std.proofs.lemmas.Option.{same_Some}
-use Rattle.plan_values.specs.declared.plan.Plan.{Plan}
-use Rattle.plan_values.specs.declared.nodes.Pool.{Pool}
-use Rattle.net_tables.specs.Routing.{IsBridge}
-use Rattle.net_tables.specs.Ownership.{owner_of, IsOwnedBy, pool_of, IsInPool, IsInPoolOf}
+use Rattle.std.{proofs.Common.{◌≡◌, ℕ, ◌+◌, ◌<◌, ◌≤◌, Option, Some, None, refl, sym, ◌∙◌, subst, arith, inl, inr}, proofs.lemmas.Bool.{cases_lt}, proofs.lemmas.Option.{same_Some}}
+use Rattle.plan_values.{specs.declared.plan.Plan.{Plan}, specs.declared.nodes.Pool.{Pool}}
+use Rattle.net_tables.{specs.Routing.{IsBridge}, specs.Ownership.{owner_of, IsOwnedBy, pool_of, IsInPool, IsInPoolOf}, proofs.PoolsOf.{in_pool_of, in_no_pool}}
 use Rattle.net_rules.specs.Pools.{IsPoolInRange, LiesInOwnersPool, LiesApartFromEarlierPools, IsLawfulPool, HasLawfulPool}
-use Rattle.net_tables.proofs.PoolsOf.{in_pool_of, in_no_pool}
 
 -- whether an endpoint ID lies in a pool is decided
 in_pool : (pool : Pool) (e : ℕ) → ¬ ¬ IsInPool pool e → IsInPool pool e

@@ -1,10 +1,7 @@
 -- A text stands for one plan.
 use Rattle.std.proofs.Common.{◌≡◌, ℕ, List, Option, Some, Ok, ◌∙◌, sym, subst}
-use Rattle.net_plan.proofs.PlanLaw.{plan_tells}
-use Rattle.net_plan.proofs.Telling.{same_Ok}
-use Rattle.net_plan.specs.PlanText.{IsPlanOf}
+use Rattle.net_plan.{proofs.PlanLaw.{plan_tells}, proofs.Telling.{same_Ok}, specs.PlanText.{IsPlanOf}, specs.Texts.{IsJsonTextOf}}
 use Rattle.plan_values.specs.PlanValues.{PlanValue}
-use Rattle.net_plan.specs.Texts.{IsJsonTextOf}
 
 same_some : {A : Type 0} (o : Option A) (d e : A) → o ≡ Some d → o ≡ Some e → d ≡ e
 same_some o d e one other = cc (one, other)

@@ -1,41 +1,12 @@
 -- Why a plan breaks a rule at a site, and who else is involved.
-use Rattle.std.specs.Prelude.{◌≡◌, ◌≢◌, ℕ, ◌<◌, ◌≤◌, List, [], ◌∷◌, length, Option, Some, None, slice_get}
-use Rattle.std.specs.Option.{IsSomeAnd}
+use Rattle.std.{specs.Prelude.{◌≡◌, ◌≢◌, ℕ, ◌<◌, ◌≤◌, List, [], ◌∷◌, length, Option, Some, None, slice_get}, specs.Option.{IsSomeAnd}}
 use Rattle.mctp_transport.specs.PacketValues.{IsAssignable}
-use Rattle.pdr_record.specs.Faults.{IsFault}
-use Rattle.pdr_record.specs.Records.{RecordValue, Spelled}
-use Rattle.pdr_record.specs.declared.record_error.RecordError.{RecordError}
+use Rattle.pdr_record.{specs.Faults.{IsFault}, specs.Records.{RecordValue, Spelled}, specs.declared.record_error.RecordError.{RecordError}}
 use Rattle.pdr_repository.specs.Records.{IsRecordOf}
-use Rattle.plan_values.specs.declared.plan.Plan.{Plan}
-use Rattle.plan_values.specs.declared.nodes.Pool.{Pool}
-use Rattle.plan_values.specs.declared.nodes.Row.{Row}
-use Rattle.plan_values.specs.declared.terminus.PlannedRecord.{PlannedRecord}
-use Rattle.net_rules.specs.declared.rule.Rule.TheVariants.{C01, C02, C03, C04, C05, C06, C07, C08}
-use Rattle.net_rules.specs.declared.rule.Rule.TheVariants.{C09, C11, C12, C13, C15}
-use Rattle.net_tables.specs.Routing.{Holds, Covers, HasRow, IsBridge}
-use Rattle.net_rules.specs.Names.{HaveOneName}
-use Rattle.net_tables.specs.Rows.{IsInRange, IsOnBus, bus_of}
-use Rattle.net_tables.specs.Ownership.{IsOwnedBy, owner_of, pool_of, IsInPoolOf}
-use Rattle.net_rules.specs.Owners.{ShareBus}
-use Rattle.net_rules.specs.Pools.{IsPoolInRange}
-use Rattle.net_tables.specs.Repositories.{terminus_of, records_of}
-use Rattle.net_rules.specs.Locators.{IsEidLocator, IsHeldByTerminus}
-use Rattle.net_rules.specs.Faults.{FaultSite}
-use Rattle.net_rules.specs.PlanFaults.{IsMetByPlan}
-use Rattle.net_explained.specs.Rows.{HasRowThat, CoversAt}
-use Rattle.net_explained.specs.declared.cause.Cause.{Cause}
-use Rattle.net_explained.specs.declared.cause.Cause.TheVariants.{SharedName, UnassignableEid, SharedEid}
-use Rattle.net_explained.specs.declared.cause.Cause.TheVariants.{RowOutOfRange, OverlappedRow}
-use Rattle.net_explained.specs.declared.cause.Cause.TheVariants.{NextIsItself, NoSuchPort}
-use Rattle.net_explained.specs.declared.cause.Cause.TheVariants.{NextNotOnBus, EndpointForSeveral}
-use Rattle.net_explained.specs.declared.cause.Cause.TheVariants.{OwnerIsEndpoint, OwnerSharesNoBus}
-use Rattle.net_explained.specs.declared.cause.Cause.TheVariants.{OutsideOwnersPool, InPeersPool}
-use Rattle.net_explained.specs.declared.cause.Cause.TheVariants.{PoolOfEndpoint, PoolOutOfRange}
-use Rattle.net_explained.specs.declared.cause.Cause.TheVariants.{PoolBeyondOwners, PoolsMeet}
-use Rattle.net_explained.specs.declared.cause.Cause.TheVariants.{NextIsEndpoint, NextHasNoRow}
-use Rattle.net_explained.specs.declared.cause.Cause.TheVariants.{NoRecords, HandleIsZero, SharedHandle}
-use Rattle.net_explained.specs.declared.cause.Cause.TheVariants.{UnreadableRecord, OtherHandle}
-use Rattle.net_explained.specs.declared.cause.Cause.TheVariants.{LongLocator, NobodyHolds, OtherTerminus}
+use Rattle.plan_values.{specs.declared.plan.Plan.{Plan}, specs.declared.nodes.Pool.{Pool}, specs.declared.nodes.Row.{Row}, specs.declared.terminus.PlannedRecord.{PlannedRecord}}
+use Rattle.net_rules.{specs.declared.rule.Rule.TheVariants.{C01, C02, C03, C04, C05, C06, C07, C08, C09, C11, C12, C13, C15}, specs.Names.{HaveOneName}, specs.Owners.{ShareBus}, specs.Pools.{IsPoolInRange}, specs.Locators.{IsEidLocator, IsHeldByTerminus}, specs.Faults.{FaultSite}, specs.PlanFaults.{IsMetByPlan}}
+use Rattle.net_tables.{specs.Routing.{Holds, Covers, HasRow, IsBridge}, specs.Rows.{IsInRange, IsOnBus, bus_of}, specs.Ownership.{IsOwnedBy, owner_of, pool_of, IsInPoolOf}, specs.Repositories.{terminus_of, records_of}}
+use Rattle.net_explained.{specs.Rows.{HasRowThat, CoversAt}, specs.declared.cause.Cause.{Cause}, specs.declared.cause.Cause.TheVariants.{SharedName, UnassignableEid, SharedEid, RowOutOfRange, OverlappedRow, NextIsItself, NoSuchPort, NextNotOnBus, EndpointForSeveral, OwnerIsEndpoint, OwnerSharesNoBus, OutsideOwnersPool, InPeersPool, PoolOfEndpoint, PoolOutOfRange, PoolBeyondOwners, PoolsMeet, NextIsEndpoint, NextHasNoRow, NoRecords, HandleIsZero, SharedHandle, UnreadableRecord, OtherHandle, LongLocator, NobodyHolds, OtherTerminus}}
 
 -- ---- names and endpoint IDs
 

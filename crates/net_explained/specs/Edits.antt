@@ -1,11 +1,8 @@
 -- What an edit makes of a plan.
-use Rattle.std.specs.Prelude.{◌≡◌, ℕ, List, [], ◌∷◌, ◌++◌, Option, Some, None, option_map, slice_get, slice_set}
-use Rattle.std.specs.List.{remove}
-use Rattle.plan_values.specs.NodeValues.{NodeValue, RecordValue, TerminusValue, name_bytes, pool_value, row_value}
-use Rattle.plan_values.specs.PlanValues.{PlanValue}
-use Rattle.net_explained.specs.declared.edit.Change.{Change}
+use Rattle.std.{specs.Prelude.{◌≡◌, ℕ, List, [], ◌∷◌, ◌++◌, Option, Some, None, option_map, slice_get, slice_set}, specs.List.{remove}}
+use Rattle.plan_values.{specs.NodeValues.{NodeValue, RecordValue, TerminusValue, name_bytes, pool_value, row_value}, specs.PlanValues.{PlanValue}}
+use Rattle.net_explained.{specs.declared.edit.Change.{Change}, specs.declared.edit.Edit.{Edit}}
 use Rattle.net_explained.specs.declared.edit.Change.TheVariants as change
-use Rattle.net_explained.specs.declared.edit.Edit.{Edit}
 
 -- the record with just this changed
 abbrev pub changed_record : Change → RecordValue → RecordValue

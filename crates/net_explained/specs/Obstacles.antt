@@ -1,19 +1,10 @@
 -- The order of what rules certificates of a plan out, and what an edit leaves of it.
 use Rattle.std.specs.Prelude.{◌≡◌, ◌≢◌, ◌⊎◌, ℕ, List, [], ◌∷◌, Option, Some, None, All}
-use Rattle.plan_values.specs.declared.certificate.Certificate.{Certificate}
-use Rattle.plan_values.specs.declared.plan.Plan.{Plan}
-use Rattle.plan_values.specs.PlanValues.{PlanValue, plan_value}
-use Rattle.net_rules.specs.Certificates.{HasNoCertificate, NamesObstacle}
-use Rattle.net_rules.specs.Faults.{FaultSite, LessByFirstDifference, ComesBefore, site_of, order_of, order_of_number}
-use Rattle.net_rules.specs.PlanFaults.{IsMetByPlan}
-use Rattle.net_rules.specs.Rules.{Accepts}
-use Rattle.net_rules.specs.declared.certify_error.CertifyError.{CertifyError}
-use Rattle.net_rules.specs.declared.certify_error.CertifyError.TheVariants as error
-use Rattle.net_rules.specs.declared.fault.Fault.{Fault}
-use Rattle.net_rules.specs.declared.rule.Rule.TheVariants.{C07, C10, C14}
+use Rattle.plan_values.{specs.declared.certificate.Certificate.{Certificate}, specs.declared.plan.Plan.{Plan}, specs.PlanValues.{PlanValue, plan_value}}
+use Rattle.net_rules.{specs.Certificates.{HasNoCertificate, NamesObstacle}, specs.Faults.{FaultSite, LessByFirstDifference, ComesBefore, site_of, order_of, order_of_number}, specs.PlanFaults.{IsMetByPlan}, specs.Rules.{Accepts}, specs.declared.certify_error.CertifyError.{CertifyError}, specs.declared.fault.Fault.{Fault}, specs.declared.rule.Rule.TheVariants.{C07, C10, C14}}
 use Rattle.net_tables.specs.Routing.{eid_number}
-use Rattle.net_explained.specs.Edits.{IsEdited}
-use Rattle.net_explained.specs.declared.trial.Tried.{Tried}
+use Rattle.net_explained.{specs.Edits.{IsEdited}, specs.declared.trial.Tried.{Tried}}
+use Rattle.net_rules.specs.declared.certify_error.CertifyError.TheVariants as error
 
 -- By rule, and of one rule a fault of the plan before a loop. Faults by node, entry and EID, loops of rows by their
 -- least EID, and chains by their node.

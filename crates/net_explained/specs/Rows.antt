@@ -1,8 +1,7 @@
 -- What a node's row covers.
 use Rattle.std.specs.Prelude.{◌≡◌, ℕ, Some, slice_get}
 use Rattle.net_tables.specs.Routing.{rows_of, Covers}
-use Rattle.plan_values.specs.declared.nodes.Row.{Row}
-use Rattle.plan_values.specs.declared.plan.Plan.{Plan}
+use Rattle.plan_values.{specs.declared.nodes.Row.{Row}, specs.declared.plan.Plan.{Plan}}
 
 -- n's row r, if n has it, is such a row
 abbrev pub HasRowThat : Plan → ℕ → ℕ → (Row → Type 0) → Type 0

@@ -1,7 +1,6 @@
 //! The way round a circle of records.
 ghost use Rattle.std.specs.Prelude.{◌≡◌, IfOk, option_map, slice_get};
-ghost use Rattle.net_rules.specs.Circles.{next_in, IsLoopFrom, IsOnCircle};
-ghost use Rattle.net_rules.specs.RecordChains.{IsFollowedBy, HaveNewHandles};
+ghost use Rattle.net_rules.{specs.Circles.{next_in, IsLoopFrom, IsOnCircle}, specs.RecordChains.{IsFollowedBy, HaveNewHandles}};
 ghost use Rattle.net_explained.specs.Followers.{followers, record_of_handle};
 
 use plan_values::PlannedRecord;

@@ -1,7 +1,6 @@
 //! Edits of a plan.
 ghost use Rattle.std.specs.Prelude.{◌≡◌, IfOk, IfSome, IsTrue, option_map, Some};
-ghost use Rattle.plan_values.specs.NodeValues.{node_value, record_value, terminus_value};
-ghost use Rattle.plan_values.specs.PlanValues.{plan_value};
+ghost use Rattle.plan_values.{specs.NodeValues.{node_value, record_value, terminus_value}, specs.PlanValues.{plan_value}};
 ghost use Rattle.net_explained.specs.Edits.{IsEdited, changed, changed_record, with_record};
 
 use mctp_transport::Eid;

@@ -1,8 +1,7 @@
 //! Which of two obstacles comes first.
 ghost use Rattle.std.specs.Prelude.{◌≡◌, ◌⊎◌, ◌<◌, ◌↔◌, None, IsTrue};
 ghost use Rattle.net_rules.specs.Faults.{LessByFirstDifference, order_of, order_of_number};
-ghost use Rattle.net_explained.specs.Obstacles.{IsLater, key_of};
-ghost use Rattle.net_explained.specs.Keys.{numbers_of, numbers_given};
+ghost use Rattle.net_explained.{specs.Obstacles.{IsLater, key_of}, specs.Keys.{numbers_of, numbers_given}};
 
 use net_rules::{CertifyError, Rule};
 

@@ -1,9 +1,7 @@
 //! Edits that are tried before they are proposed.
-ghost use Rattle.std.specs.Prelude.{◌≡◌, ◌⊎◌, ◌≤◌, IfOk, IfSome, length};
-ghost use Rattle.std.specs.List.{All};
-ghost use Rattle.net_plan.specs.PlanText.{IsPlanOf};
+ghost use Rattle.std.{specs.Prelude.{◌≡◌, ◌⊎◌, ◌≤◌, IfOk, IfSome, length}, specs.List.{All}};
+ghost use Rattle.net_plan.{specs.PlanText.{IsPlanOf}, specs.Texts.{IsJsonTextOf}};
 ghost use Rattle.plan_values.specs.PlanValues.{plan_value};
-ghost use Rattle.net_plan.specs.Texts.{IsJsonTextOf};
 ghost use Rattle.net_explained.specs.Obstacles.{AreAlike, IsTried};
 
 use crate::candidates::candidates;

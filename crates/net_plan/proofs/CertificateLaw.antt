@@ -1,31 +1,8 @@
 -- What is read of a certificate is what the relation tells.
-use Rattle.std.proofs.Common.{◌≡◌, ℕ, suc, ◌+◌, ◌≤◌, List, [], ◌∷◌, length, Bool, true, false, cond, nat_le, nat_lt, ◌&&◌, Some, None, Ok, refl, sym, ap, ◌∙◌, subst, true≢false, codes, arith}
-use Rattle.std.proofs.lemmas.Bool.{and_from, leb-true, le-leb}
-use Rattle.std.proofs.lemmas.List.Elements.{All-from_recursion, recursion_from_All}
-use Rattle.std.proofs.lemmas.List.Kept.{AllPairs-cons}
-use Rattle.std.specs.List.{AllByRecursion, list_all}
+use Rattle.std.{proofs.Common.{◌≡◌, ℕ, suc, ◌+◌, ◌≤◌, List, [], ◌∷◌, length, Bool, true, false, cond, nat_le, nat_lt, ◌&&◌, Some, None, Ok, refl, sym, ap, ◌∙◌, subst, true≢false, codes, arith}, proofs.lemmas.Bool.{and_from, leb-true, le-leb}, proofs.lemmas.List.Elements.{All-from_recursion, recursion_from_All}, proofs.lemmas.List.Kept.{AllPairs-cons}, specs.List.{AllByRecursion, list_all}}
 use Rattle.serde_json.specs.Data.{Data, Items, no_items, item}
-use Rattle.plan_values.specs.CertificateValues.{IsAscending, are_known, LevelValue, PlacesValue, RangeValue, NodeRanksValue, CertificateValue}
-use Rattle.plan_values.specs.PlanValues.{PlanValue, node_names}
-use Rattle.net_plan.specs.CertificateReading.{nodes_differ, ascends, entries_differ, tested, certificate}
-use Rattle.net_plan.specs.CertificateText.{IsLevelOf, ArePlacesOf, IsRangeOf, AreRanksOf, IsCertificateOf}
-use Rattle.net_plan.specs.Finding.{range_end, first_fault, refused}
-use Rattle.net_plan.specs.Fitting.{Fits}
-use Rattle.net_plan.specs.Grammar.{a_list, Known}
-use Rattle.net_plan.specs.Json.{at_key, demand}
-use Rattle.net_plan.specs.JsonWords.{HasKeys, At, AreItems, IsListOf, IsNumber, IsNumberWithin, IsIndexOfName}
-use Rattle.net_plan.specs.Keys.{certificate_keys, ranks_keys}
-use Rattle.net_plan.specs.Made.{number_in, number_at, index_at, each_at, in_time, level_made, places_made, range_made, ranks_made, certificate_made}
-use Rattle.net_plan.specs.Names.{index_among}
-use Rattle.net_plan.specs.Reading.{then_with}
-use Rattle.net_plan.specs.Tables.{a_number, a_node_name, a_level, a_node_places, a_range, a_node_ranks, a_certificate}
-use Rattle.net_plan.specs.declared.error.ValueFault.TheVariants.{UnknownName, Doubled}
-use Rattle.net_plan.specs.declared.shape.Named.TheVariants.{Nodes}
-use Rattle.net_plan.proofs.Fitting.{none_fits, fits_none, forget, unrefused}
-use Rattle.net_plan.proofs.Makes.{Made, MadeAt, number_makes, number_made, index_made, at_makes, list_makes, any_makes, one_there, one_back}
-use Rattle.net_plan.proofs.OneEach.{at_tells, at_told}
-use Rattle.net_plan.proofs.WordsLaw.{number_at as number_told}
-use Rattle.net_plan.proofs.Telling.{Tells, any, same_Ok, then_Ok, demanded, both}
+use Rattle.plan_values.{specs.CertificateValues.{IsAscending, are_known, LevelValue, PlacesValue, RangeValue, NodeRanksValue, CertificateValue}, specs.PlanValues.{PlanValue, node_names}}
+use Rattle.net_plan.{specs.CertificateReading.{nodes_differ, ascends, entries_differ, tested, certificate}, specs.CertificateText.{IsLevelOf, ArePlacesOf, IsRangeOf, AreRanksOf, IsCertificateOf}, specs.Finding.{range_end, first_fault, refused}, specs.Fitting.{Fits}, specs.Grammar.{a_list, Known}, specs.Json.{at_key, demand}, specs.JsonWords.{HasKeys, At, AreItems, IsListOf, IsNumber, IsNumberWithin, IsIndexOfName}, specs.Keys.{certificate_keys, ranks_keys}, specs.Made.{number_in, number_at, index_at, each_at, in_time, level_made, places_made, range_made, ranks_made, certificate_made}, specs.Names.{index_among}, specs.Reading.{then_with}, specs.Tables.{a_number, a_node_name, a_level, a_node_places, a_range, a_node_ranks, a_certificate}, specs.declared.error.ValueFault.TheVariants.{UnknownName, Doubled}, specs.declared.shape.Named.TheVariants.{Nodes}, proofs.Fitting.{none_fits, fits_none, forget, unrefused}, proofs.Makes.{Made, MadeAt, number_makes, number_made, index_made, at_makes, list_makes, any_makes, one_there, one_back}, proofs.OneEach.{at_tells, at_told}, proofs.WordsLaw.{number_at as number_told}, proofs.Telling.{Tells, any, same_Ok, then_Ok, demanded, both}}
 
 -- ---- ranges
 

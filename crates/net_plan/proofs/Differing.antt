@@ -1,14 +1,6 @@
 -- That no name stands twice.
-use Rattle.std.proofs.Common.{◌≡◌, ◌≢◌, ℕ, suc, List, [], ◌∷◌, ◌++◌, Bool, true, false, not, ◌&&◌, ◌||◌, refl, sym, ap, ◌∙◌, true≢false, arith, AllPairs}
-use Rattle.std.proofs.lemmas.Bool.{not-true}
-use Rattle.std.proofs.lemmas.List.Elements.{All-from_recursion, recursion_from_All}
-use Rattle.std.proofs.lemmas.List.Kept.{AllPairs-cons}
-use Rattle.std.proofs.lemmas.Slice.Eq.{bytes_eq-Decides}
-use Rattle.std.specs.List.{AllByRecursion}
-use Rattle.std.specs.Str.{bytes_eq}
-use Rattle.net_plan.specs.Json.{is_among}
-use Rattle.net_plan.specs.Names.{are_new, names_differ}
-use Rattle.net_plan.proofs.Telling.{both}
+use Rattle.std.{proofs.Common.{◌≡◌, ◌≢◌, ℕ, suc, List, [], ◌∷◌, ◌++◌, Bool, true, false, not, ◌&&◌, ◌||◌, refl, sym, ap, ◌∙◌, true≢false, arith, AllPairs}, proofs.lemmas.Bool.{not-true}, proofs.lemmas.List.Elements.{All-from_recursion, recursion_from_All}, proofs.lemmas.List.Kept.{AllPairs-cons}, proofs.lemmas.Slice.Eq.{bytes_eq-Decides}, specs.List.{AllByRecursion}, specs.Str.{bytes_eq}}
+use Rattle.net_plan.{specs.Json.{is_among}, specs.Names.{are_new, names_differ}, proofs.Telling.{both}}
 
 -- a name that is not among these and one more is not among these, and not that one
 not_among-push : (seen : List (List ℕ)) (n q : List ℕ) → is_among (seen ++ n ∷ []) q ≡ false → (is_among seen q ≡ false) × (n ≢ q)

@@ -1,33 +1,9 @@
 -- What is read of events is what the relation tells.
-use Rattle.std.proofs.Common.{◌≡◌, ◌≢◌, ℕ, zero, suc, ◌≤◌, ◌==◌, ◌||◌, List, [], ◌∷◌, length, Bool, true, false, nat_lt, Some, None, Ok, Err, refl, sym, ap, ◌∙◌, subst, cond, codes, arith, true≢false}
-use Rattle.std.proofs.lemmas.Slice.Eq.{bytes_eq-Decides}
-use Rattle.std.specs.List.{list_all}
-use Rattle.std.specs.Str.{bytes_eq}
+use Rattle.std.{proofs.Common.{◌≡◌, ◌≢◌, ℕ, zero, suc, ◌≤◌, ◌==◌, ◌||◌, List, [], ◌∷◌, length, Bool, true, false, nat_lt, Some, None, Ok, Err, refl, sym, ap, ◌∙◌, subst, cond, codes, arith, true≢false}, proofs.lemmas.Slice.Eq.{bytes_eq-Decides}, specs.List.{list_all}, specs.Str.{bytes_eq}}
 use Rattle.mctp_transport.specs.PacketValues.{bit}
 use Rattle.serde_json.specs.Data.{Data, string}
-use Rattle.net_plan.specs.EventReading.{format_of, events_format, events_tested, events}
-use Rattle.net_plan.specs.EventText.{Does, IsBit, IsEventOf, IsFormat, AreEventsOf}
-use Rattle.plan_values.specs.EventValues.{EventEntry, put, move, lose, expire, answer, switch, walk, ask, collected, is_known_event}
-use Rattle.net_plan.specs.Finding.{first_fault, refused}
-use Rattle.net_plan.specs.Fitting.{IsOneOf, HasAt, Either, Fits, ChoiceFits}
-use Rattle.net_plan.specs.Grammar.{Grammar, keys_of, a_list, Known}
-use Rattle.net_plan.specs.Json.{is_among, demand}
-use Rattle.net_plan.specs.JsonWords.{At, IsShortListOf, IsNumberWithin, IsTruth, IsHex, IsIndexOfName}
-use Rattle.net_plan.specs.Made.{number_at, truth_at, hex_at, node_at, word_at, expire_made, walk_made, event_by, event_made, events_made}
-use Rattle.net_plan.specs.Names.{index_among, text_of, text_found}
-use Rattle.net_plan.specs.PlanText.{IsByte, IsWord}
-use Rattle.net_plan.specs.Tables.{a_number, a_node_name, a_word, a_byte, a_truth, a_hex, a_put, a_move, a_lose, an_expire, an_answer, a_switch, a_walk, an_ask, a_collected, event_choices, later_events, an_event, events_in}
-use Rattle.plan_values.specs.PlanValues.{PlanValue, node_names}
-use Rattle.net_plan.specs.Reading.{then_with}
-use Rattle.net_plan.specs.declared.error.ValueFault.{ValueFault}
-use Rattle.net_plan.specs.declared.error.ValueFault.TheVariants.{UnknownName}
-use Rattle.net_plan.specs.declared.event_format.Format.{Format}
-use Rattle.net_plan.specs.declared.event_format.Format.TheVariants.{One, Two, Three}
-use Rattle.net_plan.specs.declared.shape.Named.TheVariants.{Nodes}
-use Rattle.net_plan.proofs.Fitting.{none_fits, fits_none, forget, unrefused}
-use Rattle.net_plan.proofs.KeysLaw.{among_Contains, Contains_among}
-use Rattle.net_plan.proofs.Makes.{Made, MadeAt, number_made, truth_made, hex_made, index_made, at_makes, within_makes}
-use Rattle.net_plan.proofs.Telling.{Tells, any, same_Ok, then_Ok, demanded}
+use Rattle.net_plan.{specs.EventReading.{format_of, events_format, events_tested, events}, specs.EventText.{Does, IsBit, IsEventOf, IsFormat, AreEventsOf}, specs.Finding.{first_fault, refused}, specs.Fitting.{IsOneOf, HasAt, Either, Fits, ChoiceFits}, specs.Grammar.{Grammar, keys_of, a_list, Known}, specs.Json.{is_among, demand}, specs.JsonWords.{At, IsShortListOf, IsNumberWithin, IsTruth, IsHex, IsIndexOfName}, specs.Made.{number_at, truth_at, hex_at, node_at, word_at, expire_made, walk_made, event_by, event_made, events_made}, specs.Names.{index_among, text_of, text_found}, specs.PlanText.{IsByte, IsWord}, specs.Tables.{a_number, a_node_name, a_word, a_byte, a_truth, a_hex, a_put, a_move, a_lose, an_expire, an_answer, a_switch, a_walk, an_ask, a_collected, event_choices, later_events, an_event, events_in}, specs.Reading.{then_with}, specs.declared.error.ValueFault.{ValueFault}, specs.declared.error.ValueFault.TheVariants.{UnknownName}, specs.declared.event_format.Format.{Format}, specs.declared.event_format.Format.TheVariants.{One, Two, Three}, specs.declared.shape.Named.TheVariants.{Nodes}, proofs.Fitting.{none_fits, fits_none, forget, unrefused}, proofs.KeysLaw.{among_Contains, Contains_among}, proofs.Makes.{Made, MadeAt, number_made, truth_made, hex_made, index_made, at_makes, within_makes}, proofs.Telling.{Tells, any, same_Ok, then_Ok, demanded}}
+use Rattle.plan_values.{specs.EventValues.{EventEntry, put, move, lose, expire, answer, switch, walk, ask, collected, is_known_event}, specs.PlanValues.{PlanValue, node_names}}
 
 -- ---- the format
 

@@ -1,21 +1,10 @@
 -- What is gathered of an event, as a value.
-use Rattle.std.proofs.Common.{◌≡◌, ◌∙◌, ◌+◌, ◌≤◌, ◌&&◌, ◌||◌, ℕ, List, [], ◌∷◌, map, Bor, Bool, Vec, Global, true, false, not, cond, is_some, Option, Some, None, codes, ap, sym, subst, refl, arith}
-use Rattle.std.specs.List.{list_any}
-use Rattle.json.specs.Json.{Json, object, Members}
-use Rattle.json.specs.Find.{get_member}
+use Rattle.std.{proofs.Common.{◌≡◌, ◌∙◌, ◌+◌, ◌≤◌, ◌&&◌, ◌||◌, ℕ, List, [], ◌∷◌, map, Bor, Bool, Vec, Global, true, false, not, cond, is_some, Option, Some, None, codes, ap, sym, subst, refl, arith}, specs.List.{list_any}}
+use Rattle.json.{specs.Json.{Json, object, Members}, specs.Find.{get_member}}
 use Rattle.mctp_transport.specs.declared.address.Tag.{Tag}
 use Rattle.serde_json.specs.Data.{Data}
-use Rattle.net_plan.specs.EventParts.{event_slots, IsEventBy, given, keys_given}
-use Rattle.net_plan.specs.EventText.{IsBit}
-use Rattle.net_plan.specs.Json.{is_among}
+use Rattle.net_plan.{specs.EventParts.{event_slots, IsEventBy, given, keys_given}, specs.EventText.{IsBit}, specs.Json.{is_among}, specs.Gathered.{IsPlain, IsGathered, IsRead, AreParts}, specs.JsonWords.{HasKeys, IsString, IsName, IsHex, IsTruth, IsNumberWithin}, specs.Keys.{put_keys, move_keys, lose_keys, expire_keys, answer_keys, switch_keys, walk_keys, ask_keys, collected_keys}, specs.PlanText.{IsByte, IsWord}, specs.Trees.{data_of}, specs.declared.event_parts.EventParts.{EventParts}, proofs.Gathered.{at_gathered, all_keys, only_keys, object_plain, placed_at, look, at_key, here}}
 use Rattle.plan_values.specs.EventValues.{put, move, lose, expire, answer, switch, walk, ask, collected}
-use Rattle.net_plan.specs.Gathered.{IsPlain, IsGathered, IsRead, AreParts}
-use Rattle.net_plan.specs.JsonWords.{HasKeys, IsString, IsName, IsHex, IsTruth, IsNumberWithin}
-use Rattle.net_plan.specs.Keys.{put_keys, move_keys, lose_keys, expire_keys, answer_keys, switch_keys, walk_keys, ask_keys, collected_keys}
-use Rattle.net_plan.specs.PlanText.{IsByte, IsWord}
-use Rattle.net_plan.specs.Trees.{data_of}
-use Rattle.net_plan.specs.declared.event_parts.EventParts.{EventParts}
-use Rattle.net_plan.proofs.Gathered.{at_gathered, all_keys, only_keys, object_plain, placed_at, look, at_key, here}
 
 -- ---- as many keys as an event has
 

@@ -1,17 +1,8 @@
 -- The keys of an object, as the search goes through them.
-use Rattle.std.proofs.Common.{rules, ◌≡◌, ℕ, List, [], ◌∷◌, map, not, Bor, Option, is_some, refl, ap, ◌∙◌}
-use Rattle.std.specs.List.{list_any}
-use Rattle.std.specs.Str.{bytes_eq}
-use Rattle.serde_json.specs.Data.{Members}
-use Rattle.serde_json.specs.Find.{get_member}
-use Rattle.net_plan.specs.Json.{has_unknown_key, lacks_key}
-use Rattle.net_plan.specs.Trees.{Tree, members_view}
-use Rattle.net_plan.proofs.Keys.{list_any-map, unknown_members}
-use Rattle.net_plan.specs.Grammar.{Grammar, a_list, an_object, a_choice, Fields, keys_of, no_fields, field, fields_view, field_view, grammar, step, field_step}
-use Rattle.net_plan.specs.declared.shape.Shape.{Shape, fold-Shape, the_lemmas}
+use Rattle.std.{proofs.Common.{rules, ◌≡◌, ℕ, List, [], ◌∷◌, map, not, Bor, Option, is_some, refl, ap, ◌∙◌}, specs.List.{list_any}, specs.Str.{bytes_eq}}
+use Rattle.serde_json.{specs.Data.{Members}, specs.Find.{get_member}}
+use Rattle.net_plan.{specs.Json.{has_unknown_key, lacks_key}, specs.Trees.{Tree, members_view}, proofs.Keys.{list_any-map, unknown_members}, specs.Grammar.{Grammar, a_list, an_object, a_choice, Fields, keys_of, no_fields, field, fields_view, field_view, grammar, step, field_step}, specs.declared.shape.Shape.{Shape, fold-Shape, the_lemmas}, specs.declared.shape.Rule.{Rule}, specs.declared.shape.Field.{Field, Field-F, out-Field, roll-Field, fold_out-Field, fold-roll-Field}}
 use Rattle.net_plan.specs.declared.shape.Shape as shape
-use Rattle.net_plan.specs.declared.shape.Rule.{Rule}
-use Rattle.net_plan.specs.declared.shape.Field.{Field, Field-F, out-Field, roll-Field, fold_out-Field, fold-roll-Field}
 
 pub among_each : (names : List (Bor (List ℕ))) (text : List ℕ) → list_any (λ other. bytes_eq text other) (map (λ name. name.now) names) ≡ list_any (λ name. bytes_eq text name.now) names
 among_each names text = list_any-map (λ other. bytes_eq text other) (λ name. name.now) names

@@ -1,29 +1,8 @@
 -- Nothing is wrong with a value exactly where it is one of the grammar.
-use Rattle.std.proofs.Common.{◌≡◌, ◌⊎◌, inl, inr, ℕ, suc, cond, is_some, ◌||◌, ◌≤◌, List, Bool, true, false, not, nat_lt, Option, Some, None, option_map, option_and_then, MatchOption, IfOk, Result, Ok, Err, refl, sym, ap, ◌∙◌, true≢false}
-use Rattle.std.proofs.lemmas.Bool.{or_right, leb-true, le-leb, ltb-false, le-ltb}
-use Rattle.std.proofs.lemmas.Option.{none-some}
-use Rattle.std.proofs.lemmas.Slice.Eq.{bytes_eq-Decides}
-use Rattle.std.specs.Option.{option_or}
-use Rattle.std.specs.Str.{bytes_eq}
-use Rattle.serde_json.specs.Data.{Data, null, string, array, object, Items, no_items, item}
-use Rattle.serde_json.specs.Find.{get}
-use Rattle.net_plan.specs.Json.{demand, items_count, keyed, found, is_among, name_text}
-use Rattle.net_plan.specs.JsonWords.{HasKeys}
-use Rattle.net_plan.specs.Reading.{then_with}
-use Rattle.net_plan.specs.declared.error.ValueFault.{ValueFault}
-use Rattle.net_plan.specs.declared.error.ValueFault.TheVariants.{OutOfRange, OverLimit, UnknownName}
-use Rattle.net_plan.proofs.KeysLaw.{keys_sound, keys_whole, among_Contains, Contains_among}
-use Rattle.net_plan.proofs.WordsLaw.{name_tells, hex_tells, address_tells, kind_tells}
-use Rattle.net_plan.proofs.Telling.{Tells, any, no_value, number_tells, truth_tells}
-use Rattle.net_plan.specs.Finding.{fault_of, names_of, known_name, word_fault, word_among, has_key, is_within, short_list, unless_null, range_end, is_late, passes, own_fault, Step, key, index, Located, located, under, here, in_items, in_list, inside, in_fields, in_choices, first_fault, refused}
-use Rattle.net_plan.specs.Fitting.{IsWord, IsOneOf, EachIs, IsWithin, Passes, Either, Fits, FieldsFit, ChoiceFits}
-use Rattle.net_plan.specs.Grammar.{Grammar, plain, one_of, a_list, an_optional, an_object, a_choice, Fields, no_fields, field, keys_of, Known}
-use Rattle.net_plan.specs.Names.{text_of}
-use Rattle.net_plan.specs.declared.found.Found.{Found}
-use Rattle.net_plan.specs.declared.shape.Named.{Named}
-use Rattle.net_plan.specs.declared.shape.Rule.{Rule}
+use Rattle.std.{proofs.Common.{◌≡◌, ◌⊎◌, inl, inr, ℕ, suc, cond, is_some, ◌||◌, ◌≤◌, List, Bool, true, false, not, nat_lt, Option, Some, None, option_map, option_and_then, MatchOption, IfOk, Result, Ok, Err, refl, sym, ap, ◌∙◌, true≢false}, proofs.lemmas.Bool.{or_right, leb-true, le-leb, ltb-false, le-ltb}, proofs.lemmas.Option.{none-some}, proofs.lemmas.Slice.Eq.{bytes_eq-Decides}, specs.Option.{option_or}, specs.Str.{bytes_eq}}
+use Rattle.serde_json.{specs.Data.{Data, null, string, array, object, Items, no_items, item}, specs.Find.{get}}
+use Rattle.net_plan.{specs.Json.{demand, items_count, keyed, found, is_among, name_text}, specs.JsonWords.{HasKeys}, specs.Reading.{then_with}, specs.declared.error.ValueFault.{ValueFault}, specs.declared.error.ValueFault.TheVariants.{OutOfRange, OverLimit, UnknownName}, proofs.KeysLaw.{keys_sound, keys_whole, among_Contains, Contains_among}, proofs.WordsLaw.{name_tells, hex_tells, address_tells, kind_tells}, proofs.Telling.{Tells, any, no_value, number_tells, truth_tells}, specs.Finding.{fault_of, names_of, known_name, word_fault, word_among, has_key, is_within, short_list, unless_null, range_end, is_late, passes, own_fault, Step, key, index, Located, located, under, here, in_items, in_list, inside, in_fields, in_choices, first_fault, refused}, specs.Fitting.{IsWord, IsOneOf, EachIs, IsWithin, Passes, Either, Fits, FieldsFit, ChoiceFits}, specs.Grammar.{Grammar, plain, one_of, a_list, an_optional, an_object, a_choice, Fields, no_fields, field, keys_of, Known}, specs.Names.{text_of}, specs.declared.found.Found.{Found}, specs.declared.shape.Named.{Named}, specs.declared.shape.Rule.{Rule}, specs.declared.shape.Word.{Word}}
 use Rattle.net_plan.specs.declared.shape.Rule.TheVariants as rule
-use Rattle.net_plan.specs.declared.shape.Word.{Word}
 use Rattle.net_plan.specs.declared.shape.Word.TheVariants as word
 
 -- ---- nothing is wrong

@@ -1,36 +1,12 @@
 -- Members that are gathered one after another.
-use Rattle.std.proofs.Common.{◌≡◌, ℕ, ◌^◌, ◌<◌, ◌≤◌, List, [], ◌∷◌, ◌++◌, length, map, subst, Bool, true, false, not, ◌&&◌, ◌||◌, cond, is_some, Option, Some, None, IfSome, option_map, Ok, refl, sym, ap, ◌∙◌, true≢false, append-nil, append_assoc, codes, IsUtf8, arith}
-use Rattle.std.proofs.lemmas.Bool.{and_from, not-false}
-use Rattle.std.proofs.lemmas.List.{length-map}
-use Rattle.std.proofs.lemmas.Slice.Eq.{bytes_eq-Decides}
-use Rattle.std.specs.List.{list_any}
-use Rattle.std.specs.Str.{bytes_eq}
-use Rattle.json.specs.Find.{later_or, get_member}
-use Rattle.json.specs.Token.{Token}
-use Rattle.json.specs.Json.{Json, object, Items, no_items, item, Members, no_members, member, parse_map, value}
-use Rattle.json.specs.Strict.{keys}
-use Rattle.json.proofs.Grammar.{value_is}
+use Rattle.std.{proofs.Common.{◌≡◌, ℕ, ◌^◌, ◌<◌, ◌≤◌, List, [], ◌∷◌, ◌++◌, length, map, subst, Bool, true, false, not, ◌&&◌, ◌||◌, cond, is_some, Option, Some, None, IfSome, option_map, Ok, refl, sym, ap, ◌∙◌, true≢false, append-nil, append_assoc, codes, IsUtf8, arith}, proofs.lemmas.Bool.{and_from, not-false}, proofs.lemmas.List.{length-map}, proofs.lemmas.Slice.Eq.{bytes_eq-Decides}, specs.List.{list_any}, specs.Str.{bytes_eq}}
+use Rattle.json.{specs.Find.{later_or, get_member}, specs.Token.{Token}, specs.Json.{Json, object, Items, no_items, item, Members, no_members, member, parse_map, value}, specs.Strict.{keys}, proofs.Grammar.{value_is}}
 use Rattle.hex.specs.Hex.{decode_of}
-use Rattle.serde_json.specs.Data as whole
-use Rattle.serde_json.specs.Data.{Data, Num, unsigned, number}
-use Rattle.serde_json.specs.Find.{as_u64}
-use Rattle.serde_json.specs.Read.{number_of}
-use Rattle.net_plan.specs.Gathered.{with_last, IsPlain, ArePlain, IsGathered, IsRead, Slot, AreRead, AreParts, IsNext, IsMore, IsThere, EachIs, IsArrayOf, IsPlainText}
-use Rattle.net_plan.specs.Json.{is_among}
-use Rattle.net_plan.specs.JsonWords.{HasKeys, At, AreItems, IsListOf, IsShortListOf, IsNumber, IsName, IsIndexOfName, IsText, IsTruth, IsHex}
+use Rattle.serde_json.{specs.Data.{Data, Num, unsigned, number}, specs.Find.{as_u64}, specs.Read.{number_of}}
+use Rattle.net_plan.{specs.Gathered.{with_last, IsPlain, ArePlain, IsGathered, IsRead, Slot, AreRead, AreParts, IsNext, IsMore, IsThere, EachIs, IsArrayOf, IsPlainText}, specs.Json.{is_among}, specs.JsonWords.{HasKeys, At, AreItems, IsListOf, IsShortListOf, IsNumber, IsName, IsIndexOfName, IsText, IsTruth, IsHex}, specs.Names.{are_new, names_differ}, specs.NameIndexes.{IsIndexOf}, specs.SingleKeys.{single, items_single, members_single}, specs.Texts.{IsJsonTextOf}, specs.Trees.{data_of, items_of, members_of, or_other, num_of, fits, items_fit, members_fit}, proofs.JsonNumbers.{numeral_u64}, proofs.KeysLaw.{among_Contains, any_false}, proofs.WordsLaw.{same_Some, first_index}, proofs.Telling.{both}, proofs.SingleKeys.{single_sound, whole_tree}, proofs.Trees.{get_of, read_whole}}
 use Rattle.plan_values.specs.NameText.{is_name}
-use Rattle.net_plan.specs.Names.{are_new, names_differ}
-use Rattle.net_plan.specs.NameIndexes.{IsIndexOf}
-use Rattle.net_plan.specs.SingleKeys.{single, items_single, members_single}
-use Rattle.net_plan.specs.Texts.{IsJsonTextOf}
-use Rattle.net_plan.specs.Trees.{data_of, items_of, members_of, or_other, num_of, fits, items_fit, members_fit}
 use Rattle.plain_json.specs.Plain.{IsNextNumber}
-use Rattle.net_plan.proofs.JsonNumbers.{numeral_u64}
-use Rattle.net_plan.proofs.KeysLaw.{among_Contains, any_false}
-use Rattle.net_plan.proofs.WordsLaw.{same_Some, first_index}
-use Rattle.net_plan.proofs.Telling.{both}
-use Rattle.net_plan.proofs.SingleKeys.{single_sound, whole_tree}
-use Rattle.net_plan.proofs.Trees.{get_of, read_whole}
+use Rattle.serde_json.specs.Data as whole
 
 pub no_Some : {A : Type 0} {a : A} → Some a ≡ None → ⊥
 no_Some e = cc

@@ -1,21 +1,7 @@
 -- That an object has exactly some keys.
-use Rattle.std.proofs.Common.{◌≡◌, ℕ, zero, suc, ◌<◌, arith, List, [], ◌∷◌, length, Bool, true, false, not, ◌||◌, Some, is_some, Ok, Ordering, Less, Equal, Greater, refl, sym, ap, ◌∙◌, true≢false, Contains, IsSome, slice_index_or}
-use Rattle.std.proofs.lemmas.Bool.{not-true, not-false, or_right}
-use Rattle.std.proofs.lemmas.Map.Text.{is_eq-slice_cmp}
-use Rattle.std.proofs.lemmas.Slice.Eq.{bytes_eq-Decides}
-use Rattle.std.proofs.lemmas.Map.Views.{Contains-from_any}
-use Rattle.std.proofs.lemmas.Cmp.{nat_list_cmp_total, tied_itself}
-use Rattle.std.specs.Cmp.Lexicographic.{slice_cmp}
-use Rattle.std.specs.List.{list_any}
-use Rattle.std.specs.Ordering.{match_ordering, is_eq, nat_cmp}
-use Rattle.std.specs.Str.{bytes_eq}
-use Rattle.serde_json.specs.Data.{Data, object, Members, no_members, member}
-use Rattle.serde_json.specs.Find.{get_member}
-use Rattle.net_plan.specs.Json.{is_among, has_unknown_key, lacks_key, keyed, demand}
-use Rattle.net_plan.specs.JsonWords.{HasKeys}
-use Rattle.net_plan.specs.Reading.{then_with}
-use Rattle.net_plan.specs.declared.error.ValueFault.TheVariants.{UnknownKey, MissingKey}
-use Rattle.net_plan.proofs.Telling.{no_value, then_Ok, demanded}
+use Rattle.std.{proofs.Common.{◌≡◌, ℕ, zero, suc, ◌<◌, arith, List, [], ◌∷◌, length, Bool, true, false, not, ◌||◌, Some, is_some, Ok, Ordering, Less, Equal, Greater, refl, sym, ap, ◌∙◌, true≢false, Contains, IsSome, slice_index_or}, proofs.lemmas.Bool.{not-true, not-false, or_right}, proofs.lemmas.Map.Text.{is_eq-slice_cmp}, proofs.lemmas.Slice.Eq.{bytes_eq-Decides}, proofs.lemmas.Map.Views.{Contains-from_any}, proofs.lemmas.Cmp.{nat_list_cmp_total, tied_itself}, specs.Cmp.Lexicographic.{slice_cmp}, specs.List.{list_any}, specs.Ordering.{match_ordering, is_eq, nat_cmp}, specs.Str.{bytes_eq}}
+use Rattle.serde_json.{specs.Data.{Data, object, Members, no_members, member}, specs.Find.{get_member}}
+use Rattle.net_plan.{specs.Json.{is_among, has_unknown_key, lacks_key, keyed, demand}, specs.JsonWords.{HasKeys}, specs.Reading.{then_with}, specs.declared.error.ValueFault.TheVariants.{UnknownKey, MissingKey}, proofs.Telling.{no_value, then_Ok, demanded}}
 
 pub among_Contains : (keys : List (List ℕ)) (k : List ℕ) → is_among keys k ≡ true → Contains keys k
 among_Contains keys k e = Contains-from_any (λ x y. (bytes_eq-Decides x y).0) k keys e

@@ -1,16 +1,10 @@
 -- The end of a line behind a JSON text changes nothing of its value.
-use Rattle.std.proofs.Common.{◌≡◌, ℕ, ◌+◌, ◌-◌, ◌≤◌, ◌==◌, List, [], ◌∷◌, ◌++◌, length, take, drop, Bool, true, false, cond, ◌&&◌, ◌||◌, nat_lt, nat_eq, Option, Some, None, option_map, option_and_then, refl, sym, ap, ap₂, ◌∙◌, arith, one-add}
-use Rattle.std.proofs.lemmas.List.{length-append, take-append-le}
-use Rattle.std.specs.Char.{is_ascii_digit, is_digit, encode_utf8}
-use Rattle.std.specs.List.{prefix_len, starts_with}
-use Rattle.json.specs.Ascii as ascii
-use Rattle.json.specs.Json as json
-use Rattle.json.specs.Lex.{Lexeme, token, Class, quote, backslash, space, other, class, string_token, Mode, between, in_word, in_string, lex_byte, lex, punctuate, fresh, tokens}
-use Rattle.json.specs.Text.{Within, plain, after_backslash, after_u, after_high, content, code_unit, short_escape, prepend, is_high_surrogate, is_low_surrogate, surrogate_pair}
-use Rattle.json.specs.Token.{number, boolean, null, bad}
-use Rattle.json.specs.Word.{ends_word, after_digits, after_minus, after_sign, after_whole, after_fraction, after_exponent, after_number, number_before, literal, word}
+use Rattle.std.{proofs.Common.{◌≡◌, ℕ, ◌+◌, ◌-◌, ◌≤◌, ◌==◌, List, [], ◌∷◌, ◌++◌, length, take, drop, Bool, true, false, cond, ◌&&◌, ◌||◌, nat_lt, nat_eq, Option, Some, None, option_map, option_and_then, refl, sym, ap, ap₂, ◌∙◌, arith, one-add}, proofs.lemmas.List.{length-append, take-append-le}, specs.Char.{is_ascii_digit, is_digit, encode_utf8}, specs.List.{prefix_len, starts_with}}
+use Rattle.json.{specs.Lex.{Lexeme, token, Class, quote, backslash, space, other, class, string_token, Mode, between, in_word, in_string, lex_byte, lex, punctuate, fresh, tokens}, specs.Text.{Within, plain, after_backslash, after_u, after_high, content, code_unit, short_escape, prepend, is_high_surrogate, is_low_surrogate, surrogate_pair}, specs.Token.{number, boolean, null, bad}, specs.Word.{ends_word, after_digits, after_minus, after_sign, after_whole, after_fraction, after_exponent, after_number, number_before, literal, word}}
 use Rattle.serde_json.specs.Read.{of_json, max_depth, read}
 use Rattle.net_plan.specs.Texts.{HasSingleKeys}
+use Rattle.json.specs.Ascii as ascii
+use Rattle.json.specs.Json as json
 
 abbrev ended : List ℕ → List ℕ
 ended t = t ++ 10 ∷ []

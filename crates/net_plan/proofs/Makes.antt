@@ -1,27 +1,9 @@
 -- What is made of a value that is one of the grammar is what the relation tells.
-use Rattle.std.proofs.Common.{◌≡◌, ◌≢◌, ◌⊎◌, inl, inr, ℕ, zero, suc, ◌<◌, ◌≤◌, List, [], ◌∷◌, length, Bool, true, false, nat_lt, cond, ◌||◌, Option, Some, None, Result, slice_get, refl, sym, ap, ◌∙◌, subst, true≢false, arith, Contains, codes}
-use Rattle.std.proofs.lemmas.Bool.{and_from, or_right, le-leb, ltb-true, lt-ltb}
-use Rattle.std.proofs.lemmas.Slice.Eq.{bytes_eq-Decides}
-use Rattle.std.specs.List.{list_all}
-use Rattle.std.specs.Str.{bytes_eq}
+use Rattle.std.{proofs.Common.{◌≡◌, ◌≢◌, ◌⊎◌, inl, inr, ℕ, zero, suc, ◌<◌, ◌≤◌, List, [], ◌∷◌, length, Bool, true, false, nat_lt, cond, ◌||◌, Option, Some, None, Result, slice_get, refl, sym, ap, ◌∙◌, subst, true≢false, arith, Contains, codes}, proofs.lemmas.Bool.{and_from, or_right, le-leb, ltb-true, lt-ltb}, proofs.lemmas.Slice.Eq.{bytes_eq-Decides}, specs.List.{list_all}, specs.Str.{bytes_eq}}
 use Rattle.serde_json.specs.Data.{Data, null, array, Items, no_items, item}
-use Rattle.net_plan.specs.Finding.{names_of}
-use Rattle.net_plan.specs.Fitting.{EachIs, HasAt, IsListThat, Fits}
-use Rattle.net_plan.specs.Grammar.{Grammar, plain, Known}
-use Rattle.net_plan.specs.Json.{is_among, items_count}
-use Rattle.net_plan.specs.JsonWords.{At, AreItems, IsListOf, IsShortListOf, IsOptional, IsNumber, IsNumberWithin, IsTruth, IsName, IsHex, IsAddress, IsIndexOfName, IsFirstOf}
-use Rattle.net_plan.specs.Made.{read_or, number_in, index_in, kind_in, address_in, each_made, each_in, within_in, optional_in, found_or, made_at, number_at, truth_at, index_at, name_at, hex_at}
-use Rattle.net_plan.specs.Names.{index_among, text_of}
-use Rattle.net_plan.specs.PlanText.{IsKindOf}
-use Rattle.net_plan.specs.Tables.{a_number, a_truth, a_name, a_kind, a_hex, an_address}
-use Rattle.plan_values.specs.Placed.{is_none_or}
-use Rattle.plan_values.specs.declared.nodes.Kind.TheVariants.{Endpoint}
-use Rattle.net_plan.specs.declared.error.ValueFault.{ValueFault}
-use Rattle.net_plan.specs.declared.shape.Named.{Named}
+use Rattle.net_plan.{specs.Finding.{names_of}, specs.Fitting.{EachIs, HasAt, IsListThat, Fits}, specs.Grammar.{Grammar, plain, Known}, specs.Json.{is_among, items_count}, specs.JsonWords.{At, AreItems, IsListOf, IsShortListOf, IsOptional, IsNumber, IsNumberWithin, IsTruth, IsName, IsHex, IsAddress, IsIndexOfName, IsFirstOf}, specs.Made.{read_or, number_in, index_in, kind_in, address_in, each_made, each_in, within_in, optional_in, found_or, made_at, number_at, truth_at, index_at, name_at, hex_at}, specs.Names.{index_among, text_of}, specs.PlanText.{IsKindOf}, specs.Tables.{a_number, a_truth, a_name, a_kind, a_hex, an_address}, specs.declared.error.ValueFault.{ValueFault}, specs.declared.shape.Named.{Named}, proofs.KeysLaw.{among_Contains, Contains_among}, proofs.WordsLaw.{same_Some, first_within, first_only, name_tells, hex_tells, address_tells, kind_tells}, proofs.Telling.{Tells, any, both, number_tells, truth_tells}}
+use Rattle.plan_values.{specs.Placed.{is_none_or}, specs.declared.nodes.Kind.TheVariants.{Endpoint}}
 use Rattle.net_plan.specs.declared.shape.Word.TheVariants as word
-use Rattle.net_plan.proofs.KeysLaw.{among_Contains, Contains_among}
-use Rattle.net_plan.proofs.WordsLaw.{same_Some, first_within, first_only, name_tells, hex_tells, address_tells, kind_tells}
-use Rattle.net_plan.proofs.Telling.{Tells, any, both, number_tells, truth_tells}
 
 -- Of a value that is `strict` what R tells is made, and nothing else is R to it. A value that is `loose` is `strict` where
 -- what is made of it passes the test.

@@ -1,11 +1,6 @@
 -- Names in a list, and their indices.
-use Rattle.std.proofs.Common.{◌≡◌, ℕ, suc, ◌+◌, ◌<◌, ◌||◌, drop, drop-cons, unwrap_or, List, [], ◌∷◌, ◌++◌, length, map, take, get_or, Bool, true, false, cond, if◌then◌else◌, Option, Some, None, option_map, is_some, not, refl, sym, ap, ◌∙◌, arith, add-one, true≢false}
-use Rattle.std.proofs.lemmas.List.{take_more, map-append, length-map, length-take-le}
-use Rattle.std.specs.Option.{option_or}
-use Rattle.std.specs.Str.{bytes_eq}
-use Rattle.std.proofs.lemmas.Slice.Eq.{bytes_eq-Decides}
-use Rattle.net_plan.specs.Json.{is_among}
-use Rattle.net_plan.specs.Names.{index_of, index_among, are_new}
+use Rattle.std.{proofs.Common.{◌≡◌, ℕ, suc, ◌+◌, ◌<◌, ◌||◌, drop, drop-cons, unwrap_or, List, [], ◌∷◌, ◌++◌, length, map, take, get_or, Bool, true, false, cond, if◌then◌else◌, Option, Some, None, option_map, is_some, not, refl, sym, ap, ◌∙◌, arith, add-one, true≢false}, proofs.lemmas.List.{take_more, map-append, length-map, length-take-le}, specs.Option.{option_or}, specs.Str.{bytes_eq}, proofs.lemmas.Slice.Eq.{bytes_eq-Decides}}
+use Rattle.net_plan.{specs.Json.{is_among}, specs.Names.{index_of, index_among, are_new}}
 
 later : (o : Option ℕ) (b : Bool) (n : ℕ) → option_map suc (option_or o (cond b (Some n) None)) ≡ option_or (option_map suc o) (cond b (Some (suc n)) None)
 later None true n = refl

@@ -1,18 +1,7 @@
 -- Entries of a list, each of another node.
-use Rattle.std.proofs.Common.{◌≡◌, ◌≢◌, ℕ, zero, suc, ◌<◌, List, [], ◌∷◌, length, map, get_or, codes, Some, Ok, refl, sym, ap, ◌∙◌, arith, AllPairs, slice_get}
-use Rattle.std.proofs.lemmas.List.{length-map, get_or-map}
-use Rattle.std.proofs.lemmas.List.Elements.{All-from_recursion}
-use Rattle.std.specs.List.{AllByRecursion, All}
+use Rattle.std.{proofs.Common.{◌≡◌, ◌≢◌, ℕ, zero, suc, ◌<◌, List, [], ◌∷◌, length, map, get_or, codes, Some, Ok, refl, sym, ap, ◌∙◌, arith, AllPairs, slice_get}, proofs.lemmas.List.{length-map, get_or-map}, proofs.lemmas.List.Elements.{All-from_recursion}, specs.List.{AllByRecursion, All}}
 use Rattle.serde_json.specs.Data.{Data, Items, no_items, item}
-use Rattle.net_plan.specs.CertificateReading.{nodes_differ}
-use Rattle.net_plan.specs.Json.{at_key, demand, found}
-use Rattle.net_plan.specs.JsonWords.{At, IsListOf, IsIndexOfName, IsFirstOf, AreItems}
-use Rattle.net_plan.specs.Names.{index_among, names_differ, text_found, text_at, each_text_at, texts_at}
-use Rattle.net_plan.specs.Reading.{then_with}
-use Rattle.net_plan.specs.declared.error.ValueFault.TheVariants.{Doubled}
-use Rattle.net_plan.proofs.Differing.{differ_sound, differ_whole}
-use Rattle.net_plan.proofs.WordsLaw.{first_only}
-use Rattle.net_plan.proofs.Telling.{demanded}
+use Rattle.net_plan.{specs.CertificateReading.{nodes_differ}, specs.Json.{at_key, demand, found}, specs.JsonWords.{At, IsListOf, IsIndexOfName, IsFirstOf, AreItems}, specs.Names.{index_among, names_differ, text_found, text_at, each_text_at, texts_at}, specs.Reading.{then_with}, specs.declared.error.ValueFault.TheVariants.{Doubled}, proofs.Differing.{differ_sound, differ_whole}, proofs.WordsLaw.{first_only}, proofs.Telling.{demanded}}
 
 stands_at : (names : List (List ℕ)) (k : ℕ) (name : List ℕ) → slice_get names k ≡ Some name → get_or names k [] ≡ name
 stands_at (n ∷ ns) (suc k) name is = stands_at ns k name is

@@ -1,19 +1,8 @@
 -- A text stands for one value at most of what a reading tells.
-use Rattle.std.proofs.Common.{◌≡◌, ℕ, List, Bool, Result, sym, ap, ◌∙◌}
-use Rattle.std.proofs.lemmas.Option.{same_Some}
+use Rattle.std.{proofs.Common.{◌≡◌, ℕ, List, Bool, Result, sym, ap, ◌∙◌}, proofs.lemmas.Option.{same_Some}}
 use Rattle.serde_json.specs.Data.{Data}
-use Rattle.plan_values.specs.PlanValues.{PlanValue}
-use Rattle.plan_values.specs.CertificateValues.{CertificateValue}
-use Rattle.plan_values.specs.EventValues.{EventEntry}
-use Rattle.net_plan.specs.declared.error.ValueFault.{ValueFault}
-use Rattle.net_plan.specs.PlanText.{IsPlanOf}
-use Rattle.net_plan.specs.CertificateText.{IsCertificateOf}
-use Rattle.net_plan.specs.EventText.{AreEventsOf}
-use Rattle.net_plan.specs.Texts.{IsJsonTextOf}
-use Rattle.net_plan.proofs.Telling.{Tells, same_Ok}
-use Rattle.net_plan.proofs.PlanLaw.{plan_tells}
-use Rattle.net_plan.proofs.CertificateLaw.{certificate_tells}
-use Rattle.net_plan.proofs.EventLaw.{events_tells}
+use Rattle.plan_values.{specs.PlanValues.{PlanValue}, specs.CertificateValues.{CertificateValue}, specs.EventValues.{EventEntry}}
+use Rattle.net_plan.{specs.declared.error.ValueFault.{ValueFault}, specs.PlanText.{IsPlanOf}, specs.CertificateText.{IsCertificateOf}, specs.EventText.{AreEventsOf}, specs.Texts.{IsJsonTextOf}, proofs.Telling.{Tells, same_Ok}, proofs.PlanLaw.{plan_tells}, proofs.CertificateLaw.{certificate_tells}, proofs.EventLaw.{events_tells}}
 
 one_told : {A : Type 0} (f : Data → Result A ValueFault) (test : A → Bool) (R : Data → A → Type 0) → Tells f test R → (text : List ℕ) (x y : A)
     → IsJsonTextOf R text x → IsJsonTextOf R text y → x ≡ y

@@ -1,27 +1,9 @@
 -- What is gathered of a certificate, as a value.
-use Rattle.std.proofs.Common.{◌≡◌, ◌≢◌, ◌<◌, ◌+◌, ◌∙◌, ◌||◌, ◌==◌, ℕ, zero, suc, List, [], ◌∷◌, length, map, take, get_or, Vec, Global, Bool, true, false, Some, None, codes, AllPairs, subst, sym, ap, refl, true≢false, arith}
-use Rattle.std.proofs.lemmas.Bool.Decides.{Decides-eqb}
-use Rattle.std.proofs.lemmas.List.{length-map, get_or-map, get_or_default}
-use Rattle.std.specs.List.{list_any}
+use Rattle.std.{proofs.Common.{◌≡◌, ◌≢◌, ◌<◌, ◌+◌, ◌∙◌, ◌||◌, ◌==◌, ℕ, zero, suc, List, [], ◌∷◌, length, map, take, get_or, Vec, Global, Bool, true, false, Some, None, codes, AllPairs, subst, sym, ap, refl, true≢false, arith}, proofs.lemmas.Bool.Decides.{Decides-eqb}, proofs.lemmas.List.{length-map, get_or-map, get_or_default}, specs.List.{list_any}}
 use Rattle.json.specs.Json.{object, Members}
 use Rattle.serde_json.specs.Data.{Data}
-use Rattle.net_plan.specs.CertificateText.{IsLevelOf, ArePlacesOf, AreRanksOf}
-use Rattle.plan_values.specs.CertificateValues.{level_value, places_value, node_ranks_value}
-use Rattle.net_plan.specs.Gathered.{IsPlain, AreParts}
-use Rattle.net_plan.specs.JsonWords.{At, IsNumber, IsNumberWithin, IsListOf}
-use Rattle.net_plan.specs.Keys.{certificate_keys}
-use Rattle.net_plan.specs.LevelParts.{IsLevelBy}
-use Rattle.net_plan.specs.PlaceParts.{ArePlacesBy}
-use Rattle.net_plan.specs.NameIndexes.{noted}
-use Rattle.net_plan.specs.PlainCertificate.{certificate_slots, IsCertificateBy}
-use Rattle.plan_values.specs.PlanValues.{node_names}
-use Rattle.net_plan.specs.RankParts.{AreRanksBy}
-use Rattle.net_plan.specs.Trees.{data_of}
-use Rattle.plan_values.specs.declared.certificate.NodeLevel.{NodeLevel}
-use Rattle.plan_values.specs.declared.certificate.NodePlaces.{NodePlaces}
-use Rattle.plan_values.specs.declared.certificate.NodeRanks.{NodeRanks}
-use Rattle.net_plan.specs.declared.plain_certificate.CertificateParts.{CertificateParts}
-use Rattle.net_plan.proofs.Gathered.{object_plain, all_keys, here, each_moved}
+use Rattle.net_plan.{specs.CertificateText.{IsLevelOf, ArePlacesOf, AreRanksOf}, specs.Gathered.{IsPlain, AreParts}, specs.JsonWords.{At, IsNumber, IsNumberWithin, IsListOf}, specs.Keys.{certificate_keys}, specs.LevelParts.{IsLevelBy}, specs.PlaceParts.{ArePlacesBy}, specs.NameIndexes.{noted}, specs.PlainCertificate.{certificate_slots, IsCertificateBy}, specs.RankParts.{AreRanksBy}, specs.Trees.{data_of}, specs.declared.plain_certificate.CertificateParts.{CertificateParts}, proofs.Gathered.{object_plain, all_keys, here, each_moved}}
+use Rattle.plan_values.{specs.CertificateValues.{level_value, places_value, node_ranks_value}, specs.PlanValues.{node_names}, specs.declared.certificate.NodeLevel.{NodeLevel}, specs.declared.certificate.NodePlaces.{NodePlaces}, specs.declared.certificate.NodeRanks.{NodeRanks}}
 
 -- ---- entries of other nodes
 

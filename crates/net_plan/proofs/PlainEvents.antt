@@ -1,26 +1,10 @@
 -- What is gathered of a list of events, as a value.
-use Rattle.std.proofs.Common.{◌≡◌, ◌≢◌, ◌∷◌, ℕ, List, [], map, Vec, Global, true, Option, Some, None, codes, sym, refl, true≢false}
-use Rattle.std.specs.List.{list_all}
+use Rattle.std.{proofs.Common.{◌≡◌, ◌≢◌, ◌∷◌, ℕ, List, [], map, Vec, Global, true, Option, Some, None, codes, sym, refl, true≢false}, specs.List.{list_all}}
 use Rattle.json.specs.Json.{object, Members}
-use Rattle.serde_json.specs.Data as whole
 use Rattle.serde_json.specs.Data.{Data}
-use Rattle.net_plan.specs.EventParts.{IsEventBy}
-use Rattle.net_plan.specs.EventReading.{has_switches, has_walks}
-use Rattle.net_plan.specs.EventText.{IsFormat, IsEventOf}
-use Rattle.plan_values.specs.EventValues.{EventEntry, switch, walk, ask, collected, event_entry}
-use Rattle.net_plan.specs.Gathered.{IsPlain, AreParts}
-use Rattle.net_plan.specs.JsonWords.{AreItems, IsShortListOf}
-use Rattle.net_plan.specs.Keys.{events_keys}
-use Rattle.net_plan.specs.PlainEvents.{events_slots, AreEventsBy, is_event_in}
-use Rattle.net_plan.specs.NameIndexes.{noted, IsIndexOf}
-use Rattle.plan_values.specs.PlanValues.{node_names}
-use Rattle.net_plan.specs.Trees.{data_of}
-use Rattle.plan_values.specs.declared.event.Event.{Event}
-use Rattle.net_plan.specs.declared.event_format.Format.{Format}
-use Rattle.net_plan.specs.declared.event_format.Format.TheVariants.{One, Three}
-use Rattle.net_plan.specs.declared.plain_events.EventsParts.{EventsParts}
-use Rattle.net_plan.proofs.Gathered.{object_plain, all_keys, here}
-use Rattle.net_plan.proofs.Telling.{both}
+use Rattle.net_plan.{specs.EventParts.{IsEventBy}, specs.EventReading.{has_switches, has_walks}, specs.EventText.{IsFormat, IsEventOf}, specs.Gathered.{IsPlain, AreParts}, specs.JsonWords.{AreItems, IsShortListOf}, specs.Keys.{events_keys}, specs.PlainEvents.{events_slots, AreEventsBy, is_event_in}, specs.NameIndexes.{noted, IsIndexOf}, specs.Trees.{data_of}, specs.declared.event_format.Format.{Format}, specs.declared.event_format.Format.TheVariants.{One, Three}, specs.declared.plain_events.EventsParts.{EventsParts}, proofs.Gathered.{object_plain, all_keys, here}, proofs.Telling.{both}}
+use Rattle.plan_values.{specs.EventValues.{EventEntry, switch, walk, ask, collected, event_entry}, specs.PlanValues.{node_names}, specs.declared.event.Event.{Event}}
+use Rattle.serde_json.specs.Data as whole
 
 -- ---- the format
 

@@ -1,31 +1,8 @@
 -- What is read of a plan is what the relation tells.
-use Rattle.std.proofs.Common.{◌≡◌, ℕ, suc, List, [], ◌∷◌, map, length, true, cond, ◌&&◌, Some, None, Ok, Err, refl, sym, ap, ◌∙◌, subst, is_ok, codes, arith}
-use Rattle.std.proofs.lemmas.List.{length-map}
-use Rattle.std.specs.List.{list_all}
+use Rattle.std.{proofs.Common.{◌≡◌, ℕ, suc, List, [], ◌∷◌, map, length, true, cond, ◌&&◌, Some, None, Ok, Err, refl, sym, ap, ◌∙◌, subst, is_ok, codes, arith}, proofs.lemmas.List.{length-map}, specs.List.{list_all}}
 use Rattle.serde_json.specs.Data.{Data, null, object, string, array, Items, no_items, item, Members}
-use Rattle.plan_values.specs.Placed.{is_port_placed, is_row_placed, is_owner_placed, is_node_placed, are_placed}
-use Rattle.plan_values.specs.PlanValues.{BusValue, NodeValue, PlanValue, bus_names, node_names}
-use Rattle.net_plan.specs.Finding.{first_fault, refused}
-use Rattle.net_plan.specs.Fitting.{HasAt, Fits, FieldsFit}
-use Rattle.net_plan.specs.Grammar.{a_list, an_optional, Known}
-use Rattle.net_plan.specs.Json.{at_key, demand, whole_number, found}
-use Rattle.net_plan.specs.JsonWords.{HasKeys, At, AreItems, IsShortListOf, IsOptional, IsNumber, IsName, IsIndexOfName}
-use Rattle.net_plan.specs.Keys.{plan_keys}
-use Rattle.net_plan.specs.Made.{index_in, each_made, within_in, found_or, within_at, optional_at, bus_made, port_made, row_made, pool_made, record_made, terminus_made, node_made, unit_made, buses_made, nodes_made, plan_made}
-use Rattle.net_plan.specs.Names.{index_among, names_differ, text_found, each_text_at, names_in, names_at}
-use Rattle.net_plan.specs.PlanReading.{plan_format, plan_tested, plan_by, plan}
-use Rattle.net_plan.specs.PlanText.{IsBusOf, IsPortOf, IsRowOf, IsPoolOf, IsRecordOf, IsTerminusOf, IsNodeOf, IsPlanFormat, IsUnitOf, IsPlanOf}
-use Rattle.net_plan.specs.Reading.{then_with}
-use Rattle.net_plan.specs.Tables.{a_node_name, a_bus, a_port, a_row, a_pool, a_record, a_terminus, a_node, plan_lists, a_plan}
-use Rattle.net_plan.specs.declared.error.ValueFault.TheVariants.{OutOfRange, UnknownName, Doubled}
-use Rattle.net_plan.specs.declared.plan_format.PlanFormat.{PlanFormat}
-use Rattle.net_plan.specs.declared.plan_format.PlanFormat.TheVariants.{One, Two}
-use Rattle.net_plan.specs.declared.shape.Named.TheVariants.{Buses, Nodes}
-use Rattle.net_plan.proofs.Differing.{differ_sound, differ_whole}
-use Rattle.net_plan.proofs.Fitting.{none_fits, fits_none, forget, unrefused}
-use Rattle.net_plan.proofs.Makes.{Made, MadeAt, number_made, index_makes, index_made, name_made, kind_made, hex_made, address_made, at_makes, within_is, within_makes, optional_makes, any_makes, any_optional, one_there, one_back}
-use Rattle.net_plan.proofs.Telling.{Tells, any, same_Ok, then_Ok, demanded, both}
-use Rattle.net_plan.proofs.WordsLaw.{number_at as number_told}
+use Rattle.plan_values.{specs.Placed.{is_port_placed, is_row_placed, is_owner_placed, is_node_placed, are_placed}, specs.PlanValues.{BusValue, NodeValue, PlanValue, bus_names, node_names}}
+use Rattle.net_plan.{specs.Finding.{first_fault, refused}, specs.Fitting.{HasAt, Fits, FieldsFit}, specs.Grammar.{a_list, an_optional, Known}, specs.Json.{at_key, demand, whole_number, found}, specs.JsonWords.{HasKeys, At, AreItems, IsShortListOf, IsOptional, IsNumber, IsName, IsIndexOfName}, specs.Keys.{plan_keys}, specs.Made.{index_in, each_made, within_in, found_or, within_at, optional_at, bus_made, port_made, row_made, pool_made, record_made, terminus_made, node_made, unit_made, buses_made, nodes_made, plan_made}, specs.Names.{index_among, names_differ, text_found, each_text_at, names_in, names_at}, specs.PlanReading.{plan_format, plan_tested, plan_by, plan}, specs.PlanText.{IsBusOf, IsPortOf, IsRowOf, IsPoolOf, IsRecordOf, IsTerminusOf, IsNodeOf, IsPlanFormat, IsUnitOf, IsPlanOf}, specs.Reading.{then_with}, specs.Tables.{a_node_name, a_bus, a_port, a_row, a_pool, a_record, a_terminus, a_node, plan_lists, a_plan}, specs.declared.error.ValueFault.TheVariants.{OutOfRange, UnknownName, Doubled}, specs.declared.plan_format.PlanFormat.{PlanFormat}, specs.declared.plan_format.PlanFormat.TheVariants.{One, Two}, specs.declared.shape.Named.TheVariants.{Buses, Nodes}, proofs.Differing.{differ_sound, differ_whole}, proofs.Fitting.{none_fits, fits_none, forget, unrefused}, proofs.Makes.{Made, MadeAt, number_made, index_makes, index_made, name_made, kind_made, hex_made, address_made, at_makes, within_is, within_makes, optional_makes, any_makes, any_optional, one_there, one_back}, proofs.Telling.{Tells, any, same_Ok, then_Ok, demanded, both}, proofs.WordsLaw.{number_at as number_told}}
 
 no_object : (ms : Members) → object ms ≡ null → ⊥
 no_object ms e = cc

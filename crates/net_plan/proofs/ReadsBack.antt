@@ -1,40 +1,10 @@
 -- A well-formed certificate stands in the JSON value that is written of it.
-use Rattle.std.proofs.Common.{◌≡◌, ◌≢◌, ℕ, zero, suc, ◌<◌, List, [], ◌∷◌, length, map, get_or, true, nat_lt, ◌&&◌, Some, Ok, refl, sym, ap, ◌∙◌, arith, AllPairs, subst, None, ◌≤◌, ◌⊎◌, ⊎_elim, inl, inr}
-use Rattle.std.proofs.lemmas.Bool.{ltb-true}
-use Rattle.std.proofs.lemmas.List.{length-map}
-use Rattle.std.proofs.lemmas.Option.{slice_get-get_or, get_or_from_slice_get}
-use Rattle.std.specs.List.{list_all, AllByRecursion}
-use Rattle.std.proofs.lemmas.List.Elements.{recursion_from_All}
-use Rattle.serde_json.specs.Data.{Data}
-use Rattle.serde_json.specs.View.{items_of}
-use Rattle.net_plan.specs.CertificateJson.{list_data, number_data, name_data, level_data, places_data, range_data, ranks_data, certificate_data, certificate_text}
-use Rattle.serde_json.specs.Read.{read}
-use Rattle.net_plan.specs.CertificateReading.{certificate}
-use Rattle.plan_values.specs.CertificateValues.{are_known, IsAscending, CertificateValue, level_value, places_value, range_value, node_ranks_value, certificate_value}
-use Rattle.net_plan.specs.CertificateText.{IsLevelOf, ArePlacesOf, IsRangeOf, AreRanksOf, IsCertificateOf}
-use Rattle.net_plan.specs.JsonWords.{AreItems, IsNumberWithin, IsIndexOfName, IsFirstOf}
-use Rattle.net_plan.specs.Keys.{certificate_keys, level_keys, places_keys, ranks_keys, range_keys}
-use Rattle.plan_values.specs.NameText.{is_name}
-use Rattle.plan_values.specs.PlanValues.{PlanValue, node_value, node_names, plan_value}
-use Rattle.net_plan.specs.Refusals.{IsFaulty, IsRefused}
-use Rattle.net_plan.specs.Texts.{IsJsonTextOf}
-use Rattle.plan_values.specs.WellFormed.{IsWellFormed}
-use Rattle.plan_values.specs.declared.certificate.Certificate.{Certificate}
-use Rattle.plan_values.specs.declared.certificate.NodeLevel.{NodeLevel}
-use Rattle.plan_values.specs.declared.certificate.NodePlaces.{NodePlaces}
-use Rattle.plan_values.specs.declared.certificate.NodeRanks.{NodeRanks}
-use Rattle.plan_values.specs.declared.certificate.RankRange.{RankRange}
-use Rattle.plan_values.specs.declared.certificate.RecordPlace.{RecordPlace}
-use Rattle.plan_values.specs.declared.nodes.Node.{Node}
-use Rattle.plan_values.specs.declared.plan.Plan.{Plan}
-use Rattle.net_plan.specs.declared.error.ValueFault.{ValueFault}
+use Rattle.std.{proofs.Common.{◌≡◌, ◌≢◌, ℕ, zero, suc, ◌<◌, List, [], ◌∷◌, length, map, get_or, true, nat_lt, ◌&&◌, Some, Ok, refl, sym, ap, ◌∙◌, arith, AllPairs, subst, None, ◌≤◌, ◌⊎◌, ⊎_elim, inl, inr}, proofs.lemmas.Bool.{ltb-true}, proofs.lemmas.List.{length-map}, proofs.lemmas.Option.{slice_get-get_or, get_or_from_slice_get}, specs.List.{list_all, AllByRecursion}, proofs.lemmas.List.Elements.{recursion_from_All}}
+use Rattle.serde_json.{specs.Data.{Data}, specs.View.{items_of}, specs.Read.{read}}
+use Rattle.net_plan.{specs.CertificateJson.{list_data, number_data, name_data, level_data, places_data, range_data, ranks_data, certificate_data, certificate_text}, specs.CertificateReading.{certificate}, specs.CertificateText.{IsLevelOf, ArePlacesOf, IsRangeOf, AreRanksOf, IsCertificateOf}, specs.JsonWords.{AreItems, IsNumberWithin, IsIndexOfName, IsFirstOf}, specs.Keys.{certificate_keys, level_keys, places_keys, ranks_keys, range_keys}, specs.Refusals.{IsFaulty, IsRefused}, specs.Texts.{IsJsonTextOf}, specs.declared.error.ValueFault.{ValueFault}, specs.declared.error.PlanError.{PlanError}, proofs.SingleKeys.{not_doubled}, proofs.CertificateLaw.{certificate_tells}, proofs.KeysLaw.{keys_sound}, proofs.Telling.{both, same_Ok}}
+use Rattle.plan_values.{specs.CertificateValues.{are_known, IsAscending, CertificateValue, level_value, places_value, range_value, node_ranks_value, certificate_value}, specs.NameText.{is_name}, specs.PlanValues.{PlanValue, node_value, node_names, plan_value}, specs.WellFormed.{IsWellFormed}, specs.declared.certificate.Certificate.{Certificate}, specs.declared.certificate.NodeLevel.{NodeLevel}, specs.declared.certificate.NodePlaces.{NodePlaces}, specs.declared.certificate.NodeRanks.{NodeRanks}, specs.declared.certificate.RankRange.{RankRange}, specs.declared.certificate.RecordPlace.{RecordPlace}, specs.declared.nodes.Node.{Node}, specs.declared.plan.Plan.{Plan}}
 use Rattle.net_plan.specs.declared.error.ValueFault.TheVariants as fault
-use Rattle.net_plan.specs.declared.error.PlanError.{PlanError}
 use Rattle.net_plan.specs.declared.error.PlanError.TheVariants as errors
-use Rattle.net_plan.proofs.SingleKeys.{not_doubled}
-use Rattle.net_plan.proofs.CertificateLaw.{certificate_tells}
-use Rattle.net_plan.proofs.KeysLaw.{keys_sound}
-use Rattle.net_plan.proofs.Telling.{both, same_Ok}
 
 spelled : (ns : List Node) (k : ℕ) → k < length (node_names (map node_value ns)) → is_name (get_or (node_names (map node_value ns)) k []) ≡ true
 spelled [] k within = absurd (omega arith)

@@ -1,32 +1,10 @@
 -- How long the text of a certificate may be.
-use Rattle.std.proofs.Common.{◌≡◌, ◌≢◌, ℕ, zero, suc, ◌+◌, ◌*◌, ◌/◌, ◌%◌, ◌<◌, ◌≤◌, ◌&&◌, List, [], ◌∷◌, ◌++◌, length, map, get_or, Bool, true, false, cond, nat_lt, nat_le, AllPairs, refl, sym, arith, codes, decimal}
-use Rattle.std.proofs.Math.Nat.{suc-mul}
-use Rattle.std.proofs.lemmas.Bool.{ltb-true, leb-true}
-use Rattle.std.proofs.lemmas.Fmt.{length-decimal-le}
-use Rattle.std.proofs.lemmas.List.{length-append, length-map}
-use Rattle.std.proofs.lemmas.List.Elements.{recursion_from_All}
-use Rattle.std.specs.Char.{digit_char}
-use Rattle.std.specs.List.{list_all, AllByRecursion}
+use Rattle.std.{proofs.Common.{◌≡◌, ◌≢◌, ℕ, zero, suc, ◌+◌, ◌*◌, ◌/◌, ◌%◌, ◌<◌, ◌≤◌, ◌&&◌, List, [], ◌∷◌, ◌++◌, length, map, get_or, Bool, true, false, cond, nat_lt, nat_le, AllPairs, refl, sym, arith, codes, decimal}, proofs.Math.Nat.{suc-mul}, proofs.lemmas.Bool.{ltb-true, leb-true}, proofs.lemmas.Fmt.{length-decimal-le}, proofs.lemmas.List.{length-append, length-map}, proofs.lemmas.List.Elements.{recursion_from_All}, specs.Char.{digit_char}, specs.List.{list_all, AllByRecursion}}
 use Rattle.indexmap.proofs.IndexTableLemmas.Probe.{pigeonhole}
 use Rattle.json.specs.Print.{escape_letter, escape_byte, escape, quoted}
-use Rattle.serde_json.specs.Data.{Data, Members, no_members, member}
-use Rattle.serde_json.specs.View.{items_of}
-use Rattle.serde_json.specs.Written.{compact_text, comma_if, items_text, members_text}
-use Rattle.net_plan.specs.CertificateJson.{list_data, number_data, name_data, level_data, places_data, range_data, ranks_data, certificate_data, certificate_text}
-use Rattle.plan_values.specs.CertificateValues.{are_known, IsAscending, RangeValue, level_value, places_value, range_value, node_ranks_value, certificate_value}
-use Rattle.plan_values.specs.NameText.{is_name_byte, has_name_length}
-use Rattle.plan_values.specs.PlanValues.{node_value, node_names, plan_value}
-use Rattle.plan_values.specs.WellFormed.{IsWellFormed}
-use Rattle.plan_values.specs.ShortText.{HasFewPlaces}
-use Rattle.plan_values.specs.declared.certificate.Certificate.{Certificate}
-use Rattle.plan_values.specs.declared.certificate.NodeLevel.{NodeLevel}
-use Rattle.plan_values.specs.declared.certificate.NodePlaces.{NodePlaces}
-use Rattle.plan_values.specs.declared.certificate.NodeRanks.{NodeRanks}
-use Rattle.plan_values.specs.declared.certificate.RankRange.{RankRange}
-use Rattle.plan_values.specs.declared.certificate.RecordPlace.{RecordPlace}
-use Rattle.plan_values.specs.declared.nodes.Node.{Node}
-use Rattle.plan_values.specs.declared.plan.Plan.{Plan}
-use Rattle.net_plan.proofs.Telling.{both}
+use Rattle.serde_json.{specs.Data.{Data, Members, no_members, member}, specs.View.{items_of}, specs.Written.{compact_text, comma_if, items_text, members_text}}
+use Rattle.net_plan.{specs.CertificateJson.{list_data, number_data, name_data, level_data, places_data, range_data, ranks_data, certificate_data, certificate_text}, proofs.Telling.{both}}
+use Rattle.plan_values.{specs.CertificateValues.{are_known, IsAscending, RangeValue, level_value, places_value, range_value, node_ranks_value, certificate_value}, specs.NameText.{is_name_byte, has_name_length}, specs.PlanValues.{node_value, node_names, plan_value}, specs.WellFormed.{IsWellFormed}, specs.ShortText.{HasFewPlaces}, specs.declared.certificate.Certificate.{Certificate}, specs.declared.certificate.NodeLevel.{NodeLevel}, specs.declared.certificate.NodePlaces.{NodePlaces}, specs.declared.certificate.NodeRanks.{NodeRanks}, specs.declared.certificate.RankRange.{RankRange}, specs.declared.certificate.RecordPlace.{RecordPlace}, specs.declared.nodes.Node.{Node}, specs.declared.plan.Plan.{Plan}}
 
 -- ---- strings and numbers
 

@@ -1,21 +1,8 @@
 -- Keys that stand once in their object, and the trees of texts.
 use Rattle.std.proofs.Common.{◌≡◌, ℕ, List, [], ◌∷◌, map, true, ◌&&◌, Option, Some, None, option_and_then, Bor, refl, sym, ap, ◌∙◌, subst, append-nil}
-use Rattle.json.specs.Json.{Json, array, object, Items, no_items, item, Members, no_members, member, value, if_last}
-use Rattle.json.specs.Lex.{tokens}
-use Rattle.json.specs.Strict.{keys, HasUniqueKeys, ItemsHaveUniqueKeys, MembersHaveUniqueKeys}
-use Rattle.json.specs.Token.{Token}
-use Rattle.json.specs.Tree.{json_tokens}
-use Rattle.json.specs.Value.{members_view}
-use Rattle.json.proofs.Unique.Places.{DistinctEverywhere, DistinctEverywhere-from_unique, HasUniqueKeys-from_places}
-use Rattle.json.proofs.Unique.Spelling.{value-json_tokens_back}
-use Rattle.serde_json.specs.Data.{Data}
-use Rattle.serde_json.specs.Read.{of_json, max_depth, read}
-use Rattle.net_plan.specs.Names.{names_differ}
-use Rattle.net_plan.specs.SingleKeys.{single, items_single, members_single}
-use Rattle.net_plan.specs.Texts.{IsTree, HasSingleKeys, HasDoubledKey}
-use Rattle.net_plan.specs.Trees.{Tree}
-use Rattle.net_plan.proofs.Differing.{differ_sound, differ_whole}
-use Rattle.net_plan.proofs.Telling.{both}
+use Rattle.json.{specs.Json.{Json, array, object, Items, no_items, item, Members, no_members, member, value, if_last}, specs.Lex.{tokens}, specs.Strict.{keys, HasUniqueKeys, ItemsHaveUniqueKeys, MembersHaveUniqueKeys}, specs.Token.{Token}, specs.Tree.{json_tokens}, specs.Value.{members_view}, proofs.Unique.Places.{DistinctEverywhere, DistinctEverywhere-from_unique, HasUniqueKeys-from_places}, proofs.Unique.Spelling.{value-json_tokens_back}}
+use Rattle.serde_json.{specs.Data.{Data}, specs.Read.{of_json, max_depth, read}}
+use Rattle.net_plan.{specs.Names.{names_differ}, specs.SingleKeys.{single, items_single, members_single}, specs.Texts.{IsTree, HasSingleKeys, HasDoubledKey}, specs.Trees.{Tree}, proofs.Differing.{differ_sound, differ_whole}, proofs.Telling.{both}}
 
 pub keys_of : (ms : List (Bor (List ℕ) × Tree)) → keys (members_view ms) ≡ map (λ m. m.0.now) ms
 keys_of [] = refl

@@ -1,45 +1,12 @@
 -- Values that stand for others.
-use Rattle.std.proofs.Common.{◌≡◌, ◌&&◌, ◌≢◌, ◌≤◌, ℕ, List, [], ◌∷◌, ◌++◌, length, map, Bool, true, false, cond, is_some, Option, Some, None, option_map, codes, Vec, Global, Bor, inl, inr, refl, ap, ◌∙◌, sym, subst, true≢false, append_assoc, rules}
-use Rattle.std.proofs.lemmas.Bool.{and_from, ltb-true}
-use Rattle.std.proofs.lemmas.List.{length-map}
-use Rattle.std.specs.List.{list_all}
-use Rattle.std.proofs.lemmas.Slice.Eq.{bytes_eq-Decides}
-use Rattle.std.specs.Str.{bytes_eq}
-use Rattle.json.specs.Find.{later_or, get_member}
-use Rattle.json.specs.Json.{Json, null, object, Items, no_items, item, Members, no_members, member}
-use Rattle.json.specs.Strict.{keys}
-use Rattle.json.specs.declared.value.Value.{Null, the_lemmas}
+use Rattle.std.{proofs.Common.{◌≡◌, ◌&&◌, ◌≢◌, ◌≤◌, ℕ, List, [], ◌∷◌, ◌++◌, length, map, Bool, true, false, cond, is_some, Option, Some, None, option_map, codes, Vec, Global, Bor, inl, inr, refl, ap, ◌∙◌, sym, subst, true≢false, append_assoc, rules}, proofs.lemmas.Bool.{and_from, ltb-true}, proofs.lemmas.List.{length-map}, specs.List.{list_all}, proofs.lemmas.Slice.Eq.{bytes_eq-Decides}, specs.Str.{bytes_eq}}
+use Rattle.json.{specs.Find.{later_or, get_member}, specs.Json.{Json, null, object, Items, no_items, item, Members, no_members, member}, specs.Strict.{keys}, specs.declared.value.Value.{Null, the_lemmas}, specs.Value.{value_view, members_view}}
+use Rattle.serde_json.{specs.Data.{Data}, specs.Find.{get}}
+use Rattle.net_plan.{specs.Gathered.{with_last, IsPlain, EachIs}, specs.JsonWords.{HasKeys, At, AreItems, IsShortListOf, IsOptional, IsNumberWithin, IsName, IsIndexOfName}, specs.Keys.{node_keys, plan_keys}, specs.Names.{names_differ, index_among}, specs.PlanText.{IsByte, IsBusOf, IsPortOf, IsRowOf, IsPoolOf, IsTerminusOf, IsKindOf, IsNodeOf, IsPlanFormat, IsUnitOf, IsPlanOf}, specs.SingleKeys.{single, items_single, members_single}, specs.Skeleton.{IsStandIn, AreStandIns, IsCutTerminus, IsCutRows, IsCutNodes, IsNodeSkeleton, CutValue, cut_value, placed_value, found_row, found_value, with_part, with_parts}, specs.RowParts.{NamedRowValue, IsNamedRowOf, named_row}, specs.Trees.{Tree, view, items_view, data_of, items_of, members_of, fits, items_fit, members_fit}, specs.declared.plan_format.PlanFormat.{PlanFormat}, specs.declared.plan_format.PlanFormat.TheVariants.{One, Two}, specs.declared.row_parts.NamedRow.{NamedRow}, specs.declared.skeleton.CutParts.{CutParts}, specs.declared.skeleton.NodeSkeleton.{NodeSkeleton}, specs.declared.skeleton.PlacedParts.{PlacedParts}, proofs.WordsLaw.{same_Some, first_within}, proofs.Gathered.{is_some_map, no_Some}, proofs.Telling.{both}, proofs.Trees.{get_of}}
+use Rattle.plan_values.{specs.PlanValues.{PlanValue, NodeValue, TerminusValue, node_value, terminus_value, bus_names, node_names}, specs.Placed.{is_owner_placed, is_port_placed, is_row_placed, is_node_placed, are_placed}, specs.declared.nodes.Node.{Node}, specs.declared.terminus.PlannedTerminus.{PlannedTerminus}, specs.NameText.{is_name}, proofs.Placed.{passes}}
 use Rattle.json.specs.Value as trees
-use Rattle.json.specs.Value.{value_view, members_view}
 use Rattle.serde_json.specs.Data as whole
-use Rattle.serde_json.specs.Data.{Data}
 use Rattle.serde_json.specs.Find as find
-use Rattle.serde_json.specs.Find.{get}
-use Rattle.net_plan.specs.Gathered.{with_last, IsPlain, EachIs}
-use Rattle.net_plan.specs.JsonWords.{HasKeys, At, AreItems, IsShortListOf, IsOptional, IsNumberWithin, IsName, IsIndexOfName}
-use Rattle.net_plan.specs.Keys.{node_keys, plan_keys}
-use Rattle.net_plan.specs.Names.{names_differ, index_among}
-use Rattle.net_plan.specs.PlanText.{IsByte, IsBusOf, IsPortOf, IsRowOf, IsPoolOf, IsTerminusOf, IsKindOf, IsNodeOf, IsPlanFormat, IsUnitOf, IsPlanOf}
-use Rattle.plan_values.specs.PlanValues.{PlanValue, NodeValue, TerminusValue, node_value, terminus_value, bus_names, node_names}
-use Rattle.net_plan.specs.SingleKeys.{single, items_single, members_single}
-use Rattle.net_plan.specs.Skeleton.{IsStandIn, AreStandIns, IsCutTerminus, IsCutRows, IsCutNodes, IsNodeSkeleton, CutValue, cut_value, placed_value, found_row, found_value, with_part, with_parts}
-use Rattle.net_plan.specs.RowParts.{NamedRowValue, IsNamedRowOf, named_row}
-use Rattle.plan_values.specs.Placed.{is_owner_placed, is_port_placed, is_row_placed, is_node_placed, are_placed}
-use Rattle.net_plan.specs.Trees.{Tree, view, items_view, data_of, items_of, members_of, fits, items_fit, members_fit}
-use Rattle.plan_values.specs.declared.nodes.Node.{Node}
-use Rattle.net_plan.specs.declared.plan_format.PlanFormat.{PlanFormat}
-use Rattle.net_plan.specs.declared.plan_format.PlanFormat.TheVariants.{One, Two}
-use Rattle.net_plan.specs.declared.row_parts.NamedRow.{NamedRow}
-use Rattle.net_plan.specs.declared.skeleton.CutParts.{CutParts}
-use Rattle.net_plan.specs.declared.skeleton.NodeSkeleton.{NodeSkeleton}
-use Rattle.net_plan.specs.declared.skeleton.PlacedParts.{PlacedParts}
-use Rattle.plan_values.specs.declared.terminus.PlannedTerminus.{PlannedTerminus}
-use Rattle.plan_values.specs.NameText.{is_name}
-use Rattle.plan_values.proofs.Placed.{passes}
-use Rattle.net_plan.proofs.WordsLaw.{same_Some, first_within}
-use Rattle.net_plan.proofs.Gathered.{is_some_map, no_Some}
-use Rattle.net_plan.proofs.Telling.{both}
-use Rattle.net_plan.proofs.Trees.{get_of}
 
 pub view_last : (ms : List (Bor (List ℕ) × Tree)) (k : Bor (List ℕ)) (v : Tree) → members_view (ms ++ (k, v) ∷ []) ≡ with_last (members_view ms) k.now (value_view v)
 view_last [] k v = refl

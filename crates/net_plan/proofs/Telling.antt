@@ -1,13 +1,7 @@
 -- A function from JSON values that answers what a relation tells, and nothing else.
-use Rattle.std.proofs.Common.{◌≡◌, ℕ, List, Bool, true, false, nat_le, ◌&&◌, Option, Some, None, Result, Ok, Err, refl, sym, ap, ◌∙◌, subst, cond, true≢false}
-use Rattle.std.proofs.lemmas.Bool.{leb-true, le-leb}
-use Rattle.serde_json.specs.Data.{Num, Data, boolean, number, unsigned}
-use Rattle.serde_json.specs.Find.{get, as_u64}
-use Rattle.net_plan.specs.declared.error.ValueFault.{ValueFault}
-use Rattle.net_plan.specs.declared.error.ValueFault.TheVariants.{OutOfRange}
-use Rattle.net_plan.specs.Json.{demand, found, at_key, whole_number, number_within, truth}
-use Rattle.net_plan.specs.JsonWords.{At, IsNumberWithin, IsTruth}
-use Rattle.net_plan.specs.Reading.{then_with}
+use Rattle.std.{proofs.Common.{◌≡◌, ℕ, List, Bool, true, false, nat_le, ◌&&◌, Option, Some, None, Result, Ok, Err, refl, sym, ap, ◌∙◌, subst, cond, true≢false}, proofs.lemmas.Bool.{leb-true, le-leb}}
+use Rattle.serde_json.{specs.Data.{Num, Data, boolean, number, unsigned}, specs.Find.{get, as_u64}}
+use Rattle.net_plan.{specs.declared.error.ValueFault.{ValueFault}, specs.declared.error.ValueFault.TheVariants.{OutOfRange}, specs.Json.{demand, found, at_key, whole_number, number_within, truth}, specs.JsonWords.{At, IsNumberWithin, IsTruth}, specs.Reading.{then_with}}
 
 -- what f reads and passes the test is what R tells
 pub record Tells {A : Type 0} (f : Data → Result A ValueFault) (test : A → Bool) (R : Data → A → Type 0) : Type 0 where

@@ -1,21 +1,9 @@
 -- What words of JSON say is what the relations tell.
-use Rattle.std.proofs.Common.{◌≡◌, ◌≢◌, ℕ, zero, suc, unwrap_or, ◌<◌, List, [], ◌∷◌, length, Bool, true, false, nat_le, Some, None, Result, Ok, Err, refl, sym, ap, ◌∙◌, subst, cond, true≢false, codes, slice_get, arith}
-use Rattle.std.proofs.lemmas.Bool.{leb-true, le-leb}
-use Rattle.std.proofs.lemmas.Slice.Eq.{bytes_eq-Decides}
-use Rattle.std.specs.Str.{bytes_eq}
-use Rattle.hex.specs.Hex.{decode_of}
-use Rattle.hex.specs.declared.error.FromHexError.{FromHexError}
+use Rattle.std.{proofs.Common.{◌≡◌, ◌≢◌, ℕ, zero, suc, unwrap_or, ◌<◌, List, [], ◌∷◌, length, Bool, true, false, nat_le, Some, None, Result, Ok, Err, refl, sym, ap, ◌∙◌, subst, cond, true≢false, codes, slice_get, arith}, proofs.lemmas.Bool.{leb-true, le-leb}, proofs.lemmas.Slice.Eq.{bytes_eq-Decides}, specs.Str.{bytes_eq}}
+use Rattle.hex.{specs.Hex.{decode_of}, specs.declared.error.FromHexError.{FromHexError}}
 use Rattle.serde_json.specs.Data.{Data, string}
-use Rattle.net_plan.specs.Json.{at_key, demand, name_text, whole_number, hex_text, address_text, kind_text, decoded}
-use Rattle.net_plan.specs.JsonWords.{At, IsNumberWithin, IsName, IsHex, IsAddress, IsFirstOf}
-use Rattle.plan_values.specs.NameText.{is_name}
-use Rattle.net_plan.specs.Names.{index_of, index_among}
-use Rattle.net_plan.specs.PlanText.{IsKindOf}
-use Rattle.net_plan.specs.declared.error.ValueFault.TheVariants.{OutOfRange, OverLimit}
-use Rattle.plan_values.specs.declared.nodes.Kind.{Kind}
-use Rattle.plan_values.specs.declared.nodes.Kind.TheVariants.{Bridge, Endpoint}
-use Rattle.net_plan.proofs.Names.{index_among-of, index_within}
-use Rattle.net_plan.proofs.Telling.{Tells, any, no_value, same_Ok, then_Ok, demanded, at_key_tells, number_tells}
+use Rattle.net_plan.{specs.Json.{at_key, demand, name_text, whole_number, hex_text, address_text, kind_text, decoded}, specs.JsonWords.{At, IsNumberWithin, IsName, IsHex, IsAddress, IsFirstOf}, specs.Names.{index_of, index_among}, specs.PlanText.{IsKindOf}, specs.declared.error.ValueFault.TheVariants.{OutOfRange, OverLimit}, proofs.Names.{index_among-of, index_within}, proofs.Telling.{Tells, any, no_value, same_Ok, then_Ok, demanded, at_key_tells, number_tells}}
+use Rattle.plan_values.{specs.NameText.{is_name}, specs.declared.nodes.Kind.{Kind}, specs.declared.nodes.Kind.TheVariants.{Bridge, Endpoint}}
 
 -- ---- texts
 

@@ -1,14 +1,9 @@
 -- The JSON value of a certificate: it has no float, and nests a few lists and objects.
 use Rattle.std.proofs.Common.{◌≡◌, ℕ, codes, suc, ◌≤◌, List, [], ◌∷◌, map, false, Result, Ok, Err, IfOk, refl, ap, arith, slice_index_or, length, zero, ◌<◌}
 use Rattle.json.specs.Strict.{HasUniqueKeys, ItemsHaveUniqueKeys}
-use Rattle.serde_json.specs.Data.{Data, depth, items_depth}
-use Rattle.serde_json.specs.View.{items_of}
-use Rattle.serde_json.specs.Written.{has_float, items_have_float, outline, items_outline}
-use Rattle.net_plan.specs.CertificateJson.{number_data, level_data, places_data, range_data, ranks_data, certificate_data}
-use Rattle.plan_values.specs.CertificateValues.{LevelValue, PlacesValue, RangeValue, NodeRanksValue, CertificateValue}
-use Rattle.plan_values.specs.PlanValues.{name_bytes, node_value, node_names}
-use Rattle.plan_values.specs.declared.nodes.Node.{Node}
-use Rattle.net_plan.proofs.Differing.{differ_sound}
+use Rattle.serde_json.{specs.Data.{Data, depth, items_depth}, specs.View.{items_of}, specs.Written.{has_float, items_have_float, outline, items_outline}}
+use Rattle.net_plan.{specs.CertificateJson.{number_data, level_data, places_data, range_data, ranks_data, certificate_data}, proofs.Differing.{differ_sound}}
+use Rattle.plan_values.{specs.CertificateValues.{LevelValue, PlacesValue, RangeValue, NodeRanksValue, CertificateValue}, specs.PlanValues.{name_bytes, node_value, node_names}, specs.declared.nodes.Node.{Node}}
 
 pub if_ok : {A E : Type 0} (r : Result A E) (P Q : A → Type 0) → IfOk r P → ((x : A) → P x → Q x) → IfOk r Q
 if_ok (Ok x) P Q h step = step x h

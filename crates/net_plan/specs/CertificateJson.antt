@@ -1,8 +1,6 @@
 -- The text of a certificate.
 use Rattle.std.specs.Prelude.{ℕ, ◌++◌, codes, List, [], ◌∷◌, map, slice_index_or}
-use Rattle.serde_json.specs.Data.{Data, number, unsigned, string, array, object, no_members, member}
-use Rattle.serde_json.specs.View.{items_of}
-use Rattle.serde_json.specs.Written.{compact_text}
+use Rattle.serde_json.{specs.Data.{Data, number, unsigned, string, array, object, no_members, member}, specs.View.{items_of}, specs.Written.{compact_text}}
 use Rattle.plan_values.specs.CertificateValues.{LevelValue, PlacesValue, RangeValue, NodeRanksValue, CertificateValue}
 
 abbrev pub list_data : {A : Type 0} → (A → Data) → List A → Data

@@ -1,16 +1,8 @@
 -- The certificate that a JSON value stands for, or its first fault in the order of tests, by functions.
-use Rattle.std.specs.Prelude.{ℕ, ◌+◌, ◌&&◌, codes, List, [], ◌∷◌, length, Bool, true, nat_le, None, ⊤, Result, Ok}
-use Rattle.std.specs.List.{list_all}
+use Rattle.std.{specs.Prelude.{ℕ, ◌+◌, ◌&&◌, codes, List, [], ◌∷◌, length, Bool, true, nat_le, None, ⊤, Result, Ok}, specs.List.{list_all}}
 use Rattle.serde_json.specs.Data.{Data}
 use Rattle.plan_values.specs.CertificateValues.{RangeValue, CertificateValue, are_known}
-use Rattle.net_plan.specs.Finding.{first_fault, refused}
-use Rattle.net_plan.specs.Json.{at_key, demand}
-use Rattle.net_plan.specs.Made.{certificate_made}
-use Rattle.net_plan.specs.Names.{index_among, names_differ, texts_at}
-use Rattle.net_plan.specs.Reading.{then_with}
-use Rattle.net_plan.specs.Tables.{a_certificate}
-use Rattle.net_plan.specs.declared.error.ValueFault.{ValueFault}
-use Rattle.net_plan.specs.declared.error.ValueFault.TheVariants.{UnknownName, Doubled}
+use Rattle.net_plan.{specs.Finding.{first_fault, refused}, specs.Json.{at_key, demand}, specs.Made.{certificate_made}, specs.Names.{index_among, names_differ, texts_at}, specs.Reading.{then_with}, specs.Tables.{a_certificate}, specs.declared.error.ValueFault.{ValueFault}, specs.declared.error.ValueFault.TheVariants.{UnknownName, Doubled}}
 
 -- no two entries of a list name one node
 abbrev pub nodes_differ : Data → Result ⊤ ValueFault

@@ -1,12 +1,8 @@
 -- Which certificate a JSON value is.
 use Rattle.std.specs.Prelude.{ℕ, ◌≢◌, ◌+◌, ◌≤◌, codes, List, AllPairs}
 use Rattle.serde_json.specs.Data.{Data}
-use Rattle.net_plan.specs.Keys.{certificate_keys, level_keys, places_keys, ranks_keys, range_keys}
-use Rattle.plan_values.specs.CertificateValues.{LevelValue, PlacesValue, RangeValue, NodeRanksValue}
-use Rattle.plan_values.specs.CertificateValues.{CertificateValue, IsAscending}
-use Rattle.net_plan.specs.JsonWords.{HasKeys, At, IsListOf, IsNumber, IsNumberWithin, IsIndexOfName}
-use Rattle.net_plan.specs.PlanText.{IsByte}
-use Rattle.plan_values.specs.PlanValues.{PlanValue, node_names}
+use Rattle.net_plan.{specs.Keys.{certificate_keys, level_keys, places_keys, ranks_keys, range_keys}, specs.JsonWords.{HasKeys, At, IsListOf, IsNumber, IsNumberWithin, IsIndexOfName}, specs.PlanText.{IsByte}}
+use Rattle.plan_values.{specs.CertificateValues.{LevelValue, PlacesValue, RangeValue, NodeRanksValue, CertificateValue, IsAscending}, specs.PlanValues.{PlanValue, node_names}}
 
 -- the level of the first node of a name
 pub record IsLevelOf (nodes : List (List ℕ)) (d : Data) (l : LevelValue) : Type 0 where

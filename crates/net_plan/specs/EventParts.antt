@@ -2,15 +2,8 @@
 use Rattle.std.specs.Prelude.{ℕ, ◌+◌, codes, List, [], ◌∷◌, Option, Some, is_some, if◌then◌else◌}
 use Rattle.json.specs.Json.{Members, object}
 use Rattle.serde_json.specs.Data.{Data}
-use Rattle.net_plan.specs.EventText.{IsBit, IsEventOf}
+use Rattle.net_plan.{specs.EventText.{IsBit, IsEventOf}, specs.Gathered.{Slot, slot, AreParts, IsGathered, IsPlain}, specs.JsonWords.{IsString, IsName, IsHex, IsTruth, IsNumberWithin}, specs.NameIndexes.{IsIndexOf}, specs.PlanText.{IsByte, IsWord}, specs.Trees.{data_of}, specs.declared.event_parts.EventParts.{EventParts}, specs.declared.event_format.Format.TheVariants.{Three}}
 use Rattle.plan_values.specs.EventValues.{EventEntry}
-use Rattle.net_plan.specs.Gathered.{Slot, slot, AreParts, IsGathered, IsPlain}
-use Rattle.net_plan.specs.JsonWords.{IsString, IsName, IsHex, IsTruth, IsNumberWithin}
-use Rattle.net_plan.specs.NameIndexes.{IsIndexOf}
-use Rattle.net_plan.specs.PlanText.{IsByte, IsWord}
-use Rattle.net_plan.specs.Trees.{data_of}
-use Rattle.net_plan.specs.declared.event_parts.EventParts.{EventParts}
-use Rattle.net_plan.specs.declared.event_format.Format.TheVariants.{Three}
 
 abbrev pub event_slots : EventParts → List Slot
 event_slots p =

@@ -1,18 +1,8 @@
 -- The events that a JSON value stands for, or its first fault in the order of tests, by functions.
-use Rattle.std.specs.Prelude.{ℕ, ◌==◌, codes, List, length, Bool, true, false, None, if◌then◌else◌, Result, Ok}
-use Rattle.std.specs.List.{list_all}
+use Rattle.std.{specs.Prelude.{ℕ, ◌==◌, codes, List, length, Bool, true, false, None, if◌then◌else◌, Result, Ok}, specs.List.{list_all}}
 use Rattle.serde_json.specs.Data.{Data}
 use Rattle.plan_values.specs.EventValues.{EventEntry, is_known_event}
-use Rattle.net_plan.specs.Finding.{first_fault, refused}
-use Rattle.net_plan.specs.Json.{demand}
-use Rattle.net_plan.specs.Made.{number_at, events_made}
-use Rattle.net_plan.specs.Names.{index_among}
-use Rattle.net_plan.specs.Reading.{then_with}
-use Rattle.net_plan.specs.Tables.{events_in}
-use Rattle.net_plan.specs.declared.error.ValueFault.{ValueFault}
-use Rattle.net_plan.specs.declared.error.ValueFault.TheVariants.{UnknownName}
-use Rattle.net_plan.specs.declared.event_format.Format.{Format}
-use Rattle.net_plan.specs.declared.event_format.Format.TheVariants.{One, Two, Three}
+use Rattle.net_plan.{specs.Finding.{first_fault, refused}, specs.Json.{demand}, specs.Made.{number_at, events_made}, specs.Names.{index_among}, specs.Reading.{then_with}, specs.Tables.{events_in}, specs.declared.error.ValueFault.{ValueFault}, specs.declared.error.ValueFault.TheVariants.{UnknownName}, specs.declared.event_format.Format.{Format}, specs.declared.event_format.Format.TheVariants.{One, Two, Three}}
 
 -- the format that has this number
 abbrev pub format_of : ℕ → Format

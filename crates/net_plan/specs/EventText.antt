@@ -1,15 +1,8 @@
 -- Which events a JSON value is.
 use Rattle.std.specs.Prelude.{ℕ, ◌≡◌, ◌≢◌, Bool, true, false, codes, List}
 use Rattle.serde_json.specs.Data.{Data}
-use Rattle.plan_values.specs.EventValues.{EventEntry, put, move, lose, expire, answer, switch, walk, ask, collected}
-use Rattle.net_plan.specs.JsonWords.{HasKeys, At, IsShortListOf, IsNumber}
-use Rattle.net_plan.specs.JsonWords.{IsNumberWithin, IsTruth, IsText, IsHex, IsIndexOfName}
-use Rattle.net_plan.specs.Keys.{events_keys, put_keys, move_keys, lose_keys, expire_keys}
-use Rattle.net_plan.specs.Keys.{answer_keys, switch_keys, walk_keys, ask_keys, collected_keys}
-use Rattle.net_plan.specs.PlanText.{IsByte, IsWord}
-use Rattle.plan_values.specs.PlanValues.{PlanValue, node_names}
-use Rattle.net_plan.specs.declared.event_format.Format.{Format}
-use Rattle.net_plan.specs.declared.event_format.Format.TheVariants.{One, Two, Three}
+use Rattle.plan_values.{specs.EventValues.{EventEntry, put, move, lose, expire, answer, switch, walk, ask, collected}, specs.PlanValues.{PlanValue, node_names}}
+use Rattle.net_plan.{specs.JsonWords.{HasKeys, At, IsShortListOf, IsNumber, IsNumberWithin, IsTruth, IsText, IsHex, IsIndexOfName}, specs.Keys.{events_keys, put_keys, move_keys, lose_keys, expire_keys, answer_keys, switch_keys, walk_keys, ask_keys, collected_keys}, specs.PlanText.{IsByte, IsWord}, specs.declared.event_format.Format.{Format}, specs.declared.event_format.Format.TheVariants.{One, Two, Three}, specs.Limits.{most_events}}
 
 -- what happens is this
 abbrev pub Does : List ℕ → Data → Type 0
@@ -104,4 +97,4 @@ pub record AreEventsOf (plan : PlanValue) (d : Data) (es : List EventEntry) : Ty
   pub keys : HasKeys events_keys d
   pub format : Format
   pub numbered : At (codes "format") IsFormat d format
-  pub events : At (codes "events") (IsShortListOf 100000 (IsEventOf format (node_names plan.nodes))) d es
+  pub events : At (codes "events") (IsShortListOf most_events (IsEventOf format (node_names plan.nodes))) d es

@@ -1,27 +1,8 @@
 -- The first fault of a value, and where it stands.
-use Rattle.std.specs.Prelude.{ℕ, suc, ◌+◌, codes, List, [], ◌∷◌, map, ⊤, Bool, true, false, not, nat_le, nat_lt}
-use Rattle.std.specs.Prelude.{if◌then◌else◌, Option, Some, None, option_map, option_and_then, Result, Ok, Err}
-use Rattle.std.specs.Option.{option_or}
-use Rattle.std.specs.Str.{bytes_eq}
-use Rattle.serde_json.specs.Data.{Data, null, boolean, number, string, array, object, Items, no_items, item}
-use Rattle.serde_json.specs.Find.{get}
-use Rattle.net_plan.specs.Json.{demand, items_count, keyed, some_object, found, at_key, is_among}
-use Rattle.net_plan.specs.Json.{name_text, hex_text, address_text, whole_number, truth, kind_text}
-use Rattle.net_plan.specs.Names.{text_of}
-use Rattle.net_plan.specs.Reading.{then_with}
-use Rattle.net_plan.specs.declared.error.ValueFault.{ValueFault}
-use Rattle.net_plan.specs.declared.error.ValueFault.TheVariants.{WrongKind, OverLimit, OutOfRange, UnknownName}
-use Rattle.net_plan.specs.Grammar.{Grammar, plain, one_of, a_list, an_optional, an_object, a_choice}
-use Rattle.net_plan.specs.Grammar.{Fields, no_fields, field, keys_of}
-use Rattle.net_plan.specs.Grammar.{Known, grammar}
-use Rattle.net_plan.specs.declared.found.Found.{Found}
-use Rattle.net_plan.specs.declared.found.PointerStep.{PointerStep}
-use Rattle.net_plan.specs.declared.found.PointerStep.TheVariants.{Key, Index}
-use Rattle.net_plan.specs.declared.shape.Named.{Named}
-use Rattle.net_plan.specs.declared.shape.Named.TheVariants.{Buses, Nodes}
-use Rattle.net_plan.specs.declared.shape.Rule.{Rule}
+use Rattle.std.{specs.Prelude.{ℕ, suc, ◌+◌, codes, List, [], ◌∷◌, map, ⊤, Bool, true, false, not, nat_le, nat_lt, if◌then◌else◌, Option, Some, None, option_map, option_and_then, Result, Ok, Err}, specs.Option.{option_or}, specs.Str.{bytes_eq}}
+use Rattle.serde_json.{specs.Data.{Data, null, boolean, number, string, array, object, Items, no_items, item}, specs.Find.{get}}
+use Rattle.net_plan.{specs.Json.{demand, items_count, keyed, some_object, found, at_key, is_among, name_text, hex_text, address_text, whole_number, truth, kind_text}, specs.Names.{text_of}, specs.Reading.{then_with}, specs.declared.error.ValueFault.{ValueFault}, specs.declared.error.ValueFault.TheVariants.{WrongKind, OverLimit, OutOfRange, UnknownName}, specs.Grammar.{Grammar, plain, one_of, a_list, an_optional, an_object, a_choice, Fields, no_fields, field, keys_of, Known, grammar}, specs.declared.found.Found.{Found}, specs.declared.found.PointerStep.{PointerStep}, specs.declared.found.PointerStep.TheVariants.{Key, Index}, specs.declared.shape.Named.{Named}, specs.declared.shape.Named.TheVariants.{Buses, Nodes}, specs.declared.shape.Rule.{Rule}, specs.declared.shape.Word.{Word}}
 use Rattle.net_plan.specs.declared.shape.Rule.TheVariants as rule
-use Rattle.net_plan.specs.declared.shape.Word.{Word}
 use Rattle.net_plan.specs.declared.shape.Word.TheVariants as word
 
 -- the fault for which something was not read

@@ -1,21 +1,9 @@
 -- Which values are of a grammar, in the words of the relations that say what a value stands for.
-use Rattle.std.specs.Prelude.{ℕ, ◌≡◌, ◌≤◌, ◌⊎◌, List, Bool, true, false, Option, Some, None, Ok, Contains}
-use Rattle.std.specs.Str.{bytes_eq}
-use Rattle.serde_json.specs.Data.{Data, null, string, array, Items, no_items, item}
-use Rattle.serde_json.specs.Find.{get}
-use Rattle.net_plan.specs.Json.{items_count}
-use Rattle.net_plan.specs.JsonWords.{HasKeys, IsNumberWithin, IsTruth, IsName, IsHex, IsAddress}
-use Rattle.net_plan.specs.Names.{text_of}
-use Rattle.net_plan.specs.PlanText.{IsKindOf}
+use Rattle.std.{specs.Prelude.{ℕ, ◌≡◌, ◌≤◌, ◌⊎◌, List, Bool, true, false, Option, Some, None, Ok, Contains}, specs.Str.{bytes_eq}}
+use Rattle.serde_json.{specs.Data.{Data, null, string, array, Items, no_items, item}, specs.Find.{get}}
+use Rattle.net_plan.{specs.Json.{items_count}, specs.JsonWords.{HasKeys, IsNumberWithin, IsTruth, IsName, IsHex, IsAddress}, specs.Names.{text_of}, specs.PlanText.{IsKindOf}, specs.Finding.{names_of, range_end}, specs.Grammar.{Grammar, plain, one_of, a_list, an_optional, an_object, a_choice, Fields, no_fields, field, keys_of, Known}, specs.declared.shape.Named.{Named}, specs.declared.shape.Rule.{Rule}, specs.declared.shape.Word.{Word}}
 use Rattle.plan_values.specs.declared.nodes.Kind.{Kind}
-use Rattle.net_plan.specs.Finding.{names_of, range_end}
-use Rattle.net_plan.specs.Grammar.{Grammar, plain, one_of, a_list, an_optional, an_object, a_choice}
-use Rattle.net_plan.specs.Grammar.{Fields, no_fields, field, keys_of}
-use Rattle.net_plan.specs.Grammar.{Known}
-use Rattle.net_plan.specs.declared.shape.Named.{Named}
-use Rattle.net_plan.specs.declared.shape.Rule.{Rule}
 use Rattle.net_plan.specs.declared.shape.Rule.TheVariants as rule
-use Rattle.net_plan.specs.declared.shape.Word.{Word}
 use Rattle.net_plan.specs.declared.shape.Word.TheVariants as word
 
 -- the name is one of those that are known, where some are

@@ -1,16 +1,9 @@
 -- What is gathered of an object's members, one after another.
 use Rattle.std.specs.Prelude.{ℕ, ◌≡◌, List, [], ◌∷◌, map, true, Option, Some, None, IsSome}
+use Rattle.json.{specs.Json.{Json, array, Items, no_items, item, Members, no_members, member, value}, specs.Lex.{tokens}, specs.Token.{Token}, specs.Strict.{keys}}
+use Rattle.serde_json.{specs.Data.{Data}, specs.Read.{max_depth}}
+use Rattle.net_plan.{specs.Json.{is_among}, specs.Names.{names_differ}, specs.SingleKeys.{single, members_single}, specs.Trees.{data_of, fits, members_fit}}
 use Rattle.json.specs.Find as find
-use Rattle.json.specs.Json.{Json, array, Items, no_items, item, Members, no_members, member, value}
-use Rattle.json.specs.Lex.{tokens}
-use Rattle.json.specs.Token.{Token}
-use Rattle.json.specs.Strict.{keys}
-use Rattle.serde_json.specs.Data.{Data}
-use Rattle.serde_json.specs.Read.{max_depth}
-use Rattle.net_plan.specs.Json.{is_among}
-use Rattle.net_plan.specs.Names.{names_differ}
-use Rattle.net_plan.specs.SingleKeys.{single, members_single}
-use Rattle.net_plan.specs.Trees.{data_of, fits, members_fit}
 
 -- the members, and one more after them
 abbrev pub with_last : Members → List ℕ → Json → Members

@@ -1,12 +1,6 @@
 -- What may stand where in a text.
-use Rattle.std.specs.Prelude.{ℕ, List, [], ◌∷◌, map, Option, option_map}
-use Rattle.std.specs.Borrow.{Bor}
-use Rattle.net_plan.specs.declared.shape.KnownNames.{KnownNames}
-use Rattle.net_plan.specs.declared.shape.Rule.{Rule}
-use Rattle.net_plan.specs.declared.shape.Word.{Word}
-use Rattle.net_plan.specs.declared.shape.Shape.{Shape, fold-Shape}
-use Rattle.net_plan.specs.declared.shape.Shape.TheOpen.{Shape-F}
-use Rattle.net_plan.specs.declared.shape.Field.{Field, Field-F, fold-Field}
+use Rattle.std.{specs.Prelude.{ℕ, List, [], ◌∷◌, map, Option, option_map}, specs.Borrow.{Bor}}
+use Rattle.net_plan.{specs.declared.shape.KnownNames.{KnownNames}, specs.declared.shape.Rule.{Rule}, specs.declared.shape.Word.{Word}, specs.declared.shape.Shape.{Shape, fold-Shape}, specs.declared.shape.Shape.TheOpen.{Shape-F}, specs.declared.shape.Field.{Field, Field-F, fold-Field}}
 
 mutual
   -- what may stand at one place of a text

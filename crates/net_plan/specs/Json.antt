@@ -1,20 +1,9 @@
 -- What a JSON value says, by functions: the value that it stands for, or its first fault in the order of tests.
-use Rattle.std.specs.Prelude.{ℕ, suc, ⊤, codes, is_some, ◌&&◌, ◌||◌, List, length, Bool, true}
-use Rattle.std.specs.Prelude.{false, not, nat_le, if◌then◌else◌, Option, Some, None, Result, Ok, Err}
-use Rattle.std.specs.List.{list_any}
-use Rattle.std.specs.Str.{bytes_eq}
-use Rattle.hex.specs.Hex.{decode_of}
-use Rattle.hex.specs.declared.error.FromHexError.{FromHexError}
-use Rattle.serde_json.specs.Data.{Data, boolean, number, string, object}
-use Rattle.serde_json.specs.Data.{Items, no_items, item, Members, no_members, member}
-use Rattle.serde_json.specs.Find.{get, get_member, as_u64}
-use Rattle.plan_values.specs.NameText.{is_name}
-use Rattle.net_plan.specs.Reading.{then_with}
-use Rattle.net_plan.specs.declared.error.ValueFault.{ValueFault}
-use Rattle.net_plan.specs.declared.error.ValueFault.TheVariants.{WrongKind, MissingKey, UnknownKey}
-use Rattle.net_plan.specs.declared.error.ValueFault.TheVariants.{OutOfRange, BadHex, OverLimit}
-use Rattle.plan_values.specs.declared.nodes.Kind.{Kind}
-use Rattle.plan_values.specs.declared.nodes.Kind.TheVariants.{Bridge, Endpoint}
+use Rattle.std.{specs.Prelude.{ℕ, suc, ⊤, codes, is_some, ◌&&◌, ◌||◌, List, length, Bool, true, false, not, nat_le, if◌then◌else◌, Option, Some, None, Result, Ok, Err}, specs.List.{list_any}, specs.Str.{bytes_eq}}
+use Rattle.hex.{specs.Hex.{decode_of}, specs.declared.error.FromHexError.{FromHexError}}
+use Rattle.serde_json.{specs.Data.{Data, boolean, number, string, object, Items, no_items, item, Members, no_members, member}, specs.Find.{get, get_member, as_u64}}
+use Rattle.plan_values.{specs.NameText.{is_name}, specs.declared.nodes.Kind.{Kind}, specs.declared.nodes.Kind.TheVariants.{Bridge, Endpoint}}
+use Rattle.net_plan.{specs.Reading.{then_with}, specs.declared.error.ValueFault.{ValueFault}, specs.declared.error.ValueFault.TheVariants.{WrongKind, MissingKey, UnknownKey, OutOfRange, BadHex, OverLimit}}
 
 abbrev pub items_count : Items → ℕ
 items_count no_items = 0

@@ -1,10 +1,7 @@
 -- Sentences over JSON values.
-use Rattle.std.specs.Prelude.{ℕ, ◌≡◌, ◌≢◌, ◌↔◌, ◌<◌, ◌≤◌, Bool, List, [], ◌∷◌, length}
-use Rattle.std.specs.Prelude.{slice_get, Option, Some, None, Ok, IsSome, IsTrue, Contains}
+use Rattle.std.specs.Prelude.{ℕ, ◌≡◌, ◌≢◌, ◌↔◌, ◌<◌, ◌≤◌, Bool, List, [], ◌∷◌, length, slice_get, Option, Some, None, Ok, IsSome, IsTrue, Contains}
 use Rattle.hex.specs.Hex.{decode_of}
-use Rattle.serde_json.specs.Data.{Data, null, boolean, number, unsigned, string}
-use Rattle.serde_json.specs.Data.{array, object, Items, no_items, item, Members}
-use Rattle.serde_json.specs.Find.{get, get_member}
+use Rattle.serde_json.{specs.Data.{Data, null, boolean, number, unsigned, string, array, object, Items, no_items, item, Members}, specs.Find.{get, get_member}}
 use Rattle.plan_values.specs.NameText.{is_name}
 
 -- an object that has exactly these keys

@@ -1,7 +1,6 @@
 -- The keys of each object.
 use Rattle.std.specs.Prelude.{ℕ, List, [], ◌∷◌, codes}
-use Rattle.net_plan.specs.declared.plan_format.PlanFormat.{PlanFormat}
-use Rattle.net_plan.specs.declared.plan_format.PlanFormat.TheVariants.{One, Two}
+use Rattle.net_plan.{specs.declared.plan_format.PlanFormat.{PlanFormat}, specs.declared.plan_format.PlanFormat.TheVariants.{One, Two}}
 
 -- a plan of format 2 says its transmission unit
 abbrev pub plan_keys : PlanFormat → List (List ℕ)

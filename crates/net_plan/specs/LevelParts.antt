@@ -1,12 +1,8 @@
 -- What is gathered of a level, a key after another.
 use Rattle.std.specs.Prelude.{ℕ, codes, List, [], ◌∷◌, Option}
 use Rattle.serde_json.specs.Data.{Data}
-use Rattle.net_plan.specs.CertificateText.{IsLevelOf}
+use Rattle.net_plan.{specs.CertificateText.{IsLevelOf}, specs.Gathered.{Slot, slot}, specs.JsonWords.{IsName, IsNumberWithin}, specs.NameIndexes.{IsIndexOf}, specs.declared.level_parts.LevelParts.{LevelParts}}
 use Rattle.plan_values.specs.CertificateValues.{LevelValue}
-use Rattle.net_plan.specs.Gathered.{Slot, slot}
-use Rattle.net_plan.specs.JsonWords.{IsName, IsNumberWithin}
-use Rattle.net_plan.specs.NameIndexes.{IsIndexOf}
-use Rattle.net_plan.specs.declared.level_parts.LevelParts.{LevelParts}
 
 abbrev pub level_slots : LevelParts → List Slot
 level_slots p =

@@ -1,20 +1,8 @@
 -- What is made of a value that is one of the grammar. Of any other value something is made too, which nobody reads.
-use Rattle.std.specs.Prelude.{ℕ, ◌+◌, ◌==◌, List, [], ◌∷◌, codes, Bool, false, nat_le, if◌then◌else◌}
-use Rattle.std.specs.Prelude.{Option, Some, None, Result, Ok, Err}
-use Rattle.std.specs.Str.{bytes_eq}
-use Rattle.serde_json.specs.Data.{Data, null, array, Items, no_items, item}
-use Rattle.serde_json.specs.Find.{get}
-use Rattle.plan_values.specs.CertificateValues.{LevelValue, PlacesValue, RangeValue, NodeRanksValue, CertificateValue}
-use Rattle.plan_values.specs.PlanValues.{BusValue, PortValue, RowValue, PoolValue, RecordValue}
-use Rattle.plan_values.specs.PlanValues.{TerminusValue, NodeValue, PlanValue, bus_names}
-use Rattle.plan_values.specs.declared.nodes.Kind.{Kind}
-use Rattle.plan_values.specs.declared.nodes.Kind.TheVariants.{Endpoint}
-use Rattle.plan_values.specs.EventValues.{EventEntry, put, move, lose, expire, answer, switch, walk, ask, collected}
-use Rattle.net_plan.specs.Json.{items_count, whole_number, truth, name_text, hex_text, address_text, kind_text}
-use Rattle.net_plan.specs.Names.{index_among, text_of, text_at, names_at}
-use Rattle.net_plan.specs.declared.error.ValueFault.{ValueFault}
-use Rattle.net_plan.specs.declared.plan_format.PlanFormat.{PlanFormat}
-use Rattle.net_plan.specs.declared.plan_format.PlanFormat.TheVariants.{One, Two}
+use Rattle.std.{specs.Prelude.{ℕ, ◌+◌, ◌==◌, List, [], ◌∷◌, codes, Bool, false, nat_le, if◌then◌else◌, Option, Some, None, Result, Ok, Err}, specs.Str.{bytes_eq}}
+use Rattle.serde_json.{specs.Data.{Data, null, array, Items, no_items, item}, specs.Find.{get}}
+use Rattle.plan_values.{specs.CertificateValues.{LevelValue, PlacesValue, RangeValue, NodeRanksValue, CertificateValue}, specs.PlanValues.{BusValue, PortValue, RowValue, PoolValue, RecordValue, TerminusValue, NodeValue, PlanValue, bus_names}, specs.declared.nodes.Kind.{Kind}, specs.declared.nodes.Kind.TheVariants.{Endpoint}, specs.EventValues.{EventEntry, put, move, lose, expire, answer, switch, walk, ask, collected}}
+use Rattle.net_plan.{specs.Json.{items_count, whole_number, truth, name_text, hex_text, address_text, kind_text}, specs.Names.{index_among, text_of, text_at, names_at}, specs.declared.error.ValueFault.{ValueFault}, specs.declared.plan_format.PlanFormat.{PlanFormat}, specs.declared.plan_format.PlanFormat.TheVariants.{One, Two}, specs.Limits.{most_events}}
 
 -- ---- of a value
 
@@ -236,4 +224,4 @@ abbrev pub event_made : (List ℕ → ℕ) → Data → EventEntry
 event_made find d = event_by (text_at (codes "do") d) find d
 
 abbrev pub events_made : (List ℕ → ℕ) → Data → List EventEntry
-events_made find d = within_at (codes "events") 100000 (event_made find) d
+events_made find d = within_at (codes "events") most_events (event_made find) d

@@ -1,10 +1,6 @@
 -- What finds the index of a name.
-use Rattle.std.specs.Prelude.{ℕ, ◌≡◌, List, Option, unwrap_or}
-use Rattle.std.specs.BTreeMap.{get_by}
-use Rattle.std.specs.Cmp.Lexicographic.{slice_cmp}
-use Rattle.std.specs.Ordering.{nat_cmp}
-use Rattle.net_plan.specs.Names.{index_of}
-use Rattle.net_plan.specs.declared.name_index.NameIndex.{NameIndex}
+use Rattle.std.{specs.Prelude.{ℕ, ◌≡◌, List, Option, unwrap_or}, specs.BTreeMap.{get_by}, specs.Cmp.Lexicographic.{slice_cmp}, specs.Ordering.{nat_cmp}}
+use Rattle.net_plan.{specs.Names.{index_of}, specs.declared.name_index.NameIndex.{NameIndex}}
 
 -- the index that was noted for a name
 abbrev pub noted : NameIndex → List ℕ → Option ℕ

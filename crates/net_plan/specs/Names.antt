@@ -1,9 +1,6 @@
 -- Names in lists of JSON values, and their indices.
-use Rattle.std.specs.Prelude.{ℕ, suc, codes, ◌&&◌, List, [], ◌∷◌, ◌++◌, Bool, true, not}
-use Rattle.std.specs.Prelude.{if◌then◌else◌, Option, Some, None, option_map}
-use Rattle.std.specs.Str.{bytes_eq}
-use Rattle.serde_json.specs.Data.{Data, string, array, Items, no_items, item}
-use Rattle.serde_json.specs.Find.{get}
+use Rattle.std.{specs.Prelude.{ℕ, suc, codes, ◌&&◌, List, [], ◌∷◌, ◌++◌, Bool, true, not, if◌then◌else◌, Option, Some, None, option_map}, specs.Str.{bytes_eq}}
+use Rattle.serde_json.{specs.Data.{Data, string, array, Items, no_items, item}, specs.Find.{get}}
 use Rattle.net_plan.specs.Json.{is_among}
 
 -- the index of the first such name, or the length of the list where there is none

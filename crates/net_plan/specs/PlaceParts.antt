@@ -1,12 +1,8 @@
 -- What is gathered of the places of records, a key after another.
 use Rattle.std.specs.Prelude.{ℕ, codes, List, [], ◌∷◌, map, Option}
 use Rattle.serde_json.specs.Data.{Data}
-use Rattle.net_plan.specs.CertificateText.{ArePlacesOf}
+use Rattle.net_plan.{specs.CertificateText.{ArePlacesOf}, specs.Gathered.{Slot, slot}, specs.JsonWords.{IsName, IsNumberWithin, IsListOf}, specs.NameIndexes.{IsIndexOf}, specs.declared.place_parts.PlacesParts.{PlacesParts}}
 use Rattle.plan_values.specs.CertificateValues.{PlacesValue}
-use Rattle.net_plan.specs.Gathered.{Slot, slot}
-use Rattle.net_plan.specs.JsonWords.{IsName, IsNumberWithin, IsListOf}
-use Rattle.net_plan.specs.NameIndexes.{IsIndexOf}
-use Rattle.net_plan.specs.declared.place_parts.PlacesParts.{PlacesParts}
 
 abbrev pub places_slots : PlacesParts → List Slot
 places_slots p =

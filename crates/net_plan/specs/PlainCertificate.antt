@@ -1,16 +1,8 @@
 -- What is gathered of a certificate, a key after another.
 use Rattle.std.specs.Prelude.{ℕ, codes, List, [], ◌∷◌, map, Option}
 use Rattle.serde_json.specs.Data.{Data}
-use Rattle.net_plan.specs.CertificateText.{IsCertificateOf}
-use Rattle.plan_values.specs.CertificateValues.{CertificateValue, level_value, places_value, node_ranks_value}
-use Rattle.net_plan.specs.Gathered.{Slot, slot}
-use Rattle.net_plan.specs.JsonWords.{IsNumberWithin, IsListOf}
-use Rattle.net_plan.specs.LevelParts.{IsLevelBy}
-use Rattle.net_plan.specs.PlaceParts.{ArePlacesBy}
-use Rattle.net_plan.specs.NameIndexes.{noted, IsIndexOf}
-use Rattle.plan_values.specs.PlanValues.{PlanValue, node_names}
-use Rattle.net_plan.specs.RankParts.{AreRanksBy}
-use Rattle.net_plan.specs.declared.plain_certificate.CertificateParts.{CertificateParts}
+use Rattle.net_plan.{specs.CertificateText.{IsCertificateOf}, specs.Gathered.{Slot, slot}, specs.JsonWords.{IsNumberWithin, IsListOf}, specs.LevelParts.{IsLevelBy}, specs.PlaceParts.{ArePlacesBy}, specs.NameIndexes.{noted, IsIndexOf}, specs.RankParts.{AreRanksBy}, specs.declared.plain_certificate.CertificateParts.{CertificateParts}}
+use Rattle.plan_values.{specs.CertificateValues.{CertificateValue, level_value, places_value, node_ranks_value}, specs.PlanValues.{PlanValue, node_names}}
 
 abbrev pub certificate_slots : CertificateParts → List Slot
 certificate_slots p =

@@ -1,22 +1,14 @@
 -- What is gathered of a list of events, and what its text stands for.
 use Rattle.std.specs.Prelude.{ℕ, Bool, true, codes, List, [], ◌∷◌, map, Option}
 use Rattle.serde_json.specs.Data.{Data}
-use Rattle.net_plan.specs.EventParts.{IsEventBy}
-use Rattle.net_plan.specs.EventReading.{has_switches, has_walks}
-use Rattle.net_plan.specs.EventText.{IsFormat, AreEventsOf}
-use Rattle.plan_values.specs.EventValues.{EventEntry, put, move, lose, expire, answer}
-use Rattle.plan_values.specs.EventValues.{switch, walk, ask, collected, event_entry}
-use Rattle.net_plan.specs.Gathered.{Slot, slot}
-use Rattle.net_plan.specs.JsonWords.{IsShortListOf}
-use Rattle.net_plan.specs.NameIndexes.{noted, IsIndexOf}
-use Rattle.plan_values.specs.PlanValues.{PlanValue, node_names}
-use Rattle.net_plan.specs.declared.event_format.Format.{Format}
-use Rattle.net_plan.specs.declared.plain_events.EventsParts.{EventsParts}
+use Rattle.net_plan.{specs.EventParts.{IsEventBy}, specs.EventReading.{has_switches, has_walks}, specs.EventText.{IsFormat, AreEventsOf}, specs.Gathered.{Slot, slot}, specs.JsonWords.{IsShortListOf}, specs.NameIndexes.{noted, IsIndexOf}, specs.declared.event_format.Format.{Format}, specs.declared.plain_events.EventsParts.{EventsParts}, specs.Limits.{most_events}}
+use Rattle.plan_values.{specs.EventValues.{EventEntry, put, move, lose, expire, answer, switch, walk, ask, collected, event_entry}, specs.PlanValues.{PlanValue, node_names}}
 
 abbrev pub events_slots : EventsParts → List Slot
 events_slots p =
     slot (codes "format") IsFormat p.format
-    ∷ slot (codes "events") (λ d v. IsShortListOf 100000 (IsEventBy (noted p.nodes.now)) d (map event_entry v.items))
+    ∷ slot (codes "events")
+    (λ d v. IsShortListOf most_events (IsEventBy (noted p.nodes.now)) d (map event_entry v.items))
     p.events
     ∷ []
 

@@ -1,18 +1,8 @@
 -- The plan that a JSON value stands for, or its first fault in the order of tests, by functions.
 use Rattle.std.specs.Prelude.{codes, length, None, if◌then◌else◌, is_ok, Result, Ok}
 use Rattle.serde_json.specs.Data.{Data}
-use Rattle.net_plan.specs.Finding.{first_fault, refused}
-use Rattle.net_plan.specs.Json.{at_key, demand, whole_number}
-use Rattle.net_plan.specs.Made.{plan_made}
-use Rattle.net_plan.specs.Names.{names_differ}
-use Rattle.plan_values.specs.Placed.{are_placed}
-use Rattle.plan_values.specs.PlanValues.{PlanValue, bus_names}
-use Rattle.net_plan.specs.Reading.{then_with}
-use Rattle.net_plan.specs.Tables.{a_plan}
-use Rattle.net_plan.specs.declared.error.ValueFault.{ValueFault}
-use Rattle.net_plan.specs.declared.error.ValueFault.TheVariants.{UnknownName, Doubled}
-use Rattle.net_plan.specs.declared.plan_format.PlanFormat.{PlanFormat}
-use Rattle.net_plan.specs.declared.plan_format.PlanFormat.TheVariants.{One, Two}
+use Rattle.net_plan.{specs.Finding.{first_fault, refused}, specs.Json.{at_key, demand, whole_number}, specs.Made.{plan_made}, specs.Names.{names_differ}, specs.Reading.{then_with}, specs.Tables.{a_plan}, specs.declared.error.ValueFault.{ValueFault}, specs.declared.error.ValueFault.TheVariants.{UnknownName, Doubled}, specs.declared.plan_format.PlanFormat.{PlanFormat}, specs.declared.plan_format.PlanFormat.TheVariants.{One, Two}}
+use Rattle.plan_values.{specs.Placed.{are_placed}, specs.PlanValues.{PlanValue, bus_names}}
 
 -- the format by whose tests a plan is read: 2 where it says so, else 1
 abbrev pub plan_format : Data → PlanFormat

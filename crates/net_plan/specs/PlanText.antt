@@ -1,16 +1,8 @@
 -- Which plan a JSON value is.
 use Rattle.std.specs.Prelude.{ℕ, ◌≡◌, ◌≢◌, codes, List, AllPairs}
 use Rattle.serde_json.specs.Data.{Data}
-use Rattle.net_plan.specs.JsonWords.{HasKeys, At, IsShortListOf, IsOptional, IsNumber}
-use Rattle.net_plan.specs.JsonWords.{IsNumberWithin, IsName, IsText, IsHex, IsAddress, IsIndexOfName}
-use Rattle.net_plan.specs.Keys.{plan_keys, bus_keys, port_keys, row_keys}
-use Rattle.net_plan.specs.Keys.{pool_keys, record_keys, terminus_keys, node_keys}
-use Rattle.plan_values.specs.PlanValues.{BusValue, PortValue, RowValue, PoolValue, RecordValue}
-use Rattle.plan_values.specs.PlanValues.{TerminusValue, NodeValue, PlanValue, bus_names, node_names}
-use Rattle.plan_values.specs.declared.nodes.Kind.{Kind}
-use Rattle.plan_values.specs.declared.nodes.Kind.TheVariants.{Bridge, Endpoint}
-use Rattle.net_plan.specs.declared.plan_format.PlanFormat.{PlanFormat}
-use Rattle.net_plan.specs.declared.plan_format.PlanFormat.TheVariants.{One, Two}
+use Rattle.net_plan.{specs.JsonWords.{HasKeys, At, IsShortListOf, IsOptional, IsNumber, IsNumberWithin, IsName, IsText, IsHex, IsAddress, IsIndexOfName}, specs.Keys.{plan_keys, bus_keys, port_keys, row_keys, pool_keys, record_keys, terminus_keys, node_keys}, specs.declared.plan_format.PlanFormat.{PlanFormat}, specs.declared.plan_format.PlanFormat.TheVariants.{One, Two}}
+use Rattle.plan_values.{specs.PlanValues.{BusValue, PortValue, RowValue, PoolValue, RecordValue, TerminusValue, NodeValue, PlanValue, bus_names, node_names}, specs.declared.nodes.Kind.{Kind}, specs.declared.nodes.Kind.TheVariants.{Bridge, Endpoint}}
 
 abbrev pub IsByte : Data → ℕ → Type 0
 IsByte d n = IsNumberWithin 0 255 d n

@@ -1,14 +1,8 @@
 -- What is gathered of ranks, a key after another.
 use Rattle.std.specs.Prelude.{ℕ, codes, List, [], ◌∷◌, map, Option}
 use Rattle.serde_json.specs.Data.{Data}
-use Rattle.net_plan.specs.CertificateText.{IsRangeOf, AreRanksOf}
+use Rattle.net_plan.{specs.CertificateText.{IsRangeOf, AreRanksOf}, specs.Gathered.{Slot, slot}, specs.JsonWords.{IsName, IsNumberWithin, IsListOf}, specs.NameIndexes.{IsIndexOf}, specs.PlanText.{IsByte}, specs.declared.rank_parts.RangeParts.{RangeParts}, specs.declared.rank_parts.RanksParts.{RanksParts}}
 use Rattle.plan_values.specs.CertificateValues.{NodeRanksValue, range_value}
-use Rattle.net_plan.specs.Gathered.{Slot, slot}
-use Rattle.net_plan.specs.JsonWords.{IsName, IsNumberWithin, IsListOf}
-use Rattle.net_plan.specs.NameIndexes.{IsIndexOf}
-use Rattle.net_plan.specs.PlanText.{IsByte}
-use Rattle.net_plan.specs.declared.rank_parts.RangeParts.{RangeParts}
-use Rattle.net_plan.specs.declared.rank_parts.RanksParts.{RanksParts}
 
 abbrev pub range_slots : RangeParts → List Slot
 range_slots p =

@@ -1,9 +1,6 @@
 -- What the reader of one JSON value answers.
 use Rattle.std.specs.Prelude.{◌≡◌, ◌≢◌, Result, Ok, Err, MatchResult}
-use Rattle.net_plan.specs.declared.error.ValueFault.{ValueFault}
-use Rattle.net_plan.specs.declared.error.ValueFault.TheVariants.{WrongKind, MissingKey, UnknownKey, OutOfRange}
-use Rattle.net_plan.specs.declared.error.ValueFault.TheVariants.{UnknownName, BadHex, OverLimit, Doubled, OutOfMemory}
-use Rattle.net_plan.specs.declared.error.PlanError.{PlanError}
+use Rattle.net_plan.{specs.declared.error.ValueFault.{ValueFault}, specs.declared.error.ValueFault.TheVariants.{WrongKind, MissingKey, UnknownKey, OutOfRange, UnknownName, BadHex, OverLimit, Doubled, OutOfMemory}, specs.declared.error.PlanError.{PlanError}}
 use Rattle.net_plan.specs.declared.error.PlanError.TheVariants as errors
 
 -- what the user is told

@@ -1,17 +1,9 @@
 -- Why a text gives no value, by the error.
 use Rattle.std.specs.Prelude.{◌≡◌, ℕ, ◌<◌, ◌⊎◌, List, length, Option, Result, Err, ⊤}
-use Rattle.json.specs.Json.{Json}
-use Rattle.json.specs.Strict.{HasUniqueKeys}
+use Rattle.json.{specs.Json.{Json}, specs.Strict.{HasUniqueKeys}}
 use Rattle.serde_json.specs.Data.{Data}
-use Rattle.net_plan.specs.Stream.{TakesMoreThan}
-use Rattle.net_plan.specs.Texts.{IsJson, IsNoJson, HasSingleKeys, HasDoubledKey, Gave}
-use Rattle.net_plan.specs.Trees.{data_of}
-use Rattle.net_plan.specs.declared.error.ValueFault.{ValueFault}
+use Rattle.net_plan.{specs.Stream.{TakesMoreThan}, specs.Texts.{IsJson, IsNoJson, HasSingleKeys, HasDoubledKey, Gave}, specs.Trees.{data_of}, specs.declared.error.ValueFault.{ValueFault}, specs.declared.error.PlanError.{PlanError}, specs.declared.error.PlanError.TheVariants.{NotJson, WrongKind, MissingKey, UnknownKey, OutOfRange, UnknownName, BadHex, OverLimit, Doubled, Device, OutOfMemory}, specs.Limits.{most_text_bytes}}
 use Rattle.net_plan.specs.declared.error.ValueFault.TheVariants as fault
-use Rattle.net_plan.specs.declared.error.PlanError.{PlanError}
-use Rattle.net_plan.specs.declared.error.PlanError.TheVariants.{NotJson, WrongKind, MissingKey, UnknownKey}
-use Rattle.net_plan.specs.declared.error.PlanError.TheVariants.{OutOfRange, UnknownName, BadHex, OverLimit}
-use Rattle.net_plan.specs.declared.error.PlanError.TheVariants.{Doubled, Device, OutOfMemory}
 
 -- the value is R to nothing, and its first fault in the order of tests is this one
 abbrev pub IsFaultyValue : {A : Type 0} → (Data → Result A ValueFault) → (Data → A → Type 0) → ValueFault → Data
@@ -33,7 +25,7 @@ IsDoubled said text = (d : Data) × IsJson text d × HasDoubledKey text × IsWel
 -- why bytes are no JSON value
 abbrev pub IsNoValue : List ℕ → PlanError → Type 0
 IsNoValue text NotJson = IsNoJson text
-IsNoValue text OverLimit = 16777216 < length text
+IsNoValue text OverLimit = most_text_bytes < length text
 IsNoValue text OutOfMemory = ⊤
 IsNoValue text _ = ⊥
 
@@ -61,15 +53,15 @@ IsRefused said R text UnknownKey = IsFaulty said R fault.UnknownKey text
 IsRefused said R text OutOfRange = IsFaulty said R fault.OutOfRange text
 IsRefused said R text UnknownName = IsFaulty said R fault.UnknownName text × HasSingleKeys text
 IsRefused said R text BadHex = IsFaulty said R fault.BadHex text
-IsRefused said R text OverLimit = (16777216 < length text) ⊎ IsFaulty said R fault.OverLimit text
+IsRefused said R text OverLimit = (most_text_bytes < length text) ⊎ IsFaulty said R fault.OverLimit text
 IsRefused said R text Doubled = IsFaulty said R fault.Doubled text ⊎ IsDoubled said text
 IsRefused said R text Device = ⊥
 IsRefused said R text OutOfMemory = ⊤
 
 -- why what a source gave is no JSON value; whether the source failed is told by its count
 abbrev pub GaveNoValue : Option (List ℕ) → Option (List ℕ) → PlanError → Type 0
-GaveNoValue old new NotJson = Gave 16777216 old new IsNoJson
-GaveNoValue old new OverLimit = TakesMoreThan 16777216 old new
+GaveNoValue old new NotJson = Gave most_text_bytes old new IsNoJson
+GaveNoValue old new OverLimit = TakesMoreThan most_text_bytes old new
 GaveNoValue old new Device = ⊤
 GaveNoValue old new OutOfMemory = ⊤
 GaveNoValue old new _ = ⊥
@@ -78,7 +70,7 @@ GaveNoValue old new _ = ⊥
 abbrev pub GaveNone : {A : Type 0} → (Data → Result A ValueFault) → (Data → A → Type 0) → Option (List ℕ)
     → Option (List ℕ) → PlanError → Type 0
 GaveNone said R old new OverLimit =
-    TakesMoreThan 16777216 old new ⊎ Gave 16777216 old new (IsFaulty said R fault.OverLimit)
+    TakesMoreThan most_text_bytes old new ⊎ Gave most_text_bytes old new (IsFaulty said R fault.OverLimit)
 GaveNone said R old new Device = ⊤
 GaveNone said R old new OutOfMemory = ⊤
-GaveNone said R old new e = Gave 16777216 old new (λ text. IsRefused said R text e)
+GaveNone said R old new e = Gave most_text_bytes old new (λ text. IsRefused said R text e)

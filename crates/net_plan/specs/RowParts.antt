@@ -1,12 +1,7 @@
 -- What is gathered of a row, a key after another.
 use Rattle.std.specs.Prelude.{ℕ, codes, List, [], ◌∷◌}
 use Rattle.serde_json.specs.Data.{Data}
-use Rattle.net_plan.specs.Gathered.{Slot, slot}
-use Rattle.net_plan.specs.JsonWords.{HasKeys, At, IsString, IsNumberWithin}
-use Rattle.net_plan.specs.Keys.{row_keys}
-use Rattle.net_plan.specs.PlanText.{IsByte}
-use Rattle.net_plan.specs.declared.row_parts.NamedRow.{NamedRow}
-use Rattle.net_plan.specs.declared.row_parts.RowParts.{RowParts}
+use Rattle.net_plan.{specs.Gathered.{Slot, slot}, specs.JsonWords.{HasKeys, At, IsString, IsNumberWithin}, specs.Keys.{row_keys}, specs.PlanText.{IsByte}, specs.declared.row_parts.NamedRow.{NamedRow}, specs.declared.row_parts.RowParts.{RowParts}}
 
 abbrev pub row_slots : RowParts → List Slot
 row_slots p =

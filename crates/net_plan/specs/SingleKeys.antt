@@ -1,12 +1,7 @@
 -- Keys that stand once in their object, by functions.
 use Rattle.std.specs.Prelude.{Bool, true, false, ◌&&◌, Result, Ok, Err}
-use Rattle.json.specs.Json.{Json, null, boolean, number, string, array, object}
-use Rattle.json.specs.Json.{Items, no_items, item, Members, no_members, member}
-use Rattle.json.specs.Strict.{keys}
-use Rattle.net_plan.specs.Names.{names_differ}
-use Rattle.net_plan.specs.declared.error.ValueFault.{ValueFault}
-use Rattle.net_plan.specs.declared.error.ValueFault.TheVariants.{WrongKind, MissingKey, UnknownKey, OutOfRange}
-use Rattle.net_plan.specs.declared.error.ValueFault.TheVariants.{UnknownName, BadHex, OverLimit, Doubled, OutOfMemory}
+use Rattle.json.{specs.Json.{Json, null, boolean, number, string, array, object, Items, no_items, item, Members, no_members, member}, specs.Strict.{keys}}
+use Rattle.net_plan.{specs.Names.{names_differ}, specs.declared.error.ValueFault.{ValueFault}, specs.declared.error.ValueFault.TheVariants.{WrongKind, MissingKey, UnknownKey, OutOfRange, UnknownName, BadHex, OverLimit, Doubled, OutOfMemory}}
 
 -- no object, however deep, has a key twice
 abbrev mutual

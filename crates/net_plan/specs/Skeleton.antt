@@ -1,21 +1,9 @@
 -- The value of a plan without its rows and its termini, and these beside it.
 use Rattle.std.specs.Prelude.{ℕ, ◌≡◌, ◌≢◌, ◌⊎◌, codes, List, [], ◌∷◌, map, true, Option, Some, None, option_map}
-use Rattle.json.specs.Json.{Json, null, array, no_items, object, Members, no_members, member, value}
-use Rattle.json.specs.Lex.{tokens}
-use Rattle.json.specs.Value.{value_view, items_view, members_view}
+use Rattle.json.{specs.Json.{Json, null, array, no_items, object, Members, no_members, member, value}, specs.Lex.{tokens}, specs.Value.{value_view, items_view, members_view}}
 use Rattle.serde_json.specs.Read.{max_depth}
-use Rattle.net_plan.specs.Gathered.{IsPlain, IsArrayOf}
-use Rattle.net_plan.specs.JsonWords.{IsShortListOf, IsOptional}
+use Rattle.net_plan.{specs.Gathered.{IsPlain, IsArrayOf}, specs.JsonWords.{IsShortListOf, IsOptional}, specs.PlanText.{IsTerminusOf}, specs.RowParts.{NamedRowValue, IsNamedRowOf, named_row}, specs.Trees.{data_of, fits}, specs.declared.skeleton.CutParts.{CutParts}, specs.declared.skeleton.NodeParts.{NodeParts}, specs.declared.skeleton.NodeSkeleton.{NodeSkeleton}, specs.declared.skeleton.PlacedParts.{PlacedParts}, specs.declared.skeleton.PlanParts.{PlanParts}, specs.declared.skeleton.PlanSkeleton.{PlanSkeleton}}
 use Rattle.plan_values.specs.NodeValues.{NodeValue, RowValue, TerminusValue, row_value, terminus_value}
-use Rattle.net_plan.specs.PlanText.{IsTerminusOf}
-use Rattle.net_plan.specs.RowParts.{NamedRowValue, IsNamedRowOf, named_row}
-use Rattle.net_plan.specs.Trees.{data_of, fits}
-use Rattle.net_plan.specs.declared.skeleton.CutParts.{CutParts}
-use Rattle.net_plan.specs.declared.skeleton.NodeParts.{NodeParts}
-use Rattle.net_plan.specs.declared.skeleton.NodeSkeleton.{NodeSkeleton}
-use Rattle.net_plan.specs.declared.skeleton.PlacedParts.{PlacedParts}
-use Rattle.net_plan.specs.declared.skeleton.PlanParts.{PlanParts}
-use Rattle.net_plan.specs.declared.skeleton.PlanSkeleton.{PlanSkeleton}
 
 -- one value stands for another at a key: at this key as R tells, and elsewhere it is that value
 abbrev pub IsStandIn : List ℕ → (Json → Json → Type 0) → List ℕ → Json → Json → Type 0

@@ -1,12 +1,7 @@
 -- What may stand where in a plan, in a certificate, and in a list of events.
 use Rattle.std.specs.Prelude.{ℕ, codes, List, [], ◌∷◌, Some, None}
-use Rattle.net_plan.specs.Grammar.{Grammar, plain, one_of, a_list, an_optional, an_object, a_choice}
-use Rattle.net_plan.specs.Grammar.{Fields, no_fields, field, keys_of}
-use Rattle.net_plan.specs.declared.event_format.Format.{Format}
+use Rattle.net_plan.{specs.Grammar.{Grammar, plain, one_of, a_list, an_optional, an_object, a_choice, Fields, no_fields, field, keys_of}, specs.declared.event_format.Format.{Format}, specs.declared.plan_format.PlanFormat.{PlanFormat}, specs.declared.plan_format.PlanFormat.TheVariants.{One, Two}, specs.declared.shape.Named.TheVariants.{Buses, Nodes}, specs.Limits.{most_events}}
 use Rattle.net_plan.specs.declared.event_format.Format.TheVariants as format
-use Rattle.net_plan.specs.declared.plan_format.PlanFormat.{PlanFormat}
-use Rattle.net_plan.specs.declared.plan_format.PlanFormat.TheVariants.{One, Two}
-use Rattle.net_plan.specs.declared.shape.Named.TheVariants.{Buses, Nodes}
 use Rattle.net_plan.specs.declared.shape.Rule.TheVariants as rule
 use Rattle.net_plan.specs.declared.shape.Word.TheVariants as word
 
@@ -204,4 +199,4 @@ an_event f = a_choice (codes "do") (one_of (keys_of (event_choices f))) (event_c
 abbrev pub events_in : Format → Grammar
 events_in f =
     object_of
-    (field (codes "format") (a_number 1 3) (field (codes "events") (a_list (Some 100000) (an_event f)) no_fields))
+    (field (codes "format") (a_number 1 3) (field (codes "events") (a_list (Some most_events) (an_event f)) no_fields))

@@ -1,10 +1,7 @@
 -- What is gathered of a terminus, a key after another.
 use Rattle.std.specs.Prelude.{codes, List, [], ◌∷◌, map}
-use Rattle.net_plan.specs.Gathered.{Slot, slot}
-use Rattle.net_plan.specs.JsonWords.{IsNumberWithin, IsShortListOf}
+use Rattle.net_plan.{specs.Gathered.{Slot, slot}, specs.JsonWords.{IsNumberWithin, IsShortListOf}, specs.PlanText.{IsRecordOf}, specs.declared.terminus_parts.TerminusParts.{TerminusParts}}
 use Rattle.plan_values.specs.NodeValues.{record_value}
-use Rattle.net_plan.specs.PlanText.{IsRecordOf}
-use Rattle.net_plan.specs.declared.terminus_parts.TerminusParts.{TerminusParts}
 
 abbrev pub terminus_slots : TerminusParts → List Slot
 terminus_slots p =

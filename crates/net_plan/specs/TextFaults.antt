@@ -1,9 +1,7 @@
 -- What a failed device counts.
 use Rattle.std.specs.Prelude.{ℕ, Result, Ok, Err}
-use Rattle.net_plan.specs.declared.error.PlanError.{PlanError}
+use Rattle.net_plan.{specs.declared.error.PlanError.{PlanError}, specs.declared.stream.TextFault.{TextFault}, specs.declared.stream.TextFault.TheVariants.{TooLong, Device, OutOfMemory}}
 use Rattle.net_plan.specs.declared.error.PlanError.TheVariants as errors
-use Rattle.net_plan.specs.declared.stream.TextFault.{TextFault}
-use Rattle.net_plan.specs.declared.stream.TextFault.TheVariants.{TooLong, Device, OutOfMemory}
 
 abbrev pub fault_count : TextFault → ℕ
 fault_count Device = 1

@@ -1,11 +1,7 @@
 -- What the bytes of a text stand for.
-use Rattle.std.specs.Prelude.{ℕ, ◌≡◌, ◌≤◌, List, length, Option, Some, None, option_and_then, IsUtf8}
-use Rattle.std.specs.Io.KnownBytes.{Consumes, IsAtEnd}
-use Rattle.json.specs.Json.{Json, value, if_last}
-use Rattle.json.specs.Lex.{tokens}
-use Rattle.json.specs.Strict.{HasUniqueKeys}
-use Rattle.serde_json.specs.Data.{Data}
-use Rattle.serde_json.specs.Read.{read, max_depth}
+use Rattle.std.{specs.Prelude.{ℕ, ◌≡◌, ◌≤◌, List, length, Option, Some, None, option_and_then, IsUtf8}, specs.Io.KnownBytes.{Consumes, IsAtEnd}}
+use Rattle.json.{specs.Json.{Json, value, if_last}, specs.Lex.{tokens}, specs.Strict.{HasUniqueKeys}}
+use Rattle.serde_json.{specs.Data.{Data}, specs.Read.{read, max_depth}}
 
 -- the bytes are JSON of this value
 abbrev pub IsJson : List ℕ → Data → Type 0

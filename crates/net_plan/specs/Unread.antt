@@ -1,14 +1,7 @@
 -- Why a source gave no plan, no certificate and no events.
 use Rattle.std.specs.Prelude.{ℕ, List, Option}
-use Rattle.net_plan.specs.CertificateReading.{certificate}
-use Rattle.net_plan.specs.CertificateText.{IsCertificateOf}
-use Rattle.net_plan.specs.EventReading.{events}
-use Rattle.net_plan.specs.EventText.{AreEventsOf}
-use Rattle.net_plan.specs.PlanReading.{plan}
-use Rattle.net_plan.specs.PlanText.{IsPlanOf}
+use Rattle.net_plan.{specs.CertificateReading.{certificate}, specs.CertificateText.{IsCertificateOf}, specs.EventReading.{events}, specs.EventText.{AreEventsOf}, specs.PlanReading.{plan}, specs.PlanText.{IsPlanOf}, specs.Refusals.{GaveNone}, specs.declared.error.PlanError.{PlanError}}
 use Rattle.plan_values.specs.PlanValues.{PlanValue, node_names}
-use Rattle.net_plan.specs.Refusals.{GaveNone}
-use Rattle.net_plan.specs.declared.error.PlanError.{PlanError}
 
 abbrev pub GaveNoPlan : Option (List ℕ) → Option (List ℕ) → PlanError → Type 0
 GaveNoPlan old new e = GaveNone plan IsPlanOf old new e

@@ -1,10 +1,8 @@
 //! A certificate's JSON value.
 ghost use Rattle.std.specs.Prelude.{codes, ◌≡◌, IfOk, ℕ, List, map, slice_index_or, [], ◌∷◌};
-ghost use Rattle.serde_json.specs.Data.{Data, object, member, no_members};
-ghost use Rattle.serde_json.specs.View.{view, members_view};
+ghost use Rattle.serde_json.{specs.Data.{Data, object, member, no_members}, specs.View.{view, members_view}};
 ghost use Rattle.net_plan.specs.CertificateJson.{list_data, number_data, level_data, places_data, range_data, ranks_data, certificate_data};
-ghost use Rattle.plan_values.specs.CertificateValues.{LevelValue, PlacesValue, RangeValue, NodeRanksValue, level_value, places_value, range_value, node_ranks_value, certificate_value};
-ghost use Rattle.plan_values.specs.PlanValues.{node_value, node_names};
+ghost use Rattle.plan_values.{specs.CertificateValues.{LevelValue, PlacesValue, RangeValue, NodeRanksValue, level_value, places_value, range_value, node_ranks_value, certificate_value}, specs.PlanValues.{node_value, node_names}};
 
 use plan_values::{Certificate, Node, NodeLevel, NodePlaces, NodeRanks, RankRange, RecordPlace};
 use serde_json::{Map, Value, json, put};

@@ -1,7 +1,6 @@
 //! The formats of lists of events.
 ghost use Rattle.std.specs.Prelude.{◌≡◌};
-ghost use Rattle.net_plan.specs.EventReading.{format_of, events_format, has_switches, has_walks};
-ghost use Rattle.net_plan.specs.Trees.{view};
+ghost use Rattle.net_plan.{specs.EventReading.{format_of, events_format, has_switches, has_walks}, specs.Trees.{view}};
 
 use crate::make::number_at;
 use json::Value;

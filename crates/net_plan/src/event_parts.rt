@@ -1,13 +1,8 @@
 //! Events straight from a text.
 ghost use Rattle.std.specs.Prelude.{◌≡◌, ◌≤◌, codes, IfSome, ℕ, List, Option, ⊤};
 ghost use Rattle.json.specs.Json.{Members, no_members, object};
-ghost use Rattle.net_plan.specs.EventParts.{event_slots, IsEventBy, IsMadeOf, given, keys_given};
-ghost use Rattle.net_plan.specs.EventText.{IsBit};
+ghost use Rattle.net_plan.{specs.EventParts.{event_slots, IsEventBy, IsMadeOf, given, keys_given}, specs.EventText.{IsBit}, specs.Gathered.{AreParts, IsNext, IsThere, IsPlain}, specs.JsonWords.{IsNumberWithin}, specs.NameIndexes.{noted}, specs.Trees.{data_of}};
 ghost use Rattle.plan_values.specs.EventValues.{event_entry};
-ghost use Rattle.net_plan.specs.Gathered.{AreParts, IsNext, IsThere, IsPlain};
-ghost use Rattle.net_plan.specs.JsonWords.{IsNumberWithin};
-ghost use Rattle.net_plan.specs.NameIndexes.{noted};
-ghost use Rattle.net_plan.specs.Trees.{data_of};
 
 use crate::event_text::{LEAST_COUNT, MOST_COUNT};
 use crate::gather::{Gather, NextItem, read_object, set_once};

@@ -1,12 +1,7 @@
 //! The keys of an object, held against the fields of its shape.
-ghost use Rattle.std.specs.Prelude.{◌≡◌, not, is_some};
-ghost use Rattle.std.specs.List.{list_any};
-ghost use Rattle.std.specs.Str.{bytes_eq};
+ghost use Rattle.std.{specs.Prelude.{◌≡◌, not, is_some}, specs.List.{list_any}, specs.Str.{bytes_eq}};
 ghost use Rattle.serde_json.specs.Find.{get};
-ghost use Rattle.net_plan.specs.Json.{keyed, known_keys, given_keys};
-ghost use Rattle.net_plan.specs.Trees.{view};
-ghost use Rattle.net_plan.specs.Grammar.{keys_of, fields_view};
-ghost use Rattle.net_plan.specs.declared.shape.Field.{out-Field};
+ghost use Rattle.net_plan.{specs.Json.{keyed, known_keys, given_keys}, specs.Trees.{view}, specs.Grammar.{keys_of, fields_view}, specs.declared.shape.Field.{out-Field}};
 
 use crate::error::ValueFault;
 use crate::json_value::at;

@@ -1,12 +1,6 @@
 //! The first fault of a value in the order of tests.
 ghost use Rattle.std.specs.Prelude.{◌≡◌, ◌≢◌, Err, IfOk, MatchOption, option_map};
-ghost use Rattle.net_plan.specs.Json.{keyed};
-ghost use Rattle.net_plan.specs.Reading.{then_with};
-ghost use Rattle.net_plan.specs.Trees.{view};
-ghost use Rattle.net_plan.specs.declared.error.ValueFault.TheVariants.{OutOfMemory};
-ghost use Rattle.net_plan.specs.Finding.{fault_of, own_fault, has_key, is_within, short_list, unless_null, first_fault, inside, in_fields, in_list, in_choices, located, passes};
-ghost use Rattle.net_plan.specs.Fitting.{Fits};
-ghost use Rattle.net_plan.specs.Grammar.{grammar, fields_view, keys_of, known_seen};
+ghost use Rattle.net_plan.{specs.Json.{keyed}, specs.Reading.{then_with}, specs.Trees.{view}, specs.declared.error.ValueFault.TheVariants.{OutOfMemory}, specs.Finding.{fault_of, own_fault, has_key, is_within, short_list, unless_null, first_fault, inside, in_fields, in_list, in_choices, located, passes}, specs.Fitting.{Fits}, specs.Grammar.{grammar, fields_view, keys_of, known_seen}};
 
 use crate::error::ValueFault;
 use crate::field_keys::check_fields;

@@ -1,7 +1,6 @@
 //! Objects straight from a text, key by key.
 ghost use Rattle.std.specs.Prelude.{◌≡◌, ◌≤◌, Some, None, IfSome, [], length, vec_len};
-ghost use Rattle.json.specs.Json.{Json, Members, no_members, object, members, value};
-ghost use Rattle.json.specs.Lex.{tokens};
+ghost use Rattle.json.{specs.Json.{Json, Members, no_members, object, members, value}, specs.Lex.{tokens}};
 ghost use Rattle.serde_json.specs.Read.{max_depth};
 ghost use Rattle.net_plan.specs.Gathered.{IsMore, IsThere, IsArrayOf};
 

@@ -1,11 +1,7 @@
 //! Keys that come twice in one object.
-ghost use Rattle.std.specs.Prelude.{◌≡◌, map};
-ghost use Rattle.std.specs.List.{list_any};
-ghost use Rattle.std.specs.Str.{bytes_eq};
-ghost use Rattle.json.specs.Strict.{keys};
-ghost use Rattle.json.specs.Value.{value_view, items_view, members_view};
-ghost use Rattle.net_plan.specs.Names.{names_differ};
-ghost use Rattle.net_plan.specs.SingleKeys.{single, items_single, members_single};
+ghost use Rattle.std.{specs.Prelude.{◌≡◌, map}, specs.List.{list_any}, specs.Str.{bytes_eq}};
+ghost use Rattle.json.{specs.Strict.{keys}, specs.Value.{value_view, items_view, members_view}};
+ghost use Rattle.net_plan.{specs.Names.{names_differ}, specs.SingleKeys.{single, items_single, members_single}};
 
 use json::Value;
 

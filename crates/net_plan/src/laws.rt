@@ -1,12 +1,7 @@
 //! A law of texts. The function does nothing: its contract is the law.
 ghost use Rattle.std.specs.Prelude.{◌≡◌, ℕ, List};
-ghost use Rattle.plan_values.specs.PlanValues.{PlanValue};
-ghost use Rattle.plan_values.specs.CertificateValues.{CertificateValue};
-ghost use Rattle.plan_values.specs.EventValues.{EventEntry};
-ghost use Rattle.net_plan.specs.PlanText.{IsPlanOf};
-ghost use Rattle.net_plan.specs.CertificateText.{IsCertificateOf};
-ghost use Rattle.net_plan.specs.EventText.{AreEventsOf};
-ghost use Rattle.net_plan.specs.Texts.{IsJsonTextOf};
+ghost use Rattle.plan_values.{specs.PlanValues.{PlanValue}, specs.CertificateValues.{CertificateValue}, specs.EventValues.{EventEntry}};
+ghost use Rattle.net_plan.{specs.PlanText.{IsPlanOf}, specs.CertificateText.{IsCertificateOf}, specs.EventText.{AreEventsOf}, specs.Texts.{IsJsonTextOf}};
 
 /// A text stands for one plan at most, and of a plan for one certificate and for one list of events.
 pub fn one_reading()

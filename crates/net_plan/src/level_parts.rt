@@ -2,10 +2,7 @@
 ghost use Rattle.std.specs.Prelude.{IfSome, ⊤};
 ghost use Rattle.json.specs.Json.{Members, no_members, object};
 ghost use Rattle.plan_values.specs.CertificateValues.{level_value};
-ghost use Rattle.net_plan.specs.Gathered.{AreParts, IsPlain};
-ghost use Rattle.net_plan.specs.LevelParts.{level_slots, IsLevelBy};
-ghost use Rattle.net_plan.specs.NameIndexes.{noted};
-ghost use Rattle.net_plan.specs.Trees.{data_of};
+ghost use Rattle.net_plan.{specs.Gathered.{AreParts, IsPlain}, specs.LevelParts.{level_slots, IsLevelBy}, specs.NameIndexes.{noted}, specs.Trees.{data_of}};
 
 use crate::gather::{Gather, NextItem, read_object, set_once};
 use crate::name_index::NameIndex;

@@ -1,13 +1,8 @@
 //! Makes what a value stands for that is known to be one of its shape. Only memory can be wanting.
 ghost use Rattle.std.specs.Prelude.{◌≡◌, ◌≤◌, [], codes, map, length, vec_len, option_map, IfOk};
 ghost use Rattle.serde_json.specs.Data.{Data};
-ghost use Rattle.net_plan.specs.Finding.{first_fault, refused};
-ghost use Rattle.net_plan.specs.Grammar.{grammar};
-ghost use Rattle.net_plan.specs.Made.{number_in, number_at, truth_in, truth_at, index_in, index_at, name_in, name_at, hex_in, hex_at, each_made, each_at, within_in, within_at, optional_in, optional_at};
+ghost use Rattle.net_plan.{specs.Finding.{first_fault, refused}, specs.Grammar.{grammar}, specs.Made.{number_in, number_at, truth_in, truth_at, index_in, index_at, name_in, name_at, hex_in, hex_at, each_made, each_at, within_in, within_at, optional_in, optional_at}, specs.NameIndexes.{find_in}, specs.Reading.{IsReadOf}, specs.Trees.{view, items_view}};
 ghost use Rattle.plan_values.specs.NodeValues.{name_bytes};
-ghost use Rattle.net_plan.specs.NameIndexes.{find_in};
-ghost use Rattle.net_plan.specs.Reading.{IsReadOf};
-ghost use Rattle.net_plan.specs.Trees.{view, items_view};
 
 use crate::error::ValueFault;
 use crate::find::find_fault;

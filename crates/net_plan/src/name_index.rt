@@ -25,11 +25,8 @@ pub struct NameIndex<'a> {
 }
 
 impl<'a> NameIndex<'a> {
-    ghost use Rattle.std.specs.Prelude.{◌≡◌, ℕ, List, map, IfOk, OnOk, None, Some, is_some, not, if◌then◌else◌};
-    ghost use Rattle.std.specs.Option.{option_or};
-    ghost use Rattle.std.specs.Str.{bytes_eq};
-    ghost use Rattle.net_plan.specs.Names.{index_among, index_of};
-    ghost use Rattle.net_plan.specs.NameIndexes.{noted, find_in};
+    ghost use Rattle.std.{specs.Prelude.{◌≡◌, ℕ, List, map, IfOk, OnOk, None, Some, is_some, not, if◌then◌else◌}, specs.Option.{option_or}, specs.Str.{bytes_eq}};
+    ghost use Rattle.net_plan.{specs.Names.{index_among, index_of}, specs.NameIndexes.{noted, find_in}};
 
     pub fn of<N: Naming>(
         alloc: Global,

@@ -1,9 +1,6 @@
 //! Numbers, texts and truth values straight from a text.
 ghost use Rattle.std.specs.Prelude.{◌≤◌, IfSome};
-ghost use Rattle.net_plan.specs.Gathered.{IsNext, IsPlain};
-ghost use Rattle.net_plan.specs.JsonWords.{IsName, IsNumber, IsNumberWithin, IsHex, IsText, IsTruth};
-ghost use Rattle.net_plan.specs.PlanText.{IsByte, IsWord};
-ghost use Rattle.net_plan.specs.Trees.{data_of};
+ghost use Rattle.net_plan.{specs.Gathered.{IsNext, IsPlain}, specs.JsonWords.{IsName, IsNumber, IsNumberWithin, IsHex, IsText, IsTruth}, specs.PlanText.{IsByte, IsWord}, specs.Trees.{data_of}};
 
 use plain_json::PlainReader;
 use plan_values::is_name;

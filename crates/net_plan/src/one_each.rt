@@ -1,6 +1,5 @@
 //! Entries of a list, each of another node.
-ghost use Rattle.std.specs.Prelude.{◌≡◌, ◌≢◌, ◌==◌, ℕ, IsTrue, AllPairs, nat_lt};
-ghost use Rattle.std.specs.List.{list_all, list_any};
+ghost use Rattle.std.{specs.Prelude.{◌≡◌, ◌≢◌, ◌==◌, ℕ, IsTrue, AllPairs, nat_lt}, specs.List.{list_all, list_any}};
 
 use plan_values::{NodeLevel, NodePlaces, NodeRanks};
 

@@ -2,11 +2,7 @@
 ghost use Rattle.std.specs.Prelude.{IfSome, ⊤};
 ghost use Rattle.json.specs.Json.{Members, no_members, object};
 ghost use Rattle.plan_values.specs.CertificateValues.{places_value};
-ghost use Rattle.net_plan.specs.Gathered.{AreParts, IsPlain};
-ghost use Rattle.net_plan.specs.JsonWords.{IsNumberWithin};
-ghost use Rattle.net_plan.specs.PlaceParts.{places_slots, ArePlacesBy};
-ghost use Rattle.net_plan.specs.NameIndexes.{noted};
-ghost use Rattle.net_plan.specs.Trees.{data_of};
+ghost use Rattle.net_plan.{specs.Gathered.{AreParts, IsPlain}, specs.JsonWords.{IsNumberWithin}, specs.PlaceParts.{places_slots, ArePlacesBy}, specs.NameIndexes.{noted}, specs.Trees.{data_of}};
 
 use crate::gather::{Gather, NextItem, next_list, read_object, set_once};
 use crate::name_index::NameIndex;

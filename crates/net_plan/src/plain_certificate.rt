@@ -1,14 +1,8 @@
 //! The certificate of a text in which nothing is unusual.
 ghost use Rattle.std.specs.Prelude.{◌≡◌, IfSome};
 ghost use Rattle.json.specs.Json.{Members, no_members, object};
-ghost use Rattle.net_plan.specs.CertificateText.{IsCertificateOf};
-ghost use Rattle.plan_values.specs.CertificateValues.{certificate_value};
-ghost use Rattle.net_plan.specs.Gathered.{AreParts, IsPlain, IsPlainText};
-ghost use Rattle.net_plan.specs.PlainCertificate.{certificate_slots, IsCertificateBy};
-ghost use Rattle.net_plan.specs.NameIndexes.{noted};
-ghost use Rattle.plan_values.specs.PlanValues.{plan_value};
-ghost use Rattle.net_plan.specs.Trees.{data_of};
-ghost use Rattle.net_plan.specs.declared.name_index.NameIndex.{NameIndex};
+ghost use Rattle.net_plan.{specs.CertificateText.{IsCertificateOf}, specs.Gathered.{AreParts, IsPlain, IsPlainText}, specs.PlainCertificate.{certificate_slots, IsCertificateBy}, specs.NameIndexes.{noted}, specs.Trees.{data_of}, specs.declared.name_index.NameIndex.{NameIndex}};
+ghost use Rattle.plan_values.{specs.CertificateValues.{certificate_value}, specs.PlanValues.{plan_value}};
 
 use crate::gather::{Gather, next_list, read_text, set_once};
 use crate::level_parts::NextLevel;

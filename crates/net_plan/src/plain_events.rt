@@ -1,16 +1,8 @@
 //! The events of a text in which nothing is unusual.
-ghost use Rattle.std.specs.Prelude.{◌≡◌, map, IfSome};
-ghost use Rattle.std.specs.List.{list_all};
+ghost use Rattle.std.{specs.Prelude.{◌≡◌, map, IfSome}, specs.List.{list_all}};
 ghost use Rattle.json.specs.Json.{Members, no_members, object};
-ghost use Rattle.net_plan.specs.EventParts.{IsEventBy};
-ghost use Rattle.net_plan.specs.EventText.{IsFormat, AreEventsOf};
-ghost use Rattle.plan_values.specs.EventValues.{event_entry};
-ghost use Rattle.net_plan.specs.Gathered.{AreParts, IsNext, IsPlain, IsPlainText};
-ghost use Rattle.net_plan.specs.PlainEvents.{events_slots, AreEventsBy, is_event_in};
-ghost use Rattle.net_plan.specs.NameIndexes.{noted};
-ghost use Rattle.plan_values.specs.PlanValues.{plan_value};
-ghost use Rattle.net_plan.specs.Trees.{data_of};
-ghost use Rattle.net_plan.specs.declared.name_index.NameIndex.{NameIndex};
+ghost use Rattle.net_plan.{specs.EventParts.{IsEventBy}, specs.EventText.{IsFormat, AreEventsOf}, specs.Gathered.{AreParts, IsNext, IsPlain, IsPlainText}, specs.PlainEvents.{events_slots, AreEventsBy, is_event_in}, specs.NameIndexes.{noted}, specs.Trees.{data_of}, specs.declared.name_index.NameIndex.{NameIndex}};
+ghost use Rattle.plan_values.{specs.EventValues.{event_entry}, specs.PlanValues.{plan_value}};
 
 use crate::event_format::{Format, format_of};
 use crate::event_parts::NextEvent;

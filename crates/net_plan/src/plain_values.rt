@@ -1,12 +1,6 @@
 //! What is wrong with a value without parts.
-ghost use Rattle.std.specs.Prelude.{◌≡◌, ◌≢◌, ◌≤◌, Err, IfOk, map, option_map, Some, None};
-ghost use Rattle.std.specs.List.{list_any};
-ghost use Rattle.std.specs.Str.{bytes_eq};
-ghost use Rattle.net_plan.specs.Json.{at_key, is_among, name_text, hex_text, address_text, whole_number, truth, kind_text};
-ghost use Rattle.net_plan.specs.Trees.{view};
-ghost use Rattle.net_plan.specs.declared.error.ValueFault.TheVariants.{OutOfMemory};
-ghost use Rattle.net_plan.specs.Finding.{fault_of, word_fault, word_among, known_name, names_of, range_end, passes};
-ghost use Rattle.net_plan.specs.Grammar.{known_seen, known_view};
+ghost use Rattle.std.{specs.Prelude.{◌≡◌, ◌≢◌, ◌≤◌, Err, IfOk, map, option_map, Some, None}, specs.List.{list_any}, specs.Str.{bytes_eq}};
+ghost use Rattle.net_plan.{specs.Json.{at_key, is_among, name_text, hex_text, address_text, whole_number, truth, kind_text}, specs.Trees.{view}, specs.declared.error.ValueFault.TheVariants.{OutOfMemory}, specs.Finding.{fault_of, word_fault, word_among, known_name, names_of, range_end, passes}, specs.Grammar.{known_seen, known_view}};
 
 use crate::error::ValueFault;
 use crate::json_value::{at, demand, read_number, read_truth};

@@ -1,9 +1,6 @@
 //! The formats of plans, and the transmission unit that each gives.
 ghost use Rattle.std.specs.Prelude.{◌≡◌, ◌≤◌, is_ok};
-ghost use Rattle.net_plan.specs.Json.{whole_number};
-ghost use Rattle.net_plan.specs.Made.{unit_made};
-ghost use Rattle.net_plan.specs.PlanReading.{plan_format};
-ghost use Rattle.net_plan.specs.Trees.{view};
+ghost use Rattle.net_plan.{specs.Json.{whole_number}, specs.Made.{unit_made}, specs.PlanReading.{plan_format}, specs.Trees.{view}};
 
 use crate::json_value::{at, read_number};
 use crate::make::number_at;

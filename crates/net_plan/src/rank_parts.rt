@@ -1,13 +1,8 @@
 //! Ranks straight from a text.
 ghost use Rattle.std.specs.Prelude.{map, IfSome, ⊤};
 ghost use Rattle.json.specs.Json.{Members, no_members, object};
-ghost use Rattle.net_plan.specs.CertificateText.{IsRangeOf};
+ghost use Rattle.net_plan.{specs.CertificateText.{IsRangeOf}, specs.Gathered.{AreParts, IsThere, IsPlain}, specs.JsonWords.{IsListOf}, specs.NameIndexes.{noted}, specs.RankParts.{range_slots, ranks_slots, AreRanksBy}, specs.Trees.{data_of}};
 ghost use Rattle.plan_values.specs.CertificateValues.{range_value, node_ranks_value};
-ghost use Rattle.net_plan.specs.Gathered.{AreParts, IsThere, IsPlain};
-ghost use Rattle.net_plan.specs.JsonWords.{IsListOf};
-ghost use Rattle.net_plan.specs.NameIndexes.{noted};
-ghost use Rattle.net_plan.specs.RankParts.{range_slots, ranks_slots, AreRanksBy};
-ghost use Rattle.net_plan.specs.Trees.{data_of};
 
 use crate::certificate_text::ascends;
 use crate::gather::{Gather, NextItem, next_list, read_object, set_once};

@@ -1,11 +1,8 @@
 //! Records straight from a text.
 ghost use Rattle.std.specs.Prelude.{IfSome, ⊤};
 ghost use Rattle.json.specs.Json.{Members, no_members, object};
-ghost use Rattle.net_plan.specs.Gathered.{AreParts, IsPlain};
+ghost use Rattle.net_plan.{specs.Gathered.{AreParts, IsPlain}, specs.PlanText.{IsRecordOf}, specs.RecordParts.{record_slots}, specs.Trees.{data_of}};
 ghost use Rattle.plan_values.specs.NodeValues.{record_value};
-ghost use Rattle.net_plan.specs.PlanText.{IsRecordOf};
-ghost use Rattle.net_plan.specs.RecordParts.{record_slots};
-ghost use Rattle.net_plan.specs.Trees.{data_of};
 
 use crate::gather::{Gather, NextItem, read_object, set_once};
 use crate::next_value::{next_hex, next_word};

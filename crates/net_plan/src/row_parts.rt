@@ -1,10 +1,7 @@
 //! Rows straight from a text.
 ghost use Rattle.std.specs.Prelude.{IfSome, ⊤};
 ghost use Rattle.json.specs.Json.{Members, no_members, object};
-ghost use Rattle.net_plan.specs.Gathered.{AreParts, IsNext, IsPlain};
-ghost use Rattle.net_plan.specs.JsonWords.{IsNumberWithin};
-ghost use Rattle.net_plan.specs.RowParts.{row_slots, IsNamedRowOf, named_row};
-ghost use Rattle.net_plan.specs.Trees.{data_of};
+ghost use Rattle.net_plan.{specs.Gathered.{AreParts, IsNext, IsPlain}, specs.JsonWords.{IsNumberWithin}, specs.RowParts.{row_slots, IsNamedRowOf, named_row}, specs.Trees.{data_of}};
 
 use crate::gather::{Gather, NextItem, read_object, set_once};
 use crate::next_value::{next_byte, next_number_within, next_text};

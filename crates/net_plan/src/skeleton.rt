@@ -1,14 +1,8 @@
 //! The value of a plan without its rows and its termini, which are read straight from the text.
-ghost use Rattle.std.specs.Prelude.{◌≡◌, codes, map, false, IfSome, ⊤};
-ghost use Rattle.std.specs.Str.{bytes_eq};
-ghost use Rattle.json.specs.Json.{no_members};
-ghost use Rattle.json.specs.Value.{value_view, members_view};
-ghost use Rattle.net_plan.specs.Gathered.{IsMore, IsPlainText, with_last};
-ghost use Rattle.net_plan.specs.NameIndexes.{find_in};
-ghost use Rattle.net_plan.specs.PlanText.{IsPlanOf};
+ghost use Rattle.std.{specs.Prelude.{◌≡◌, codes, map, false, IfSome, ⊤}, specs.Str.{bytes_eq}};
+ghost use Rattle.json.{specs.Json.{no_members}, specs.Value.{value_view, members_view}};
+ghost use Rattle.net_plan.{specs.Gathered.{IsMore, IsPlainText, with_last}, specs.NameIndexes.{find_in}, specs.PlanText.{IsPlanOf}, specs.RowParts.{named_row}, specs.Skeleton.{AreNodeParts, IsNodeSkeleton, ArePlanParts, IsPlanSkeleton, cut_value, placed_value, found_row, found_value, with_part, with_parts}};
 ghost use Rattle.plan_values.specs.PlanValues.{plan_value, node_value, row_value};
-ghost use Rattle.net_plan.specs.RowParts.{named_row};
-ghost use Rattle.net_plan.specs.Skeleton.{AreNodeParts, IsNodeSkeleton, ArePlanParts, IsPlanSkeleton, cut_value, placed_value, found_row, found_value, with_part, with_parts};
 
 use crate::gather::{Gather, NextItem, next_list, read_object, read_text};
 use crate::json_keys::has_single_keys;

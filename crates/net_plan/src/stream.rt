@@ -1,10 +1,6 @@
 //! Where the bytes of a text come from, and where they go.
-ghost use Rattle.std.specs.Prelude.{◌≡◌, ◌≢◌, ◌+◌, ◌<◌, ◌≤◌, length, take, drop, IfOk, IfErr, OnOk, OnErr, vec_len, vec_capacity};
-ghost use Rattle.std.specs.Io.{ReadsAtMost, WritesAtMost};
-ghost use Rattle.std.specs.Io.KnownBytes.{Keeps, ReadConsumes, WriteAppends, Consumes, Appends, IsAtEnd};
-ghost use Rattle.net_plan.specs.Stream.{Account, HasRoom, HasFailed, failure_count, TakesMoreThan, AppendsBeginning};
-ghost use Rattle.net_plan.specs.Taken.{TakesAtMost};
-ghost use Rattle.net_plan.specs.TextFaults.{device_count};
+ghost use Rattle.std.{specs.Prelude.{◌≡◌, ◌≢◌, ◌+◌, ◌<◌, ◌≤◌, length, take, drop, IfOk, IfErr, OnOk, OnErr, vec_len, vec_capacity}, specs.Io.{ReadsAtMost, WritesAtMost}, specs.Io.KnownBytes.{Keeps, ReadConsumes, WriteAppends, Consumes, Appends, IsAtEnd}};
+ghost use Rattle.net_plan.{specs.Stream.{Account, HasRoom, HasFailed, failure_count, TakesMoreThan, AppendsBeginning}, specs.Taken.{TakesAtMost}, specs.TextFaults.{device_count}};
 
 use std::alloc::{AllocError, Global};
 use std::io::{Read, Write};

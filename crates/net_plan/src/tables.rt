@@ -1,7 +1,6 @@
 //! The grammar of plans, certificates and events.
 ghost use Rattle.std.specs.Prelude.{◌≡◌};
-ghost use Rattle.net_plan.specs.Grammar.{grammar};
-ghost use Rattle.net_plan.specs.Tables.{a_plan, a_certificate, events_in};
+ghost use Rattle.net_plan.{specs.Grammar.{grammar}, specs.Tables.{a_plan, a_certificate, events_in}};
 
 use crate::event_format::Format;
 use crate::plan_format::PlanFormat;

@@ -1,12 +1,8 @@
 //! Termini straight from a text.
 ghost use Rattle.std.specs.Prelude.{option_map, IfSome, ⊤};
 ghost use Rattle.json.specs.Json.{Members, no_members, object};
-ghost use Rattle.net_plan.specs.Gathered.{AreParts, IsThere, IsPlain};
-ghost use Rattle.net_plan.specs.JsonWords.{IsOptional};
+ghost use Rattle.net_plan.{specs.Gathered.{AreParts, IsThere, IsPlain}, specs.JsonWords.{IsOptional}, specs.PlanText.{IsTerminusOf}, specs.TerminusParts.{terminus_slots}, specs.Trees.{data_of}};
 ghost use Rattle.plan_values.specs.NodeValues.{terminus_value};
-ghost use Rattle.net_plan.specs.PlanText.{IsTerminusOf};
-ghost use Rattle.net_plan.specs.TerminusParts.{terminus_slots};
-ghost use Rattle.net_plan.specs.Trees.{data_of};
 
 use crate::gather::{Gather, next_list, read_object, set_once};
 use crate::next_value::next_number_within;

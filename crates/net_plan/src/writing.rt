@@ -1,17 +1,8 @@
 //! Certificates to texts.
-ghost use Rattle.std.specs.Prelude.{◌≡◌, ◌<◌, ◌≤◌, ◌+◌, length, ◌-◌, ◌^◌, ◌⊎◌, IfOk, IfErr, MatchResult, OnOk, Some, string_bytes};
-ghost use Rattle.std.specs.Io.KnownBytes.{Appends};
-ghost use Rattle.net_plan.specs.CertificateJson.{certificate_data, certificate_text};
-ghost use Rattle.serde_json.specs.Read.{read};
-ghost use Rattle.serde_json.specs.Written.{compact_text};
-ghost use Rattle.plan_values.specs.CertificateValues.{certificate_value};
-ghost use Rattle.plan_values.specs.PlanValues.{node_names, plan_value};
-ghost use Rattle.net_plan.specs.CertificateText.{IsCertificateOf};
-ghost use Rattle.net_plan.specs.Texts.{IsJsonTextOf, HasSingleKeys};
-ghost use Rattle.plan_values.specs.ShortText.{HasFewPlaces};
-ghost use Rattle.plan_values.specs.WellFormed.{IsWellFormed};
-ghost use Rattle.net_plan.specs.Stream.{HasRoom, HasFailed, AppendsBeginning};
-ghost use Rattle.net_plan.specs.TextFaults.{failed_count};
+ghost use Rattle.std.{specs.Prelude.{◌≡◌, ◌<◌, ◌≤◌, ◌+◌, length, ◌-◌, ◌^◌, ◌⊎◌, IfOk, IfErr, MatchResult, OnOk, Some, string_bytes}, specs.Io.KnownBytes.{Appends}};
+ghost use Rattle.net_plan.{specs.CertificateJson.{certificate_data, certificate_text}, specs.CertificateText.{IsCertificateOf}, specs.Texts.{IsJsonTextOf, HasSingleKeys}, specs.Stream.{HasRoom, HasFailed, AppendsBeginning}, specs.TextFaults.{failed_count}};
+ghost use Rattle.serde_json.{specs.Read.{read}, specs.Written.{compact_text}};
+ghost use Rattle.plan_values.{specs.CertificateValues.{certificate_value}, specs.PlanValues.{node_names, plan_value}, specs.ShortText.{HasFewPlaces}, specs.WellFormed.{IsWellFormed}};
 
 use crate::certificate_json::certificate_json;
 use crate::error::PlanError;

@@ -1,19 +1,8 @@
 -- What is found where so many tokens are left.
-use Rattle.std.proofs.Common.{◌≡◌, ◌≢◌, ◌<◌, ◌∷◌, ℕ, List, [], Option, Some, None, option_and_then, length, refl, sym, ap, ◌∙◌}
-use Rattle.std.specs.Prelude.{Result, Ok, Err, IfOk, IfSome, IsSome, IsSomeAnd}
-use Rattle.json.specs.Json.{Json, Members, object, if_last}
-use Rattle.json.specs.Lex.{tokens}
-use Rattle.json.specs.Strict.{keys}
-use Rattle.json.specs.Token.{Token}
-use Rattle.json.proofs.Found.{Some_inj, not_found}
-use Rattle.net_pointers.specs.PartTokens.{from_path, from_key}
+use Rattle.std.{proofs.Common.{◌≡◌, ◌≢◌, ◌<◌, ◌∷◌, ℕ, List, [], Option, Some, None, option_and_then, length, refl, sym, ap, ◌∙◌}, specs.Prelude.{Result, Ok, Err, IfOk, IfSome, IsSome, IsSomeAnd}}
+use Rattle.json.{specs.Json.{Json, Members, object, if_last}, specs.Lex.{tokens}, specs.Strict.{keys}, specs.Token.{Token}, proofs.Found.{Some_inj, not_found}}
+use Rattle.net_pointers.{specs.PartTokens.{from_path, from_key}, specs.Doubles.{part_at, member_at}, specs.Offsets.{AreTokensFrom, PartStandsAt, KeyStandsAt}, specs.Scans.{Ends, AreLeft}, proofs.Ends.{path_ends, path_key_ends}, proofs.Readings.{member_within}, proofs.Ways.{path_way, path_key_way, sound_start, key_is_sound}}
 use Rattle.net_plan.specs.Texts.{IsTree}
-use Rattle.net_pointers.specs.Doubles.{part_at, member_at}
-use Rattle.net_pointers.specs.Offsets.{AreTokensFrom, PartStandsAt, KeyStandsAt}
-use Rattle.net_pointers.specs.Scans.{Ends, AreLeft}
-use Rattle.net_pointers.proofs.Ends.{path_ends, path_key_ends}
-use Rattle.net_pointers.proofs.Readings.{member_within}
-use Rattle.net_pointers.proofs.Ways.{path_way, path_key_way, sound_start, key_is_sound}
 
 -- what is found of the tokens before so many
 abbrev pub IsBefore : List ℕ → ℕ → Option ℕ → Type 0

@@ -1,25 +1,8 @@
 -- Names and keys that stand twice, as they are looked for.
-use Rattle.std.proofs.Common.{◌≡◌, ◌≢◌, ◌<◌, ◌+◌, false, subst, ℕ, zero, suc, List, [], ◌∷◌, ◌++◌, map, length, take, get_or, Bool, true, not, Option, Some, None, option_map, is_some, cond, if◌then◌else◌, ◌⊎◌, inl, inr, ◌==◌, option_and_then, Bor, refl, sym, ap, ◌∙◌, append-nil, append_assoc, arith, true≢false, AllPairs}
-use Rattle.std.proofs.lemmas.List.{get_or_default, length-map, length-take-le, take-map}
-use Rattle.std.proofs.lemmas.Bool.{not-true}
-use Rattle.std.proofs.lemmas.Bool.Decides.{Decides-eqb}
-use Rattle.std.proofs.lemmas.Option.{same_Some}
-use Rattle.std.proofs.lemmas.Slice.Eq.{bytes_eq-Decides}
-use Rattle.std.specs.Option.{option_or}
-use Rattle.std.specs.Str.{bytes_eq}
-use Rattle.json.specs.Json.{Json, array, object, Items, no_items, item, Members, no_members, member}
-use Rattle.json.specs.Strict.{keys}
-use Rattle.json.specs.Value.{value_view, items_view, members_view}
-use Rattle.net_plan.specs.Json.{is_among}
-use Rattle.net_plan.specs.Names.{are_new, names_differ, index_of}
-use Rattle.net_plan.specs.SingleKeys.{single, items_single, members_single}
-use Rattle.net_plan.specs.Trees.{Tree}
-use Rattle.net_plan.proofs.Differing.{differ_sound}
-use Rattle.net_plan.proofs.Names.{one_new, names_take, noted_now, index_of-take, index_of-among, index_within}
-use Rattle.net_plan.proofs.Telling.{both}
-use Rattle.net_pointers.specs.Doubles.{IsFirstDoubled, item_at, member_at, part_after, part_at, HasDoubledKey, IsBefore, NoneBefore, IsFirstDoubledKey}
-use Rattle.net_pointers.specs.declared.doubled.DoubledKey.{DoubledKey}
-use Rattle.net_pointers.specs.declared.doubled.TwoIndices.{TwoIndices}
+use Rattle.std.{proofs.Common.{◌≡◌, ◌≢◌, ◌<◌, ◌+◌, false, subst, ℕ, zero, suc, List, [], ◌∷◌, ◌++◌, map, length, take, get_or, Bool, true, not, Option, Some, None, option_map, is_some, cond, if◌then◌else◌, ◌⊎◌, inl, inr, ◌==◌, option_and_then, Bor, refl, sym, ap, ◌∙◌, append-nil, append_assoc, arith, true≢false, AllPairs}, proofs.lemmas.List.{get_or_default, length-map, length-take-le, take-map}, proofs.lemmas.Bool.{not-true}, proofs.lemmas.Bool.Decides.{Decides-eqb}, proofs.lemmas.Option.{same_Some}, proofs.lemmas.Slice.Eq.{bytes_eq-Decides}, specs.Option.{option_or}, specs.Str.{bytes_eq}}
+use Rattle.json.{specs.Json.{Json, array, object, Items, no_items, item, Members, no_members, member}, specs.Strict.{keys}, specs.Value.{value_view, items_view, members_view}}
+use Rattle.net_plan.{specs.Json.{is_among}, specs.Names.{are_new, names_differ, index_of}, specs.SingleKeys.{single, items_single, members_single}, specs.Trees.{Tree}, proofs.Differing.{differ_sound}, proofs.Names.{one_new, names_take, noted_now, index_of-take, index_of-among, index_within}, proofs.Telling.{both}}
+use Rattle.net_pointers.{specs.Doubles.{IsFirstDoubled, item_at, member_at, part_after, part_at, HasDoubledKey, IsBefore, NoneBefore, IsFirstDoubledKey}, specs.declared.doubled.DoubledKey.{DoubledKey}, specs.declared.doubled.TwoIndices.{TwoIndices}}
 
 pub text_at_place : (names : List (Bor (List ℕ))) (i : ℕ) (d : Bor (List ℕ)) → i < length names → get_or (map (λ name. name.now) names) i [] ≡ (get_or names i d).now
 text_at_place [] i d within = absurd (omega arith)

@@ -1,14 +1,7 @@
 -- What is left of the tokens once some were passed is their end.
-use Rattle.std.proofs.Common.{◌≡◌, ◌≤◌, ◌-◌, ◌+◌, ℕ, zero, suc, List, [], ◌∷◌, ◌++◌, length, drop, Option, Some, None, option_and_then, refl, sym, ap, ◌∙◌, arith}
-use Rattle.std.proofs.lemmas.List.{append_assoc, length-append}
-use Rattle.std.proofs.Math.Seq.{drop-append_seam}
-use Rattle.json.specs.Token.{Token}
-use Rattle.json.specs.Json.{Json, array, object, Items, item, Members, member, Parse, parse_map, after_end_array, read_key, items_step, members_step, items, members, value_with, value, skip_value}
-use Rattle.json.proofs.Grammar.{left, left-parse_map, closed_array, read_key_is}
-use Rattle.json.proofs.Found.{Some_inj, not_found}
-use Rattle.net_pointers.specs.Scans.{Ends}
-use Rattle.net_pointers.specs.PartTokens.{past_items, past_key, past_members, from_key, from_part, from_path}
-use Rattle.net_pointers.proofs.Readings.{and_then_parts}
+use Rattle.std.{proofs.Common.{◌≡◌, ◌≤◌, ◌-◌, ◌+◌, ℕ, zero, suc, List, [], ◌∷◌, ◌++◌, length, drop, Option, Some, None, option_and_then, refl, sym, ap, ◌∙◌, arith}, proofs.lemmas.List.{append_assoc, length-append}, proofs.Math.Seq.{drop-append_seam}}
+use Rattle.json.{specs.Token.{Token}, specs.Json.{Json, array, object, Items, item, Members, member, Parse, parse_map, after_end_array, read_key, items_step, members_step, items, members, value_with, value, skip_value}, proofs.Grammar.{left, left-parse_map, closed_array, read_key_is}, proofs.Found.{Some_inj, not_found}}
+use Rattle.net_pointers.{specs.Scans.{Ends}, specs.PartTokens.{past_items, past_key, past_members, from_key, from_part, from_path}, proofs.Readings.{and_then_parts}}
 
 whole : (ts us : List Token) → ts ≡ us → Ends ts us
 whole ts us e = ([], e)

@@ -1,32 +1,9 @@
 -- What is wrong with a certificate in which no value is.
-use Rattle.std.proofs.Common.{◌≡◌, ◌+◌, inl, inr, ℕ, List, [], ◌∷◌, length, Bool, true, false, ◌&&◌, nat_le, codes, Some, None, Result, Ok, Err, refl, sym, ap, ◌∙◌}
-use Rattle.std.specs.Bool.{⊤}
-use Rattle.std.specs.List.{list_all}
-use Rattle.std.proofs.lemmas.Option.{none-some}
-use Rattle.serde_json.specs.Data.{Data, array, Items, no_items, item}
-use Rattle.serde_json.specs.Find.{get}
-use Rattle.net_plan.specs.CertificateReading.{nodes_differ, ascends, entries_differ, tested, certificate}
+use Rattle.std.{proofs.Common.{◌≡◌, ◌+◌, inl, inr, ℕ, List, [], ◌∷◌, length, Bool, true, false, ◌&&◌, nat_le, codes, Some, None, Result, Ok, Err, refl, sym, ap, ◌∙◌}, specs.Bool.{⊤}, specs.List.{list_all}, proofs.lemmas.Option.{none-some}}
+use Rattle.serde_json.{specs.Data.{Data, array, Items, no_items, item}, specs.Find.{get}}
+use Rattle.net_plan.{specs.CertificateReading.{nodes_differ, ascends, entries_differ, tested, certificate}, specs.Finding.{Located, first_fault, refused}, specs.Fitting.{EachIs, HasAt, Fits}, specs.Json.{demand, found, at_key}, specs.Made.{each_made, each_in, found_or, range_made, ranks_made, certificate_made}, specs.Names.{index_among, names_differ}, specs.Reading.{then_with}, specs.Refusals.{IsWellButForNames}, specs.Tables.{a_range, a_node_ranks, a_certificate}, specs.declared.error.ValueFault.{ValueFault}, specs.declared.error.ValueFault.TheVariants.{UnknownName, Doubled}, proofs.CertificateLaw.{ends, range_makes, entries_makes}, proofs.Fitting.{none_fits, fits_none}, proofs.WordsLaw.{number_at as number_told}}
 use Rattle.plan_values.specs.CertificateValues.{are_known, CertificateValue, NodeRanksValue}
-use Rattle.net_plan.specs.Finding.{Located, first_fault, refused}
-use Rattle.net_plan.specs.Fitting.{EachIs, HasAt, Fits}
-use Rattle.net_plan.specs.Json.{demand, found, at_key}
-use Rattle.net_plan.specs.Made.{each_made, each_in, found_or, range_made, ranks_made, certificate_made}
-use Rattle.net_plan.specs.Names.{index_among, names_differ}
-use Rattle.net_plan.specs.Reading.{then_with}
-use Rattle.net_plan.specs.Refusals.{IsWellButForNames}
-use Rattle.net_plan.specs.Tables.{a_range, a_node_ranks, a_certificate}
-use Rattle.net_plan.specs.declared.error.ValueFault.{ValueFault}
-use Rattle.net_plan.specs.declared.error.ValueFault.TheVariants.{UnknownName, Doubled}
-use Rattle.net_plan.proofs.CertificateLaw.{ends, range_makes, entries_makes}
-use Rattle.net_plan.proofs.Fitting.{none_fits, fits_none}
-use Rattle.net_plan.proofs.WordsLaw.{number_at as number_told}
-use Rattle.net_pointers.specs.Ascending.{ranges_ascend, list_ascends, entries_ascend, ranks_ascend, number_or_zero, first_in, end_in}
-use Rattle.net_pointers.specs.Asks.{DoDiffer, IsDoubledIn, asks_of, certificate_text, known_nodes, list_names, texts_in}
-use Rattle.net_pointers.specs.declared.doubled.TwoIndices.{TwoIndices}
-use Rattle.net_pointers.specs.declared.order.NameList.{NameList}
-use Rattle.net_pointers.specs.declared.order.NameList.TheVariants.{Levels, Places, Ranks}
-use Rattle.net_pointers.proofs.Doubling.{first_differs}
-use Rattle.net_pointers.proofs.Told.{Says}
+use Rattle.net_pointers.{specs.Ascending.{ranges_ascend, list_ascends, entries_ascend, ranks_ascend, number_or_zero, first_in, end_in}, specs.Asks.{DoDiffer, IsDoubledIn, asks_of, certificate_text, known_nodes, list_names, texts_in}, specs.declared.doubled.TwoIndices.{TwoIndices}, specs.declared.order.NameList.{NameList}, specs.declared.order.NameList.TheVariants.{Levels, Places, Ranks}, proofs.Doubling.{first_differs}, proofs.Told.{Says}}
 
 -- ---- what the tests of the whole say
 

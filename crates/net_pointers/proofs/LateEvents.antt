@@ -1,24 +1,9 @@
 -- What is wrong with events of which no value is.
-use Rattle.std.proofs.Common.{◌≡◌, ℕ, List, length, Bool, true, false, Some, None, Ok, Err, refl, sym, ap, ◌∙◌, true≢false}
-use Rattle.std.proofs.lemmas.Option.{none-some}
-use Rattle.std.specs.List.{list_all}
+use Rattle.std.{proofs.Common.{◌≡◌, ℕ, List, length, Bool, true, false, Some, None, Ok, Err, refl, sym, ap, ◌∙◌, true≢false}, proofs.lemmas.Option.{none-some}, specs.List.{list_all}}
 use Rattle.serde_json.specs.Data.{Data}
-use Rattle.net_plan.specs.EventReading.{events_format, events_tested, events}
-use Rattle.net_plan.specs.Finding.{Located, first_fault, refused}
-use Rattle.net_plan.specs.Fitting.{Fits}
-use Rattle.net_plan.specs.Json.{demand}
-use Rattle.net_plan.specs.Made.{events_made}
-use Rattle.net_plan.specs.Names.{index_among}
-use Rattle.net_plan.specs.Reading.{then_with}
-use Rattle.net_plan.specs.Refusals.{IsWellButForNames}
-use Rattle.net_plan.specs.Tables.{events_in}
-use Rattle.net_plan.specs.declared.error.ValueFault.{ValueFault}
-use Rattle.net_plan.specs.declared.error.ValueFault.TheVariants.{UnknownName}
-use Rattle.net_plan.proofs.EventLaw.{strictly, pass}
-use Rattle.net_plan.proofs.Fitting.{none_fits, fits_none}
+use Rattle.net_plan.{specs.EventReading.{events_format, events_tested, events}, specs.Finding.{Located, first_fault, refused}, specs.Fitting.{Fits}, specs.Json.{demand}, specs.Made.{events_made}, specs.Names.{index_among}, specs.Reading.{then_with}, specs.Refusals.{IsWellButForNames}, specs.Tables.{events_in}, specs.declared.error.ValueFault.{ValueFault}, specs.declared.error.ValueFault.TheVariants.{UnknownName}, proofs.EventLaw.{strictly, pass}, proofs.Fitting.{none_fits, fits_none}}
 use Rattle.plan_values.specs.EventValues.{EventEntry, is_known_event}
-use Rattle.net_pointers.specs.Asks.{asks_of, events_text, known_nodes}
-use Rattle.net_pointers.proofs.Told.{Says}
+use Rattle.net_pointers.{specs.Asks.{asks_of, events_text, known_nodes}, proofs.Told.{Says}}
 
 only_names : (b : Bool) (es : List EventEntry) (f : ValueFault) → then_with (demand UnknownName b) (λ _. Ok es) ≡ Err f → f ≡ UnknownName
 only_names true es f e = cc

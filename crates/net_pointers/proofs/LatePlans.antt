@@ -1,31 +1,10 @@
 -- What is wrong with a plan in which no value is.
-use Rattle.std.proofs.Common.{◌≡◌, inl, inr, ℕ, List, [], ◌∷◌, length, Bool, true, false, codes, Some, None, Ok, Err, refl, sym, ap, ◌∙◌, subst, true≢false}
-use Rattle.std.proofs.lemmas.Option.{none-some}
-use Rattle.serde_json.specs.Data.{Data}
-use Rattle.serde_json.specs.Find.{get}
-use Rattle.plan_values.specs.Placed.{are_placed}
-use Rattle.plan_values.specs.PlanValues.{PlanValue, bus_names}
-use Rattle.net_plan.specs.Finding.{Located, first_fault, refused}
-use Rattle.net_plan.specs.Fitting.{Fits, FieldsFit}
-use Rattle.net_plan.specs.Grammar.{Known}
-use Rattle.net_plan.specs.Json.{demand}
-use Rattle.net_plan.specs.Made.{plan_made}
-use Rattle.net_plan.specs.Names.{names_differ, names_at}
-use Rattle.net_plan.specs.PlanReading.{plan_format, plan_tested, plan}
-use Rattle.net_plan.specs.Reading.{then_with}
-use Rattle.net_plan.specs.Refusals.{IsWellButForNames}
-use Rattle.net_plan.specs.Tables.{plan_lists, a_plan}
-use Rattle.net_plan.specs.declared.error.ValueFault.{ValueFault}
-use Rattle.net_plan.specs.declared.error.ValueFault.TheVariants.{UnknownName, Doubled}
-use Rattle.net_plan.proofs.Fitting.{none_fits, fits_none}
+use Rattle.std.{proofs.Common.{◌≡◌, inl, inr, ℕ, List, [], ◌∷◌, length, Bool, true, false, codes, Some, None, Ok, Err, refl, sym, ap, ◌∙◌, subst, true≢false}, proofs.lemmas.Option.{none-some}}
+use Rattle.serde_json.{specs.Data.{Data}, specs.Find.{get}}
+use Rattle.plan_values.{specs.Placed.{are_placed}, specs.PlanValues.{PlanValue, bus_names}}
+use Rattle.net_plan.{specs.Finding.{Located, first_fault, refused}, specs.Fitting.{Fits, FieldsFit}, specs.Grammar.{Known}, specs.Json.{demand}, specs.Made.{plan_made}, specs.Names.{names_differ, names_at}, specs.PlanReading.{plan_format, plan_tested, plan}, specs.Reading.{then_with}, specs.Refusals.{IsWellButForNames}, specs.Tables.{plan_lists, a_plan}, specs.declared.error.ValueFault.{ValueFault}, specs.declared.error.ValueFault.TheVariants.{UnknownName, Doubled}, proofs.Fitting.{none_fits, fits_none}}
+use Rattle.net_pointers.{specs.Asks.{DoDiffer, IsDoubledIn, known_in, plan_text, asks_of, list_names}, specs.declared.order.NameList.TheVariants.{Buses}, proofs.Doubling.{first_differs}, proofs.NamesTold.{texts_are_names}, proofs.Told.{Says}, specs.declared.doubled.TwoIndices.{TwoIndices}, specs.declared.order.NameList.{NameList}}
 use Rattle.net_plan.proofs.PlanLaw as law
-use Rattle.net_pointers.specs.Asks.{DoDiffer, IsDoubledIn, known_in, plan_text, asks_of, list_names}
-use Rattle.net_pointers.specs.declared.order.NameList.TheVariants.{Buses}
-use Rattle.net_pointers.proofs.Doubling.{first_differs}
-use Rattle.net_pointers.proofs.NamesTold.{texts_are_names}
-use Rattle.net_pointers.proofs.Told.{Says}
-use Rattle.net_pointers.specs.declared.doubled.TwoIndices.{TwoIndices}
-use Rattle.net_pointers.specs.declared.order.NameList.{NameList}
 
 abbrev with_buses : List (List ℕ) → Data → Known
 with_buses buses d = record { buses = buses; nodes = names_at (codes "nodes") d }

@@ -1,14 +1,7 @@
 -- The first fault stands where its pointer leads.
-use Rattle.std.proofs.Common.{◌≡◌, inl, inr, ℕ, suc, ◌+◌, List, [], ◌∷◌, Bool, true, false, cond, Option, Some, None, option_and_then, refl, sym, ap, ◌∙◌, subst, arith}
-use Rattle.std.specs.Option.{option_or}
-use Rattle.std.specs.Str.{bytes_eq}
-use Rattle.std.proofs.lemmas.Option.{none-some, same_Some}
-use Rattle.serde_json.specs.Data.{Data, array, Items, no_items, item}
-use Rattle.serde_json.specs.Find.{get, get_item}
-use Rattle.net_plan.specs.Finding.{Step, key, index, Located, own_fault, under, here, in_items, inside, in_fields, in_choices, first_fault}
-use Rattle.net_plan.specs.Grammar.{Grammar, a_list, an_optional, an_object, a_choice, Fields, no_fields, field, Known}
-use Rattle.net_plan.specs.Names.{text_of}
-use Rattle.net_plan.specs.declared.error.ValueFault.{ValueFault}
+use Rattle.std.{proofs.Common.{◌≡◌, inl, inr, ℕ, suc, ◌+◌, List, [], ◌∷◌, Bool, true, false, cond, Option, Some, None, option_and_then, refl, sym, ap, ◌∙◌, subst, arith}, specs.Option.{option_or}, specs.Str.{bytes_eq}, proofs.lemmas.Option.{none-some, same_Some}}
+use Rattle.serde_json.{specs.Data.{Data, array, Items, no_items, item}, specs.Find.{get, get_item}}
+use Rattle.net_plan.{specs.Finding.{Step, key, index, Located, own_fault, under, here, in_items, inside, in_fields, in_choices, first_fault}, specs.Grammar.{Grammar, a_list, an_optional, an_object, a_choice, Fields, no_fields, field, Known}, specs.Names.{text_of}, specs.declared.error.ValueFault.{ValueFault}}
 use Rattle.net_pointers.specs.Pointers.{value_after, value_at, HasField, IsPart, IsAsked, IsAskedByWord, IsAskedByOne, MayStandAt, HasFaultAt}
 
 -- one step further out

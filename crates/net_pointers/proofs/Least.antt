@@ -1,6 +1,5 @@
 -- The least of a list of numbers, as it is looked for.
-use Rattle.std.proofs.Common.{◌≡◌, ◌<◌, ◌≤◌, ◌+◌, ℕ, zero, suc, List, [], ◌∷◌, length, get_or, Bool, true, false, nat_lt, refl, subst, arith}
-use Rattle.std.proofs.lemmas.Bool.{ltb-true, ltb-false}
+use Rattle.std.{proofs.Common.{◌≡◌, ◌<◌, ◌≤◌, ◌+◌, ℕ, zero, suc, List, [], ◌∷◌, length, get_or, Bool, true, false, nat_lt, refl, subst, arith}, proofs.lemmas.Bool.{ltb-true, ltb-false}}
 
 -- it is at most each of those that were passed
 abbrev pub IsLeast : List ℕ → ℕ → ℕ → Type 0

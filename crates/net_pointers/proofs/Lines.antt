@@ -1,6 +1,5 @@
 -- Where the last line begins.
-use Rattle.std.proofs.Common.{◌≡◌, ℕ, List, [], ◌∷◌, Bool, true, false, if◌then◌else◌, refl}
-use Rattle.std.specs.List.{list_any}
+use Rattle.std.{proofs.Common.{◌≡◌, ℕ, List, [], ◌∷◌, Bool, true, false, if◌then◌else◌, refl}, specs.List.{list_any}}
 use Rattle.net_pointers.specs.Positions.{is_line_feed, last_line}
 
 -- the last line of what is left, or what was seen to be the last line's beginning

@@ -1,11 +1,8 @@
 -- Names, as the program holds them.
 use Rattle.std.proofs.Common.{◌≡◌, ℕ, List, codes, map, Option, Some, None, refl, sym, ap, ◌∙◌}
 use Rattle.serde_json.specs.Data.{Data, array}
-use Rattle.net_plan.specs.Names.{names_in, text_at, texts_at}
-use Rattle.net_plan.specs.Trees.{Tree, view, items_view}
-use Rattle.net_plan.proofs.BusNames.{texts_of, node_names_of}
-use Rattle.plan_values.specs.PlanValues.{name_bytes, node_value, node_names}
-use Rattle.plan_values.specs.declared.nodes.Node.{Node}
+use Rattle.net_plan.{specs.Names.{names_in, text_at, texts_at}, specs.Trees.{Tree, view, items_view}, proofs.BusNames.{texts_of, node_names_of}}
+use Rattle.plan_values.{specs.PlanValues.{name_bytes, node_value, node_names}, specs.declared.nodes.Node.{Node}}
 use Rattle.net_pointers.specs.Asks.{texts_in}
 
 -- the names of a list

@@ -1,21 +1,9 @@
 -- What stands at an offset, in the tree of the text.
-use Rattle.std.proofs.Common.{◌≡◌, ◌∙◌, sym, ap, ℕ, List, [], Option, Some, None, subst}
-use Rattle.std.proofs.lemmas.Bool.{false≢true}
-use Rattle.std.specs.Prelude.{Result, Ok, Err, IfOk, IfSome, IsSome, MatchOption}
-use Rattle.json.specs.Find.{BeginsWith}
-use Rattle.json.specs.Json.{Json}
-use Rattle.json.specs.Lex.{tokens}
+use Rattle.std.{proofs.Common.{◌≡◌, ◌∙◌, sym, ap, ℕ, List, [], Option, Some, None, subst}, proofs.lemmas.Bool.{false≢true}, specs.Prelude.{Result, Ok, Err, IfOk, IfSome, IsSome, MatchOption}}
+use Rattle.json.{specs.Find.{BeginsWith}, specs.Json.{Json}, specs.Lex.{tokens}}
 use Rattle.serde_json.specs.Read.{max_depth}
-use Rattle.net_plan.specs.Texts.{IsTree}
-use Rattle.net_plan.specs.Trees.{data_of}
-use Rattle.net_pointers.specs.Offsets.{PartStandsAt, LeadsTo, KeyStandsAt, LeadsToKey}
-use Rattle.net_pointers.specs.Paths.{path_of}
-use Rattle.net_pointers.specs.Doubles.{part_at}
-use Rattle.net_plan.specs.Finding.{Step}
-use Rattle.net_pointers.specs.Pointers.{value_at}
-use Rattle.net_pointers.proofs.Beginnings.{last}
-use Rattle.net_pointers.proofs.Paths.{path_leads}
-use Rattle.net_pointers.proofs.Readings.{path_read, path_key_read}
+use Rattle.net_plan.{specs.Texts.{IsTree}, specs.Trees.{data_of}, specs.Finding.{Step}}
+use Rattle.net_pointers.{specs.Offsets.{PartStandsAt, LeadsTo, KeyStandsAt, LeadsToKey}, specs.Paths.{path_of}, specs.Doubles.{part_at}, specs.Pointers.{value_at}, proofs.Beginnings.{last}, proofs.Paths.{path_leads}, proofs.Readings.{path_read, path_key_read}}
 
 begins : (text : List ℕ) (j : Json) → IsTree text j → BeginsWith (tokens text) j
 begins text j e = (max_depth, [], last _ j e)

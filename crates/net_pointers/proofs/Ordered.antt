@@ -1,25 +1,9 @@
 -- What is told by the order of tests.
-use Rattle.std.proofs.Common.{◌≡◌, ◌<◌, ◌+◌, ℕ, List, ◌∷◌, drop, length, get_or, Bool, true, false, not, true≢false, is_some, Option, Some, None, Result, Ok, Err, refl, sym, ap, ◌∙◌, subst, inl, inr}
-use Rattle.std.specs.Prelude.{IfOk, IfSome, MatchOption}
-use Rattle.std.proofs.lemmas.List.{at_drop_more}
+use Rattle.std.{proofs.Common.{◌≡◌, ◌<◌, ◌+◌, ℕ, List, ◌∷◌, drop, length, get_or, Bool, true, false, not, true≢false, is_some, Option, Some, None, Result, Ok, Err, refl, sym, ap, ◌∙◌, subst, inl, inr}, specs.Prelude.{IfOk, IfSome, MatchOption}, proofs.lemmas.List.{at_drop_more}}
 use Rattle.json.specs.Json.{Json}
 use Rattle.serde_json.specs.Data.{Data}
-use Rattle.net_plan.specs.CertificateReading.{certificate}
-use Rattle.net_plan.specs.EventReading.{events}
-use Rattle.net_plan.specs.Names.{names_differ}
-use Rattle.net_plan.specs.PlanReading.{plan}
-use Rattle.net_plan.specs.Trees.{data_of}
-use Rattle.net_pointers.specs.Asks.{Asks, Sort, plan_text, certificate_text, events_text, asks_of, DoDiffer, IsDoubledIn, list_names}
-use Rattle.net_pointers.specs.Doubles.{IsFirstDoubled}
-use Rattle.net_pointers.specs.OrderOfTests.{IsFirstTrouble, IsTold}
-use Rattle.net_pointers.specs.declared.doubled.TwoIndices.{TwoIndices}
-use Rattle.net_pointers.specs.declared.order.NameList.{NameList}
-use Rattle.net_pointers.specs.declared.order.Trouble.{Trouble}
-use Rattle.net_pointers.specs.declared.ranges.Overlap.{Overlap}
-use Rattle.net_pointers.proofs.LateCertificates.{certificate_says}
-use Rattle.net_pointers.proofs.LateEvents.{events_say}
-use Rattle.net_pointers.proofs.LatePlans.{plan_says}
-use Rattle.net_pointers.proofs.Told.{refused_for}
+use Rattle.net_plan.{specs.CertificateReading.{certificate}, specs.EventReading.{events}, specs.Names.{names_differ}, specs.PlanReading.{plan}, specs.Trees.{data_of}}
+use Rattle.net_pointers.{specs.Asks.{Asks, Sort, plan_text, certificate_text, events_text, asks_of, DoDiffer, IsDoubledIn, list_names}, specs.Doubles.{IsFirstDoubled}, specs.OrderOfTests.{IsFirstTrouble, IsTold}, specs.declared.doubled.TwoIndices.{TwoIndices}, specs.declared.order.NameList.{NameList}, specs.declared.order.Trouble.{Trouble}, specs.declared.ranges.Overlap.{Overlap}, proofs.LateCertificates.{certificate_says}, proofs.LateEvents.{events_say}, proofs.LatePlans.{plan_says}, proofs.Told.{refused_for}}
 
 told_of : (s : Sort) (j : Json) (t : Option Trouble) → IsFirstTrouble (asks_of s (data_of j)) j t → IsTold s j t
 told_of plan_text j t h = record { first = h; refused = refused_for plan (asks_of plan_text (data_of j)) j (plan_says (data_of j)) t h }

@@ -1,17 +1,8 @@
 -- Ranges that don't ascend apart, as they are looked for.
-use Rattle.std.proofs.Common.{◌≡◌, ◌≢◌, ◌≤◌, ◌<◌, ◌+◌, ◌-◌, ◌==◌, ℕ, zero, suc, List, [], ◌∷◌, Bool, true, false, true≢false, nat_le, codes, length, get_or, Option, Some, None, refl, sym, ap, ◌∙◌, subst, arith, inl, inr}
-use Rattle.std.specs.Prelude.{IfSome, option_and_then}
-use Rattle.std.proofs.lemmas.Bool.{leb-true}
-use Rattle.std.proofs.lemmas.Bool.Decides.{Decides-eqb}
-use Rattle.std.proofs.lemmas.Option.{none-some, same_Some, option_and_then_some}
-use Rattle.serde_json.specs.Data.{Data, array, Items, no_items, item}
-use Rattle.serde_json.specs.Find.{get, at, get_item}
-use Rattle.net_plan.specs.Finding.{key, index}
-use Rattle.net_plan.specs.Trees.{Tree, view, items_view}
-use Rattle.net_plan.proofs.Telling.{both}
-use Rattle.net_pointers.specs.Ascending.{AreFirst, DoOverlap, IsBefore, IsFirst, OverlapIn, OverlapOf, OverlapAmong, first_in, end_in, ranges_ascend, list_ascends}
-use Rattle.net_pointers.specs.Pointers.{value_at}
-use Rattle.net_pointers.specs.declared.ranges.Overlap.{Overlap}
+use Rattle.std.{proofs.Common.{◌≡◌, ◌≢◌, ◌≤◌, ◌<◌, ◌+◌, ◌-◌, ◌==◌, ℕ, zero, suc, List, [], ◌∷◌, Bool, true, false, true≢false, nat_le, codes, length, get_or, Option, Some, None, refl, sym, ap, ◌∙◌, subst, arith, inl, inr}, specs.Prelude.{IfSome, option_and_then}, proofs.lemmas.Bool.{leb-true}, proofs.lemmas.Bool.Decides.{Decides-eqb}, proofs.lemmas.Option.{none-some, same_Some, option_and_then_some}}
+use Rattle.serde_json.{specs.Data.{Data, array, Items, no_items, item}, specs.Find.{get, at, get_item}}
+use Rattle.net_plan.{specs.Finding.{key, index}, specs.Trees.{Tree, view, items_view}, proofs.Telling.{both}}
+use Rattle.net_pointers.{specs.Ascending.{AreFirst, DoOverlap, IsBefore, IsFirst, OverlapIn, OverlapOf, OverlapAmong, first_in, end_in, ranges_ascend, list_ascends}, specs.Pointers.{value_at}, specs.declared.ranges.Overlap.{Overlap}}
 
 pub get_item_of_view : (vs : List Tree) (i : ℕ) (d : Tree) → i < length vs → get_item i (items_view vs) ≡ Some (view (get_or vs i d))
 get_item_of_view [] i d within = absurd (omega arith)

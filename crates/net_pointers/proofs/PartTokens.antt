@@ -1,7 +1,6 @@
 -- The parts of a value, as they are passed.
 use Rattle.std.proofs.Common.{◌≡◌, ◌-◌, ◌+◌, ◌<◌, ℕ, suc, List, Some, option_and_then, sym, ap, ◌∙◌, arith}
-use Rattle.json.specs.Json.{skip_value}
-use Rattle.json.specs.Token.{Token}
+use Rattle.json.{specs.Json.{skip_value}, specs.Token.{Token}}
 use Rattle.net_pointers.specs.PartTokens.{past_items, past_key, past_members}
 
 pub item_passed : (n k : ℕ) (ts us : List Token) → k < n → skip_value 127 ts ≡ Some us → past_items (n - (k + 1)) us ≡ past_items (n - k) ts

@@ -1,22 +1,10 @@
 -- The path of indices along which a pointer leads, as it is gone.
-use Rattle.std.proofs.Common.{◌≡◌, ◌<◌, ◌≤◌, ℕ, zero, suc, Bool, true, false, cond, List, [], ◌∷◌, ◌++◌, length, get_or, Option, Some, None, option_map, option_and_then, Bor, refl, sym, ap, ap₂, ◌∙◌, subst, append_assoc, arith}
-use Rattle.std.specs.Option.{option_or}
-use Rattle.std.specs.Slice.{IsItemAt}
-use Rattle.std.specs.Str.{bytes_eq}
-use Rattle.json.specs.Find.{later_or}
-use Rattle.json.specs.Find as find
-use Rattle.json.specs.Json.{Json, null, array, object, Items, no_items, item, Members, no_members, member}
-use Rattle.json.specs.Value.{value_view, items_view, members_view}
-use Rattle.json.proofs.Found.{Some_inj, not_found}
+use Rattle.std.{proofs.Common.{◌≡◌, ◌<◌, ◌≤◌, ℕ, zero, suc, Bool, true, false, cond, List, [], ◌∷◌, ◌++◌, length, get_or, Option, Some, None, option_map, option_and_then, Bor, refl, sym, ap, ap₂, ◌∙◌, subst, append_assoc, arith}, specs.Option.{option_or}, specs.Slice.{IsItemAt}, specs.Str.{bytes_eq}}
+use Rattle.json.{specs.Find.{later_or}, specs.Json.{Json, null, array, object, Items, no_items, item, Members, no_members, member}, specs.Value.{value_view, items_view, members_view}, proofs.Found.{Some_inj, not_found}}
 use Rattle.serde_json.specs.Find.{get_item}
-use Rattle.net_plan.specs.Finding.{Step, key, index}
-use Rattle.net_plan.specs.Trees.{Tree, data_of, items_of}
-use Rattle.net_plan.proofs.Trees.{get_of}
-use Rattle.net_pointers.specs.Doubles.{item_at, member_at, part_after, part_at}
-use Rattle.net_pointers.specs.Paths.{last_index, index_after, path_of}
-use Rattle.net_pointers.specs.Pointers.{value_after, value_at}
-use Rattle.net_pointers.proofs.Doubling.{item_of_view, member_of_view}
-use Rattle.net_pointers.proofs.Readings.{and_then_parts}
+use Rattle.net_plan.{specs.Finding.{Step, key, index}, specs.Trees.{Tree, data_of, items_of}, proofs.Trees.{get_of}}
+use Rattle.net_pointers.{specs.Doubles.{item_at, member_at, part_after, part_at}, specs.Paths.{last_index, index_after, path_of}, specs.Pointers.{value_after, value_at}, proofs.Doubling.{item_of_view, member_of_view}, proofs.Readings.{and_then_parts}}
+use Rattle.json.specs.Find as find
 
 -- an index was added to those in front
 added : (front : List ℕ) (i : ℕ) (o : Option (List ℕ)) → option_map (λ is. (front ++ i ∷ []) ++ is) o ≡ option_map (λ is. front ++ is) (option_map (λ is. i ∷ is) o)

@@ -1,13 +1,7 @@
 -- What is read where a path of indices leads.
 use Rattle.std.proofs.Common.{◌≡◌, ◌<◌, ℕ, zero, suc, List, [], ◌∷◌, length, get_or, Option, Some, None, option_map, option_and_then, refl, sym, ap, ◌∙◌, subst, arith}
-use Rattle.json.specs.Find.{BeginsWith, InItems, InMembers}
-use Rattle.json.specs.Json.{Json, array, object, Items, no_items, item, Members, no_members, member, parse_map, after_end_array, skip_value, value}
-use Rattle.json.specs.Strict.{keys}
-use Rattle.json.specs.Token.{Token}
-use Rattle.json.proofs.Found.{FirstOf, IsKey, Some_inj, items_close, items_go_on, members_close, members_go_on, members_short, not_found, one_reading, opened}
-use Rattle.json.proofs.Grammar.{closed_array, value_is}
-use Rattle.net_pointers.specs.Doubles.{item_at, member_at, part_after, part_at}
-use Rattle.net_pointers.specs.PartTokens.{past_items, past_key, past_members, from_key, from_part, from_path}
+use Rattle.json.{specs.Find.{BeginsWith, InItems, InMembers}, specs.Json.{Json, array, object, Items, no_items, item, Members, no_members, member, parse_map, after_end_array, skip_value, value}, specs.Strict.{keys}, specs.Token.{Token}, proofs.Found.{FirstOf, IsKey, Some_inj, items_close, items_go_on, members_close, members_go_on, members_short, not_found, one_reading, opened}, proofs.Grammar.{closed_array, value_is}}
+use Rattle.net_pointers.{specs.Doubles.{item_at, member_at, part_after, part_at}, specs.PartTokens.{past_items, past_key, past_members, from_key, from_part, from_path}}
 
 -- what was found in two steps
 pub and_then_parts : {A B : Type 0} (f : A → Option B) (o : Option A) (b : B) → option_and_then f o ≡ Some b → (a : A) × (o ≡ Some a) × (f a ≡ Some b)

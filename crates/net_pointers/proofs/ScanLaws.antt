@@ -1,19 +1,7 @@
 -- Each token of a text is found where it begins.
-use Rattle.std.proofs.Common.{◌≡◌, ◌≢◌, ◌⊎◌, inl, inr, ◌<◌, ◌≤◌, ◌+◌, ◌==◌, ◌||◌, ℕ, zero, suc, Bool, true, false, not, cond, List, [], ◌∷◌, ◌++◌, length, drop, get_or, nat_lt, Some, None, option_and_then, drop-cons, refl, sym, ap, ◌∙◌, subst, arith}
-use Rattle.std.specs.Prelude.{⊤}
-use Rattle.std.proofs.Math.Seq.{drop-nil}
-use Rattle.std.proofs.Math.ListN.{drop_of_length-le}
-use Rattle.std.specs.Char.{is_ascii_digit}
-use Rattle.std.specs.List.{prefix_len}
-use Rattle.std.proofs.lemmas.Bool.{true≢false, false≢true, eqb-true, ltb-true}
-use Rattle.std.proofs.lemmas.List.{append_assoc, append-nil, length-append}
-use Rattle.json.specs.Token.{Token, begin_object, end_object, begin_array, end_array, key, string, boolean, null, bad}
-use Rattle.json.specs.Text.{content, plain}
-use Rattle.json.specs.Ascii.{true_text, false_text, null_text}
-use Rattle.json.specs.Word.{word, after_digits, after_minus, after_whole, after_fraction, after_exponent, after_number, number_before, literal}
-use Rattle.json.specs.Lex.{Lexeme, token, comma, colon, Class, quote, backslash, operator, space, other, class, operator_lexeme, string_token, Mode, between, in_word, in_string, in_escape, lex_byte, lex, Place, fresh, after_value, after_comma, after_key, begins_colon, may_begin, may_close, if_allowed, place_token, punctuate, tokens}
-use Rattle.net_pointers.specs.Offsets.{is_mark}
-use Rattle.net_pointers.specs.Scans.{is_bracket, begins_token, mode_after}
+use Rattle.std.{proofs.Common.{◌≡◌, ◌≢◌, ◌⊎◌, inl, inr, ◌<◌, ◌≤◌, ◌+◌, ◌==◌, ◌||◌, ℕ, zero, suc, Bool, true, false, not, cond, List, [], ◌∷◌, ◌++◌, length, drop, get_or, nat_lt, Some, None, option_and_then, drop-cons, refl, sym, ap, ◌∙◌, subst, arith}, specs.Prelude.{⊤}, proofs.Math.Seq.{drop-nil}, proofs.Math.ListN.{drop_of_length-le}, specs.Char.{is_ascii_digit}, specs.List.{prefix_len}, proofs.lemmas.Bool.{true≢false, false≢true, eqb-true, ltb-true}, proofs.lemmas.List.{append_assoc, append-nil, length-append}}
+use Rattle.json.{specs.Token.{Token, begin_object, end_object, begin_array, end_array, key, string, boolean, null, bad}, specs.Text.{content, plain}, specs.Ascii.{true_text, false_text, null_text}, specs.Word.{word, after_digits, after_minus, after_whole, after_fraction, after_exponent, after_number, number_before, literal}, specs.Lex.{Lexeme, token, comma, colon, Class, quote, backslash, operator, space, other, class, operator_lexeme, string_token, Mode, between, in_word, in_string, in_escape, lex_byte, lex, Place, fresh, after_value, after_comma, after_key, begins_colon, may_begin, may_close, if_allowed, place_token, punctuate, tokens}}
+use Rattle.net_pointers.{specs.Offsets.{is_mark}, specs.Scans.{is_bracket, begins_token, mode_after}}
 
 -- ---- by the byte
 

@@ -1,10 +1,7 @@
 -- A text has no more tokens than can be counted.
 use Rattle.std.proofs.Common.{◌≡◌, ◌<◌, ℕ, List, length, Some, option_and_then, arith}
-use Rattle.json.specs.Lex.{tokens}
-use Rattle.json.specs.Token.{Token}
-use Rattle.net_pointers.specs.PartTokens.{from_path, from_key}
-use Rattle.net_pointers.proofs.ScanLaws.{tokens_short}
-use Rattle.net_pointers.proofs.Ends.{path_ends, path_key_ends, end_is}
+use Rattle.json.{specs.Lex.{tokens}, specs.Token.{Token}}
+use Rattle.net_pointers.{specs.PartTokens.{from_path, from_key}, proofs.ScanLaws.{tokens_short}, proofs.Ends.{path_ends, path_key_ends, end_is}}
 
 pub tokens_fit : (text : List ℕ) → length text < 9223372036854775808 → length (tokens text) < 18446744073709551616
 tokens_fit text fits = let short = tokens_short text in omega arith

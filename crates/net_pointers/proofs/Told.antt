@@ -1,26 +1,10 @@
 -- What is told of a text is that for which its reader refuses it.
-use Rattle.std.proofs.Common.{◌≡◌, Bool, true, false, true≢false, Option, Some, None, option_map, Result, Ok, Err, refl, sym, ap, ◌∙◌}
+use Rattle.std.{proofs.Common.{◌≡◌, Bool, true, false, true≢false, Option, Some, None, option_map, Result, Ok, Err, refl, sym, ap, ◌∙◌}, specs.Prelude.{codes}}
 use Rattle.json.specs.Json.{Json}
-use Rattle.serde_json.specs.Data.{Data}
-use Rattle.serde_json.specs.Find.{get}
-use Rattle.net_plan.specs.Finding.{Located, fault_of, first_fault, located}
-use Rattle.net_plan.specs.Refusals.{IsWellButForNames}
-use Rattle.net_plan.specs.SingleKeys.{single, unless_doubled}
-use Rattle.net_plan.specs.Trees.{data_of}
-use Rattle.net_plan.specs.declared.error.ValueFault.{ValueFault}
+use Rattle.serde_json.{specs.Data.{Data}, specs.Find.{get}}
+use Rattle.net_plan.{specs.Finding.{Located, fault_of, first_fault, located}, specs.Refusals.{IsWellButForNames}, specs.SingleKeys.{single, unless_doubled}, specs.Trees.{data_of}, specs.declared.error.ValueFault.{ValueFault}}
+use Rattle.net_pointers.{specs.Asks.{Asks, IsDoubledIn}, specs.OrderOfTests.{AreRight, AreEntriesSingle, AreApart, IsFirstTrouble, fault_in}, specs.Doubles.{IsFirstDoubledKey}, specs.declared.doubled.DoubledKey.{DoubledKey}, specs.declared.doubled.TwoIndices.{TwoIndices}, specs.declared.order.NameList.{NameList}, specs.declared.order.Trouble.{Trouble}, specs.declared.order.Trouble.TheVariants.{Value, DoubledName, Overlap, DoubledKey as DoubledKeyOf, UnknownName}, proofs.Doubling.{first_differs, single_parts}, proofs.ValueFaults.{IsOfValue, first_of_value}, specs.Ascending.{ranks_ascend}}
 use Rattle.net_plan.specs.declared.error.ValueFault.TheVariants as fault
-use Rattle.net_pointers.specs.Asks.{Asks, IsDoubledIn}
-use Rattle.net_pointers.specs.OrderOfTests.{AreRight, AreEntriesSingle, AreApart, IsFirstTrouble, fault_in}
-use Rattle.net_pointers.specs.Doubles.{IsFirstDoubledKey}
-use Rattle.net_pointers.specs.declared.doubled.DoubledKey.{DoubledKey}
-use Rattle.net_pointers.specs.declared.doubled.TwoIndices.{TwoIndices}
-use Rattle.net_pointers.specs.declared.order.NameList.{NameList}
-use Rattle.net_pointers.specs.declared.order.Trouble.{Trouble}
-use Rattle.net_pointers.specs.declared.order.Trouble.TheVariants.{Value, DoubledName, Overlap, DoubledKey as DoubledKeyOf, UnknownName}
-use Rattle.net_pointers.proofs.Doubling.{first_differs, single_parts}
-use Rattle.net_pointers.proofs.ValueFaults.{IsOfValue, first_of_value}
-use Rattle.std.specs.Prelude.{codes}
-use Rattle.net_pointers.specs.Ascending.{ranks_ascend}
 
 -- what a reader without the test of keys says, by the first fault in the order of tests
 pub record Says {A : Type 0} (said : Data → Result A ValueFault) (a : Asks) (d : Data) : Type 0 where

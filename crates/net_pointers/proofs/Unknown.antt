@@ -1,23 +1,8 @@
 -- What may be wrong among names that are known with a value in which nothing else is.
-use Rattle.std.proofs.Common.{◌≡◌, inl, inr, ℕ, suc, List, Bool, true, false, cond, Option, Some, None, option_and_then, refl, sym, ap, ◌∙◌, subst}
-use Rattle.std.proofs.lemmas.Option.{none-some, same_Some}
-use Rattle.std.specs.Option.{option_or}
-use Rattle.std.specs.Str.{bytes_eq}
-use Rattle.serde_json.specs.Data.{Data, null, Items, no_items, item}
-use Rattle.serde_json.specs.Find.{get}
-use Rattle.net_plan.specs.Finding.{fault_of, names_of, word_fault, unless_null, own_fault, Step, key, index, Located, under, here, in_items, in_list, inside, in_fields, in_choices, first_fault}
-use Rattle.net_plan.specs.Fitting.{IsWord, EachIs, Either, Fits, FieldsFit, ChoiceFits}
-use Rattle.net_plan.specs.Grammar.{Grammar, plain, a_list, an_optional, an_object, a_choice, Fields, no_fields, field, Known}
-use Rattle.net_plan.specs.Names.{text_of}
-use Rattle.net_plan.specs.Json.{demand, is_among}
-use Rattle.net_plan.specs.Reading.{then_with}
-use Rattle.net_plan.specs.declared.error.ValueFault.{ValueFault}
-use Rattle.net_plan.specs.declared.error.ValueFault.TheVariants.{UnknownName}
-use Rattle.net_plan.specs.declared.shape.Named.{Named}
-use Rattle.net_plan.specs.declared.shape.Word.{Word}
+use Rattle.std.{proofs.Common.{◌≡◌, inl, inr, ℕ, suc, List, Bool, true, false, cond, Option, Some, None, option_and_then, refl, sym, ap, ◌∙◌, subst}, proofs.lemmas.Option.{none-some, same_Some}, specs.Option.{option_or}, specs.Str.{bytes_eq}}
+use Rattle.serde_json.{specs.Data.{Data, null, Items, no_items, item}, specs.Find.{get}}
+use Rattle.net_plan.{specs.Finding.{fault_of, names_of, word_fault, unless_null, own_fault, Step, key, index, Located, under, here, in_items, in_list, inside, in_fields, in_choices, first_fault}, specs.Fitting.{IsWord, EachIs, Either, Fits, FieldsFit, ChoiceFits}, specs.Grammar.{Grammar, plain, a_list, an_optional, an_object, a_choice, Fields, no_fields, field, Known}, specs.Names.{text_of}, specs.Json.{demand, is_among}, specs.Reading.{then_with}, specs.declared.error.ValueFault.{ValueFault}, specs.declared.error.ValueFault.TheVariants.{UnknownName}, specs.declared.shape.Named.{Named}, specs.declared.shape.Word.{Word}, proofs.Fitting.{own_whole, inside_null}, proofs.WordsLaw.{name_tells}}
 use Rattle.net_plan.specs.declared.shape.Word.TheVariants as word
-use Rattle.net_plan.proofs.Fitting.{own_whole, inside_null}
-use Rattle.net_plan.proofs.WordsLaw.{name_tells}
 
 -- the fault, if there is one, is a name that is not known
 abbrev AreNames : Option ValueFault → Type 0

@@ -1,24 +1,13 @@
 -- Which faults a value has in itself where any names will do.
-use Rattle.std.proofs.Common.{◌≡◌, ℕ, List, Bool, true, false, not, Option, Some, None, Result, Ok, Err, subst}
-use Rattle.std.specs.Prelude.{⊤, if◌then◌else◌, nat_le, ◌&&◌, length, codes}
-use Rattle.std.specs.Str.{bytes_eq}
-use Rattle.std.proofs.lemmas.Option.{none-some, same_Some}
-use Rattle.hex.specs.Hex.{decode_of}
-use Rattle.hex.specs.declared.error.FromHexError.{FromHexError}
-use Rattle.serde_json.specs.Data.{Num, Data, null, boolean, number, string, array, object, Items, Members}
-use Rattle.serde_json.specs.Find.{get, as_u64}
+use Rattle.std.{proofs.Common.{◌≡◌, ℕ, List, Bool, true, false, not, Option, Some, None, Result, Ok, Err, subst}, specs.Prelude.{⊤, if◌then◌else◌, nat_le, ◌&&◌, length, codes}, specs.Str.{bytes_eq}, proofs.lemmas.Option.{none-some, same_Some}}
+use Rattle.hex.{specs.Hex.{decode_of}, specs.declared.error.FromHexError.{FromHexError}}
+use Rattle.serde_json.{specs.Data.{Num, Data, null, boolean, number, string, array, object, Items, Members}, specs.Find.{get, as_u64}}
 use Rattle.plan_values.specs.NameText.{is_name}
-use Rattle.net_plan.specs.Finding.{Located, fault_of, known_name, word_fault, word_among, is_within, short_list, unless_null, passes, has_key, is_late, range_end, own_fault}
-use Rattle.net_plan.specs.Grammar.{Grammar, plain, one_of, a_list, an_optional, an_object, a_choice, keys_of}
-use Rattle.net_plan.specs.Json.{demand, found, is_among, has_unknown_key, lacks_key, keyed, some_object, number_within, whole_number, truth, name_text, decoded, hex_text, address_text, kind_text, items_count}
-use Rattle.net_plan.specs.Reading.{then_with}
-use Rattle.net_plan.specs.declared.error.ValueFault.{ValueFault}
-use Rattle.net_plan.specs.declared.error.ValueFault.TheVariants as fault
-use Rattle.net_plan.specs.declared.shape.Rule.{Rule}
-use Rattle.net_plan.specs.declared.shape.Rule.TheVariants as rule
-use Rattle.net_plan.specs.declared.shape.Word.{Word}
-use Rattle.net_plan.specs.declared.shape.Word.TheVariants as word
+use Rattle.net_plan.{specs.Finding.{Located, fault_of, known_name, word_fault, word_among, is_within, short_list, unless_null, passes, has_key, is_late, range_end, own_fault}, specs.Grammar.{Grammar, plain, one_of, a_list, an_optional, an_object, a_choice, keys_of}, specs.Json.{demand, found, is_among, has_unknown_key, lacks_key, keyed, some_object, number_within, whole_number, truth, name_text, decoded, hex_text, address_text, kind_text, items_count}, specs.Reading.{then_with}, specs.declared.error.ValueFault.{ValueFault}, specs.declared.shape.Rule.{Rule}, specs.declared.shape.Word.{Word}}
 use Rattle.net_pointers.specs.Pointers.{HasFaultAt}
+use Rattle.net_plan.specs.declared.error.ValueFault.TheVariants as fault
+use Rattle.net_plan.specs.declared.shape.Rule.TheVariants as rule
+use Rattle.net_plan.specs.declared.shape.Word.TheVariants as word
 
 -- neither a doubled thing, nor an unknown name, nor want of memory
 abbrev pub IsOfValue : ValueFault → Type 0

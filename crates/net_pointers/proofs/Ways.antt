@@ -1,16 +1,7 @@
 -- A path that leads to a part of a value leads through its tokens.
-use Rattle.std.proofs.Common.{◌≡◌, ◌≢◌, ℕ, zero, suc, List, [], ◌∷◌, length, Option, Some, None, option_map, option_and_then, refl, sym, ap, ◌∙◌, subst, arith}
-use Rattle.json.specs.Json.{Json, null, boolean, number, string, array, object, Items, item, Members, member, Parse, parse_map, after_end_array, read_key, items_step, members_step, items, members, value_with, value, skip_value}
-use Rattle.json.specs.Token.{Token}
-use Rattle.std.specs.Prelude.{⊤}
-use Rattle.json.proofs.Grammar.{read_key_is, value_is}
-use Rattle.json.proofs.Found.{Some_inj, not_found}
-use Rattle.json.proofs.Nesting.{value-depth}
-use Rattle.json.proofs.Printed.Trees.{value-json_tokens}
-use Rattle.json.proofs.Unique.Spelling.{value-json_tokens_back}
-use Rattle.net_pointers.specs.Doubles.{item_at, member_at, part_after, part_at}
-use Rattle.net_pointers.specs.PartTokens.{past_items, past_key, past_members, from_key, from_part, from_path}
-use Rattle.net_pointers.proofs.Readings.{and_then_parts, opened_as}
+use Rattle.std.{proofs.Common.{◌≡◌, ◌≢◌, ℕ, zero, suc, List, [], ◌∷◌, length, Option, Some, None, option_map, option_and_then, refl, sym, ap, ◌∙◌, subst, arith}, specs.Prelude.{⊤}}
+use Rattle.json.{specs.Json.{Json, null, boolean, number, string, array, object, Items, item, Members, member, Parse, parse_map, after_end_array, read_key, items_step, members_step, items, members, value_with, value, skip_value}, specs.Token.{Token}, proofs.Grammar.{read_key_is, value_is}, proofs.Found.{Some_inj, not_found}, proofs.Nesting.{value-depth}, proofs.Printed.Trees.{value-json_tokens}, proofs.Unique.Spelling.{value-json_tokens_back}}
+use Rattle.net_pointers.{specs.Doubles.{item_at, member_at, part_after, part_at}, specs.PartTokens.{past_items, past_key, past_members, from_key, from_part, from_path}, proofs.Readings.{and_then_parts, opened_as}}
 
 -- a value that begins here, nested no deeper than where it can be passed
 abbrev pub Begins : List Token → Json → Type 0

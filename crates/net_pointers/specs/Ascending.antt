@@ -1,13 +1,8 @@
 -- Whether the ranges of a certificate's ranks ascend apart, by functions.
-use Rattle.std.specs.Prelude.{◌≡◌, ◌⊎◌, ◌<◌, ◌+◌, ℕ, codes, ◌&&◌, Bool, true, nat_le, [], ◌∷◌}
-use Rattle.std.specs.Prelude.{Option, Some, Result, Ok, Err}
-use Rattle.serde_json.specs.Data.{Data, array, Items, no_items, item}
-use Rattle.serde_json.specs.Find.{get, at, get_item}
-use Rattle.net_plan.specs.Finding.{key, index, range_end}
-use Rattle.net_plan.specs.Json.{at_key, whole_number}
-use Rattle.net_plan.specs.declared.error.ValueFault.{ValueFault}
-use Rattle.net_pointers.specs.Pointers.{value_at}
-use Rattle.net_pointers.specs.declared.ranges.Overlap.{Overlap}
+use Rattle.std.specs.Prelude.{◌≡◌, ◌⊎◌, ◌<◌, ◌+◌, ℕ, codes, ◌&&◌, Bool, true, nat_le, [], ◌∷◌, Option, Some, Result, Ok, Err}
+use Rattle.serde_json.{specs.Data.{Data, array, Items, no_items, item}, specs.Find.{get, at, get_item}}
+use Rattle.net_plan.{specs.Finding.{key, index, range_end}, specs.Json.{at_key, whole_number}, specs.declared.error.ValueFault.{ValueFault}}
+use Rattle.net_pointers.{specs.Pointers.{value_at}, specs.declared.ranges.Overlap.{Overlap}}
 
 -- a number that was read, 0 where none was
 abbrev pub number_or_zero : Result ℕ ValueFault → ℕ

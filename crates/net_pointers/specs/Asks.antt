@@ -1,19 +1,9 @@
 -- What is asked of a text that is JSON.
 use Rattle.std.specs.Prelude.{◌≡◌, ◌⊎◌, ⊤, ℕ, codes, Bool, true, false, List, [], ◌∷◌, Option, Some, None}
-use Rattle.serde_json.specs.Data.{Data}
-use Rattle.serde_json.specs.Find.{get}
-use Rattle.net_plan.specs.EventReading.{events_format}
-use Rattle.net_plan.specs.Grammar.{Grammar, Known, grammar, known_view}
-use Rattle.net_plan.specs.Names.{names_at, names_differ, texts_at}
-use Rattle.net_plan.specs.PlanReading.{plan_format}
-use Rattle.net_plan.specs.Tables.{a_plan, a_certificate, events_in}
+use Rattle.serde_json.{specs.Data.{Data}, specs.Find.{get}}
+use Rattle.net_plan.{specs.EventReading.{events_format}, specs.Grammar.{Grammar, Known, grammar, known_view}, specs.Names.{names_at, names_differ, texts_at}, specs.PlanReading.{plan_format}, specs.Tables.{a_plan, a_certificate, events_in}}
 use Rattle.plan_values.specs.PlanValues.{plan_value, node_names}
-use Rattle.net_pointers.specs.Doubles.{IsFirstDoubled}
-use Rattle.net_pointers.specs.declared.doubled.TwoIndices.{TwoIndices}
-use Rattle.net_pointers.specs.declared.order.Asked.{Asked}
-use Rattle.net_pointers.specs.declared.order.NameList.{NameList}
-use Rattle.net_pointers.specs.declared.order.NameList.TheVariants.{Buses, Levels, Places, Ranks}
-use Rattle.net_pointers.specs.declared.order.TextSort.{TextSort}
+use Rattle.net_pointers.{specs.Doubles.{IsFirstDoubled}, specs.declared.doubled.TwoIndices.{TwoIndices}, specs.declared.order.Asked.{Asked}, specs.declared.order.NameList.{NameList}, specs.declared.order.NameList.TheVariants.{Buses, Levels, Places, Ranks}, specs.declared.order.TextSort.{TextSort}}
 use Rattle.net_pointers.specs.declared.order.TextSort.TheVariants as of_text
 
 -- ---- names

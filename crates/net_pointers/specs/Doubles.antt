@@ -1,12 +1,8 @@
 -- Names and keys that stand twice.
-use Rattle.std.specs.Prelude.{◌≡◌, ◌≢◌, ◌<◌, ◌⊎◌, ⊤, true, ℕ, zero, suc, List, [], ◌∷◌, length, take, get_or, AllPairs}
-use Rattle.std.specs.Prelude.{Option, Some, None, option_and_then}
-use Rattle.json.specs.Json.{Json, null, boolean, number, string, array, object}
-use Rattle.json.specs.Json.{Items, no_items, item, Members, no_members, member}
-use Rattle.json.specs.Strict.{keys}
+use Rattle.std.specs.Prelude.{◌≡◌, ◌≢◌, ◌<◌, ◌⊎◌, ⊤, true, ℕ, zero, suc, List, [], ◌∷◌, length, take, get_or, AllPairs, Option, Some, None, option_and_then}
+use Rattle.json.{specs.Json.{Json, null, boolean, number, string, array, object, Items, no_items, item, Members, no_members, member}, specs.Strict.{keys}}
 use Rattle.net_plan.specs.Names.{names_differ}
-use Rattle.net_pointers.specs.declared.doubled.DoubledKey.{DoubledKey}
-use Rattle.net_pointers.specs.declared.doubled.TwoIndices.{TwoIndices}
+use Rattle.net_pointers.{specs.declared.doubled.DoubledKey.{DoubledKey}, specs.declared.doubled.TwoIndices.{TwoIndices}}
 
 -- the first name that stands twice in a list, and where it does
 pub record IsFirstDoubled (names : List (List ℕ)) (p : TwoIndices) : Type 0 where

@@ -1,7 +1,5 @@
 -- The name that is nearest to another.
-use Rattle.std.specs.Prelude.{◌<◌, ◌≤◌, ◌/◌, ℕ, nat_eq, List, map, length, get_or, All, Option, Some, None}
-use Rattle.std.specs.Char.{to_ascii_lowercase}
-use Rattle.std.specs.Str.{chars}
+use Rattle.std.{specs.Prelude.{◌<◌, ◌≤◌, ◌/◌, ℕ, nat_eq, List, map, length, get_or, All, Option, Some, None}, specs.Char.{to_ascii_lowercase}, specs.Str.{chars}}
 use Rattle.strsim.specs.Edits.{levenshtein_row}
 
 -- a name in small letters

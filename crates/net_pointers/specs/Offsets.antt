@@ -1,18 +1,8 @@
 -- Where in a text a value stands.
-use Rattle.std.specs.Prelude.{◌≡◌, ◌<◌, ◌==◌, ◌||◌, ℕ, Bool, false, List, [], ◌∷◌, length, drop, get_or}
-use Rattle.std.specs.Prelude.{Some, option_and_then, IsUtf8}
-use Rattle.json.specs.Find.{BeginsWith}
-use Rattle.json.specs.Json.{Json, Members, object}
-use Rattle.json.specs.Lex.{tokens}
-use Rattle.json.specs.Strict.{keys}
-use Rattle.json.specs.Token.{Token}
-use Rattle.net_plan.specs.Texts.{IsTree}
-use Rattle.net_plan.specs.Trees.{data_of}
-use Rattle.net_pointers.specs.Doubles.{part_at}
-use Rattle.net_pointers.specs.PartTokens.{from_key, from_path}
-use Rattle.net_pointers.specs.Paths.{path_of}
-use Rattle.net_plan.specs.Finding.{Step}
-use Rattle.net_pointers.specs.Pointers.{value_at}
+use Rattle.std.specs.Prelude.{◌≡◌, ◌<◌, ◌==◌, ◌||◌, ℕ, Bool, false, List, [], ◌∷◌, length, drop, get_or, Some, option_and_then, IsUtf8}
+use Rattle.json.{specs.Find.{BeginsWith}, specs.Json.{Json, Members, object}, specs.Lex.{tokens}, specs.Strict.{keys}, specs.Token.{Token}}
+use Rattle.net_plan.{specs.Texts.{IsTree}, specs.Trees.{data_of}, specs.Finding.{Step}}
+use Rattle.net_pointers.{specs.Doubles.{part_at}, specs.PartTokens.{from_key, from_path}, specs.Paths.{path_of}, specs.Pointers.{value_at}}
 
 -- the bytes are UTF-8, and JSON of this tree
 abbrev pub IsTextOf : List ℕ → Json → Type 0

@@ -1,24 +1,10 @@
 -- The order of tests of a text that is JSON (docs/FORMATS.md), by what is told of it: the first fault that applies.
 use Rattle.std.specs.Prelude.{◌≡◌, true, false, codes, Option, Some, None, option_map}
 use Rattle.json.specs.Json.{Json}
-use Rattle.serde_json.specs.Data.{Data}
-use Rattle.serde_json.specs.Find.{get}
-use Rattle.net_plan.specs.CertificateReading.{certificate}
-use Rattle.net_plan.specs.EventReading.{events}
-use Rattle.net_plan.specs.Finding.{Located, fault_of, first_fault, located}
-use Rattle.net_plan.specs.Grammar.{Grammar, Known}
-use Rattle.net_plan.specs.PlanReading.{plan}
-use Rattle.net_plan.specs.SingleKeys.{single, unless_doubled}
-use Rattle.net_plan.specs.Trees.{data_of}
-use Rattle.net_plan.specs.declared.error.ValueFault.{ValueFault}
+use Rattle.serde_json.{specs.Data.{Data}, specs.Find.{get}}
+use Rattle.net_plan.{specs.CertificateReading.{certificate}, specs.EventReading.{events}, specs.Finding.{Located, fault_of, first_fault, located}, specs.Grammar.{Grammar, Known}, specs.PlanReading.{plan}, specs.SingleKeys.{single, unless_doubled}, specs.Trees.{data_of}, specs.declared.error.ValueFault.{ValueFault}}
+use Rattle.net_pointers.{specs.Ascending.{ranks_ascend, AreFirst, DoOverlap}, specs.Asks.{Asks, DoDiffer, IsDoubledIn, asks_of, Sort, plan_text, certificate_text, events_text}, specs.Doubles.{IsFirstDoubledKey}, specs.Pointers.{HasFaultAt}, specs.declared.order.Trouble.{Trouble}, specs.declared.order.Trouble.TheVariants.{Value, DoubledName, Overlap, DoubledKey, UnknownName}}
 use Rattle.net_plan.specs.declared.error.ValueFault.TheVariants as fault
-use Rattle.net_pointers.specs.Ascending.{ranks_ascend, AreFirst, DoOverlap}
-use Rattle.net_pointers.specs.Asks.{Asks, DoDiffer, IsDoubledIn, asks_of}
-use Rattle.net_pointers.specs.Asks.{Sort, plan_text, certificate_text, events_text}
-use Rattle.net_pointers.specs.Doubles.{IsFirstDoubledKey}
-use Rattle.net_pointers.specs.Pointers.{HasFaultAt}
-use Rattle.net_pointers.specs.declared.order.Trouble.{Trouble}
-use Rattle.net_pointers.specs.declared.order.Trouble.TheVariants.{Value, DoubledName, Overlap, DoubledKey, UnknownName}
 
 -- in the order of tests, depth first, this is the first fault of a value; the pointer leads to what has it in itself
 abbrev pub IsFirstFaultAt : Option Known → Grammar → Data → Located → Type 0

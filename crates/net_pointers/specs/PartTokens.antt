@@ -1,7 +1,6 @@
 -- Where the parts of a value stand in its tokens.
 use Rattle.std.specs.Prelude.{ℕ, zero, suc, List, [], ◌∷◌, Option, Some, None, option_and_then}
-use Rattle.json.specs.Json.{skip_value}
-use Rattle.json.specs.Token.{Token}
+use Rattle.json.{specs.Json.{skip_value}, specs.Token.{Token}}
 
 -- the tokens after so many items
 abbrev pub past_items : ℕ → List Token → Option (List Token)

@@ -1,7 +1,5 @@
 -- The path of indices along which a JSON pointer leads in a tree.
-use Rattle.std.specs.Prelude.{ℕ, suc, List, [], ◌∷◌, cond, Option, Some, None, option_map, option_and_then}
-use Rattle.std.specs.Option.{option_or}
-use Rattle.std.specs.Str.{bytes_eq}
+use Rattle.std.{specs.Prelude.{ℕ, suc, List, [], ◌∷◌, cond, Option, Some, None, option_map, option_and_then}, specs.Option.{option_or}, specs.Str.{bytes_eq}}
 use Rattle.json.specs.Json.{Json, null, boolean, number, string, array, object, Members, no_members, member}
 use Rattle.net_plan.specs.Finding.{Step, key, index}
 use Rattle.net_pointers.specs.Doubles.{part_after}

@@ -1,10 +1,7 @@
 -- JSON pointers (RFC 6901) as lists of steps: where they lead, and that a value there has a fault.
 use Rattle.std.specs.Prelude.{◌≡◌, ◌⊎◌, ℕ, List, [], ◌∷◌, Option, Some, None, option_and_then}
-use Rattle.serde_json.specs.Data.{Data}
-use Rattle.serde_json.specs.Find.{get, at}
-use Rattle.net_plan.specs.Finding.{Step, key, index, Located, own_fault}
-use Rattle.net_plan.specs.Grammar.{Grammar, plain, one_of, a_list, an_optional, an_object, a_choice}
-use Rattle.net_plan.specs.Grammar.{Fields, no_fields, field, fields_of, Known}
+use Rattle.serde_json.{specs.Data.{Data}, specs.Find.{get, at}}
+use Rattle.net_plan.{specs.Finding.{Step, key, index, Located, own_fault}, specs.Grammar.{Grammar, plain, one_of, a_list, an_optional, an_object, a_choice, Fields, no_fields, field, fields_of, Known}}
 
 -- the value that one step leads to
 abbrev pub value_after : Step → Data → Option Data

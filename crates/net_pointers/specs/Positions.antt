@@ -1,6 +1,5 @@
 -- Lines and columns.
-use Rattle.std.specs.Prelude.{ℕ, List, [], ◌∷◌, ◌||◌, ◌==◌, Bool, nat_lt, nat_le, if◌then◌else◌}
-use Rattle.std.specs.List.{list_any}
+use Rattle.std.{specs.Prelude.{ℕ, List, [], ◌∷◌, ◌||◌, ◌==◌, Bool, nat_lt, nat_le, if◌then◌else◌}, specs.List.{list_any}}
 
 -- a line feed
 abbrev pub is_line_feed : ℕ → Bool

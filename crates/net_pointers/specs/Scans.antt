@@ -1,11 +1,7 @@
 -- Where in a JSON text its tokens begin.
-use Rattle.std.specs.Prelude.{◌≡◌, ◌≢◌, ◌==◌, ◌||◌, not, ℕ, Bool, false, cond}
-use Rattle.std.specs.Prelude.{List, ◌∷◌, ◌++◌, length, Option, Some, None}
-use Rattle.json.specs.Lex.{Mode, between, in_word, in_string, in_escape}
-use Rattle.json.specs.Token.{Token}
-use Rattle.net_pointers.specs.Offsets.{is_mark}
-use Rattle.net_pointers.specs.declared.scan.Mode.{Mode as Within}
-use Rattle.net_pointers.specs.declared.scan.Mode.TheVariants.{Between, InWord, InString, InEscape}
+use Rattle.std.specs.Prelude.{◌≡◌, ◌≢◌, ◌==◌, ◌||◌, not, ℕ, Bool, false, cond, List, ◌∷◌, ◌++◌, length, Option, Some, None}
+use Rattle.json.{specs.Lex.{Mode, between, in_word, in_string, in_escape}, specs.Token.{Token}}
+use Rattle.net_pointers.{specs.Offsets.{is_mark}, specs.declared.scan.Mode.{Mode as Within}, specs.declared.scan.Mode.TheVariants.{Between, InWord, InString, InEscape}}
 
 abbrev pub is_bracket : ℕ → Bool
 is_bracket b = b == 91 || b == 93 || b == 123 || b == 125

@@ -1,13 +1,7 @@
 //! Names and keys that stand twice.
-ghost use Rattle.std.specs.Prelude.{◌≡◌, true, map, IfOk, MatchOption};
-ghost use Rattle.std.specs.BTreeMap.{get_by};
-ghost use Rattle.std.specs.Cmp.Lexicographic.{slice_cmp};
-ghost use Rattle.std.specs.Ordering.{nat_cmp};
-ghost use Rattle.json.specs.Json.{array, object};
-ghost use Rattle.json.specs.Strict.{keys};
-ghost use Rattle.json.specs.Value.{value_view, items_view, members_view};
-ghost use Rattle.net_plan.specs.Names.{names_differ};
-ghost use Rattle.net_plan.specs.SingleKeys.{single, items_single, members_single};
+ghost use Rattle.std.{specs.Prelude.{◌≡◌, true, map, IfOk, MatchOption}, specs.BTreeMap.{get_by}, specs.Cmp.Lexicographic.{slice_cmp}, specs.Ordering.{nat_cmp}};
+ghost use Rattle.json.{specs.Json.{array, object}, specs.Strict.{keys}, specs.Value.{value_view, items_view, members_view}};
+ghost use Rattle.net_plan.{specs.Names.{names_differ}, specs.SingleKeys.{single, items_single, members_single}};
 ghost use Rattle.net_pointers.specs.Doubles.{IsFirstDoubled, IsFirstDoubledKey};
 
 use json::Value;

@@ -1,10 +1,8 @@
 //! The names that are known where a text is searched.
 ghost use Rattle.std.specs.Prelude.{◌≡◌, map, IfOk};
 ghost use Rattle.serde_json.specs.Find.{get};
-ghost use Rattle.net_plan.specs.Names.{names_at, text_at, texts_at};
+ghost use Rattle.net_plan.{specs.Names.{names_at, text_at, texts_at}, specs.Trees.{view}, specs.Grammar.{known_view}};
 ghost use Rattle.plan_values.specs.PlanValues.{name_bytes, node_value, node_names};
-ghost use Rattle.net_plan.specs.Trees.{view};
-ghost use Rattle.net_plan.specs.Grammar.{known_view};
 ghost use Rattle.net_pointers.specs.Asks.{known_in, known_nodes, texts_in};
 
 use json::Value;

@@ -1,18 +1,8 @@
 //! Where in a text the value stands to which a JSON pointer leads.
 ghost use Rattle.std.specs.Prelude.{◌≡◌, ◌≢◌, ◌∷◌, ◌<◌, ℕ, Option, Some, None, List, length, map, option_and_then, IfOk, IfSome, IsSome, IsSomeAnd, MatchOption, IsUtf8};
-ghost use Rattle.json.specs.Json.{Json, Members, object};
-ghost use Rattle.json.specs.Lex.{tokens};
-ghost use Rattle.json.specs.Strict.{keys};
-ghost use Rattle.json.specs.Token.{Token};
-ghost use Rattle.json.specs.Value.{value_view};
-ghost use Rattle.net_plan.specs.Texts.{IsTree};
-ghost use Rattle.net_plan.specs.Trees.{view};
-ghost use Rattle.net_pointers.specs.Doubles.{part_at};
-ghost use Rattle.net_pointers.specs.Offsets.{IsTextOf, AreTokensFrom, PartStandsAt, KeyStandsAt, LeadsTo, LeadsToKey};
-ghost use Rattle.net_pointers.specs.PartTokens.{from_path, from_key};
-ghost use Rattle.net_pointers.specs.Pointers.{value_at};
-ghost use Rattle.net_pointers.specs.Scans.{Ends, AreLeft};
-ghost use Rattle.net_plan.specs.Finding.{step_value};
+ghost use Rattle.json.{specs.Json.{Json, Members, object}, specs.Lex.{tokens}, specs.Strict.{keys}, specs.Token.{Token}, specs.Value.{value_view}};
+ghost use Rattle.net_plan.{specs.Texts.{IsTree}, specs.Trees.{view}, specs.Finding.{step_value}};
+ghost use Rattle.net_pointers.{specs.Doubles.{part_at}, specs.Offsets.{IsTextOf, AreTokensFrom, PartStandsAt, KeyStandsAt, LeadsTo, LeadsToKey}, specs.PartTokens.{from_path, from_key}, specs.Pointers.{value_at}, specs.Scans.{Ends, AreLeft}};
 
 use crate::path::path_of;
 use crate::scan::token_offset;

@@ -3,9 +3,7 @@ ghost use Rattle.std.specs.Prelude.{◌≡◌, true, false, IfOk, MatchOption, c
 ghost use Rattle.json.specs.Value.{value_view};
 ghost use Rattle.serde_json.specs.Find.{get};
 ghost use Rattle.net_plan.specs.Trees.{view};
-ghost use Rattle.net_pointers.specs.Ascending.{AreFirst, DoOverlap, ranks_ascend};
-ghost use Rattle.net_pointers.specs.Asks.{DoDiffer, IsDoubledIn, asks, asks_of, list_key, list_names, name_key, sort_of};
-ghost use Rattle.net_pointers.specs.OrderOfTests.{IsFirstTrouble, IsTold, fault_in};
+ghost use Rattle.net_pointers.{specs.Ascending.{AreFirst, DoOverlap, ranks_ascend}, specs.Asks.{DoDiffer, IsDoubledIn, asks, asks_of, list_key, list_names, name_key, sort_of}, specs.OrderOfTests.{IsFirstTrouble, IsTold, fault_in}};
 
 use crate::doubled::{DoubledKey, TwoIndices, doubled_key, first_doubled};
 use crate::known::{known_names, names_of_nodes, texts_at};

@@ -2,8 +2,7 @@
 ghost use Rattle.std.specs.Prelude.{◌≡◌, IfOk, map, option_map};
 ghost use Rattle.json.specs.Value.{value_view, items_view, members_view};
 ghost use Rattle.net_plan.specs.Finding.{step_value};
-ghost use Rattle.net_pointers.specs.Doubles.{item_at, member_at, part_after};
-ghost use Rattle.net_pointers.specs.Paths.{last_index, index_after, path_of};
+ghost use Rattle.net_pointers.{specs.Doubles.{item_at, member_at, part_after}, specs.Paths.{last_index, index_after, path_of}};
 
 use json::Value;
 use net_plan::PointerStep;

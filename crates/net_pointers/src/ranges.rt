@@ -1,8 +1,7 @@
 //! Ranges of a certificate's ranks that don't ascend apart.
 ghost use Rattle.std.specs.Prelude.{◌≡◌, codes, not, is_some, Some, IfSome};
 ghost use Rattle.net_plan.specs.Trees.{view, items_view};
-ghost use Rattle.serde_json.specs.Data.{array, Items};
-ghost use Rattle.serde_json.specs.Find.{get};
+ghost use Rattle.serde_json.{specs.Data.{array, Items}, specs.Find.{get}};
 ghost use Rattle.net_pointers.specs.Ascending.{ranges_ascend, list_ascends, entries_ascend, ranks_ascend, AreFirst, IsFirst, OverlapIn, OverlapOf, OverlapAmong, first_in, end_in, DoOverlap};
 
 use json::Value;

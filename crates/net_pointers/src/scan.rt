@@ -1,9 +1,7 @@
 //! Where in a JSON text its tokens begin.
 ghost use Rattle.std.specs.Prelude.{◌≡◌, ◌≢◌, ◌∷◌, List, drop, IsSomeAnd};
-ghost use Rattle.json.specs.Lex.{tokens};
-ghost use Rattle.json.specs.Token.{Token};
-ghost use Rattle.net_pointers.specs.Offsets.{is_mark, AreTokensFrom};
-ghost use Rattle.net_pointers.specs.Scans.{begins_token, mode_after, lexed, is_bracket};
+ghost use Rattle.json.{specs.Lex.{tokens}, specs.Token.{Token}};
+ghost use Rattle.net_pointers.{specs.Offsets.{is_mark, AreTokensFrom}, specs.Scans.{begins_token, mode_after, lexed, is_bracket}};
 
 /// Within what a byte of a JSON text stands.
 #[derive(Clone, Copy)]

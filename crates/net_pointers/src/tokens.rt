@@ -1,7 +1,6 @@
 //! Going through the tokens of a text, and counting them.
 ghost use Rattle.std.specs.Prelude.{◌≡◌, ◌<◌, Some, None, MatchOption, length, option_and_then};
-ghost use Rattle.net_pointers.specs.Scans.{AreLeft};
-ghost use Rattle.net_pointers.specs.PartTokens.{past_items, past_key, past_members, from_key, from_part, from_path};
+ghost use Rattle.net_pointers.{specs.Scans.{AreLeft}, specs.PartTokens.{past_items, past_key, past_members, from_key, from_part, from_path}};
 
 use json::{Reader, Token};
 

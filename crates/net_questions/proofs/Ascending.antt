@@ -1,13 +1,8 @@
 -- Lists of all that is so, in order, made one after another.
-use Rattle.std.proofs.Common.{◌≡◌, ℕ, zero, suc, ◌+◌, ◌<◌, List, [], ◌∷◌, ◌++◌, refl, sym, ap, ◌∙◌, subst, arith, inl, inr, ◌⊎◌, append-nil, append_assoc}
-use Rattle.std.specs.Prelude.{Contains, AllPairs}
-use Rattle.std.proofs.lemmas.Bool.{cases_lt}
-use Rattle.std.proofs.lemmas.List.Elements.{All-nil, All-append, All-contains_itself, Contains-append_left, Contains-append_right, Contains-append_cases}
-use Rattle.std.proofs.lemmas.List.Kept.{AllPairs-cons}
+use Rattle.std.{proofs.Common.{◌≡◌, ℕ, zero, suc, ◌+◌, ◌<◌, List, [], ◌∷◌, ◌++◌, refl, sym, ap, ◌∙◌, subst, arith, inl, inr, ◌⊎◌, append-nil, append_assoc}, specs.Prelude.{Contains, AllPairs}, proofs.lemmas.Bool.{cases_lt}, proofs.lemmas.List.Elements.{All-nil, All-append, All-contains_itself, Contains-append_left, Contains-append_right, Contains-append_cases}, proofs.lemmas.List.Kept.{AllPairs-cons}}
 use Rattle.plan_values.specs.declared.plan.Plan.{Plan}
 use Rattle.net_rules.specs.Faults.{LessByFirstDifference}
-use Rattle.net_questions.specs.declared.finding.Finding.{Finding}
-use Rattle.net_questions.specs.Findings.{IsSo, key_of, ComesBefore, BeginsWith, Ascend, Adds, IsUnder}
+use Rattle.net_questions.{specs.declared.finding.Finding.{Finding}, specs.Findings.{IsSo, key_of, ComesBefore, BeginsWith, Ascend, Adds, IsUnder}}
 
 -- ks begins with p, and its next number is less than n
 abbrev pub NextBelow : List ℕ → ℕ → List ℕ → Type 0

@@ -1,26 +1,10 @@
 -- What is found stands where it is looked for, and nothing else stands there.
-use Rattle.std.proofs.Common.{zero-add, ◌≡◌, ℕ, zero, ◌<◌, List, [], ◌∷◌, ◌++◌, get_or, Some, refl, sym, ◌∙◌, ap, subst, arith, inl, inr, ◌⊎◌, ◌≤◌}
-use Rattle.std.proofs.Props.{props}
-use Rattle.std.specs.Prelude.{slice_get}
-use Rattle.std.proofs.lemmas.Bool.{cases_lt}
-use Rattle.std.proofs.lemmas.List.{get_or-map}
-use Rattle.std.proofs.lemmas.List.FromFn.{get_or-range_with_len}
-use Rattle.std.proofs.lemmas.Option.{same_Some, slice_get_within}
+use Rattle.std.{proofs.Common.{zero-add, ◌≡◌, ℕ, zero, ◌<◌, List, [], ◌∷◌, ◌++◌, get_or, Some, refl, sym, ◌∙◌, ap, subst, arith, inl, inr, ◌⊎◌, ◌≤◌}, proofs.Props.{props}, specs.Prelude.{slice_get}, proofs.lemmas.Bool.{cases_lt}, proofs.lemmas.List.{get_or-map}, proofs.lemmas.List.FromFn.{get_or-range_with_len}, proofs.lemmas.Option.{same_Some, slice_get_within}}
 use Rattle.mctp_transport.specs.declared.address.Eid.{Eid}
 use Rattle.plan_values.specs.declared.plan.Plan.{Plan}
-use Rattle.net_tables.specs.Routing.{ports_of, rows_of}
-use Rattle.net_tables.specs.Repositories.{records_of}
-use Rattle.net_questions.specs.declared.code.Code.{Code}
+use Rattle.net_tables.{specs.Routing.{ports_of, rows_of}, specs.Repositories.{records_of}, proofs.Elements.{holder_within}}
+use Rattle.net_questions.{specs.declared.code.Code.{Code}, specs.declared.finding.Finding.{Finding}, specs.declared.finding.Finding.TheVariants.{SharedAddress, MissingAddress, SharedTid, MissingLocator, SharedSensorId, OwnerHasNoWay, NoWayToOwner, IdleRow, PoolEidNotLedOn, LonePort, EmptyReadableRange, Isolated, ForeignMedia, ReservedBinding, ReservedAddress, EmptyBus, CrossedThresholds, UnknownTerminusHandle, UncontainedEntity}, specs.Findings.{IsSo, order_of, subject_of, key_of, sites_of, items_of, others_of, other_items_of, BeginsWith, Adds, IsUnder, AreFindings}, proofs.Within.{port_within, row_within, record_within, terminus_within, bridge_within, owned_within}, proofs.TopmostOwners.{topmost_within}, proofs.Ascending.{NextBelow, Below, start, one, nothing, all_pairs}}
 use Rattle.net_questions.specs.declared.code.Code.TheVariants as code
-use Rattle.net_questions.specs.declared.finding.Finding.{Finding}
-use Rattle.net_questions.specs.declared.finding.Finding.TheVariants.{SharedAddress, MissingAddress, SharedTid}
-use Rattle.net_questions.specs.declared.finding.Finding.TheVariants.{MissingLocator, SharedSensorId, OwnerHasNoWay, NoWayToOwner, IdleRow, PoolEidNotLedOn, LonePort, EmptyReadableRange, Isolated}
-use Rattle.net_questions.specs.declared.finding.Finding.TheVariants.{ForeignMedia, ReservedBinding, ReservedAddress, EmptyBus, CrossedThresholds, UnknownTerminusHandle, UncontainedEntity}
-use Rattle.net_questions.specs.Findings.{IsSo, order_of, subject_of, key_of, sites_of, items_of, others_of, other_items_of, BeginsWith, Adds, IsUnder, AreFindings}
-use Rattle.net_questions.proofs.Within.{port_within, row_within, record_within, terminus_within, bridge_within, owned_within}
-use Rattle.net_questions.proofs.TopmostOwners.{topmost_within}
-use Rattle.net_questions.proofs.Ascending.{NextBelow, Below, start, one, nothing, all_pairs}
-use Rattle.net_tables.proofs.Elements.{holder_within}
 
 -- ---- the codes in their order
 

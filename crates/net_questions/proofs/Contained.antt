@@ -1,24 +1,9 @@
 -- The set of the entities that a node's associations contain, as far as its records were looked at.
-use Rattle.std.proofs.Common.{◌≡◌, ◌≢◌, ◌↔◌, ◌⊎◌, ℕ, zero, suc, ◌+◌, ◌<◌, ◌≤◌, List, [], ◌∷◌, length, Some, Bool, IsTrue, true, false, refl, sym, ◌∙◌, ap, subst, arith, inl, inr, Result, Ok, Err, OnOk}
-use Rattle.std.specs.Prelude.{slice_get, cond, Contains}
-use Rattle.std.specs.Ordering.{nat_cmp, ordering_then, is_eq}
-use Rattle.std.specs.Cmp.{nat_cmp_is}
-use Rattle.std.specs.declared.cmp.Ordering.{Ordering}
-use Rattle.std.specs.declared.cmp.Ordering.TheVariants.{Less, Equal, Greater}
-use Rattle.std.specs.BTreeMap.{is_at}
-use Rattle.std.specs.BTreeSet.{BTreeSet, contains}
-use Rattle.std.proofs.lemmas.Map.Lookups.{exact_unsigned}
-use Rattle.std.proofs.lemmas.Bool.{cases_lt, true≢false}
-use Rattle.std.proofs.lemmas.Option.{same_Some, slice_get_within}
-use Rattle.pdr_record.specs.Layouts.{AssociationValue, EntityValue}
-use Rattle.pdr_record.specs.Records.{BodyValue}
-use Rattle.plan_values.specs.declared.plan.Plan.{Plan}
-use Rattle.plan_values.specs.declared.terminus.PlannedRecord.{PlannedRecord}
+use Rattle.std.{proofs.Common.{◌≡◌, ◌≢◌, ◌↔◌, ◌⊎◌, ℕ, zero, suc, ◌+◌, ◌<◌, ◌≤◌, List, [], ◌∷◌, length, Some, Bool, IsTrue, true, false, refl, sym, ◌∙◌, ap, subst, arith, inl, inr, Result, Ok, Err, OnOk}, specs.Prelude.{slice_get, cond, Contains}, specs.Ordering.{nat_cmp, ordering_then, is_eq}, specs.Cmp.{nat_cmp_is}, specs.declared.cmp.Ordering.{Ordering}, specs.declared.cmp.Ordering.TheVariants.{Less, Equal, Greater}, specs.BTreeMap.{is_at}, specs.BTreeSet.{BTreeSet, contains}, proofs.lemmas.Map.Lookups.{exact_unsigned}, proofs.lemmas.Bool.{cases_lt, true≢false}, proofs.lemmas.Option.{same_Some, slice_get_within}}
+use Rattle.pdr_record.{specs.Layouts.{AssociationValue, EntityValue}, specs.Records.{BodyValue}}
+use Rattle.plan_values.{specs.declared.plan.Plan.{Plan}, specs.declared.terminus.PlannedRecord.{PlannedRecord}}
 use Rattle.net_tables.specs.Repositories.{records_of}
-use Rattle.net_questions.specs.Sensors.{Associates, HasAssociationOf, HasBody}
-use Rattle.net_questions.specs.RecordIndexes.{AreContained, AssociatesIn, HasEntity, NotesEntities, entity_key, by_entity}
-use Rattle.net_questions.proofs.Referring.{here, nowhere}
-use Rattle.net_questions.proofs.Within.{record_within}
+use Rattle.net_questions.{specs.Sensors.{Associates, HasAssociationOf, HasBody}, specs.RecordIndexes.{AreContained, AssociatesIn, HasEntity, NotesEntities, entity_key, by_entity}, proofs.Referring.{here, nowhere}, proofs.Within.{record_within}}
 
 -- keys that the order does not tell apart are the same
 same_key : (p q : ℕ × ℕ × ℕ) → by_entity p q ≡ Equal → p ≡ q

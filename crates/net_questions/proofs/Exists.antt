@@ -1,7 +1,5 @@
 -- Searches for a place, or for an item of a list.
-use Rattle.std.proofs.Common.{◌≡◌, ℕ, ◌+◌, ◌<◌, ◌≤◌, List, length, get_or, Option, Some, None, Bool, IsTrue, true, false, refl, sym, ◌∙◌, subst, arith, below_more}
-use Rattle.std.specs.Prelude.{◌↔◌, slice_get}
-use Rattle.std.proofs.lemmas.Option.{slice_get_read, slice_get_within, get_or_from_slice_get, same_Some, none-some}
+use Rattle.std.{proofs.Common.{◌≡◌, ℕ, ◌+◌, ◌<◌, ◌≤◌, List, length, get_or, Option, Some, None, Bool, IsTrue, true, false, refl, sym, ◌∙◌, subst, arith, below_more}, specs.Prelude.{◌↔◌, slice_get}, proofs.lemmas.Option.{slice_get_read, slice_get_within, get_or_from_slice_get, same_Some, none-some}}
 use Rattle.net_tables.specs.Routing.{OfItem}
 
 pub found : (P : ℕ → Type 0) (k : ℕ) → P k → IsTrue true ↔ ((k : ℕ) × P k)

@@ -1,22 +1,8 @@
 -- The first indices of numbers, as far as they were looked at.
-use Rattle.std.proofs.Common.{◌≡◌, ◌≢◌, ◌↔◌, ℕ, ◌+◌, ◌<◌, ◌≤◌, List, [], ◌∷◌, ◌++◌, length, Option, Some, None, Bool, IsTrue, false, is_some, refl, sym, ◌∙◌, subst, arith, inl, inr, MatchOption, IfSome}
-use Rattle.std.specs.Prelude.{slice_get, IsSomeAnd}
-use Rattle.std.specs.Ordering.{nat_cmp, is_eq}
-use Rattle.std.specs.declared.cmp.Ordering.{Ordering}
-use Rattle.std.specs.declared.cmp.Ordering.TheVariants.{Less, Equal, Greater}
-use Rattle.std.proofs.lemmas.Map.Lookups.{exact_unsigned}
-use Rattle.std.specs.BTreeMap.{BTreeMap, get, Updates, is_at}
-use Rattle.std.proofs.lemmas.Bool.{cases_lt, cases_eq, true≢false}
-use Rattle.std.proofs.lemmas.Option.{same_Some, slice_get_within}
-use Rattle.plan_values.specs.declared.plan.Plan.{Plan}
-use Rattle.plan_values.specs.declared.terminus.PlannedRecord.{PlannedRecord}
-use Rattle.net_tables.specs.Repositories.{records_of}
-use Rattle.net_questions.specs.Lint.{IsSensorRecord, HasEarlierSensor}
-use Rattle.net_questions.specs.Sensors.{IsLocatorOf, HasLocatorOf}
-use Rattle.net_questions.specs.declared.lints.record_index.RecordIndex.{RecordIndex}
-use Rattle.net_questions.specs.RecordIndexes.{IsOfRecord, IsFirst, AreFirst, IsRecordIndex, Notes, NotesAny}
-use Rattle.net_tables.proofs.Elements.{in_push}
-use Rattle.net_questions.proofs.Within.{record_within}
+use Rattle.std.{proofs.Common.{◌≡◌, ◌≢◌, ◌↔◌, ℕ, ◌+◌, ◌<◌, ◌≤◌, List, [], ◌∷◌, ◌++◌, length, Option, Some, None, Bool, IsTrue, false, is_some, refl, sym, ◌∙◌, subst, arith, inl, inr, MatchOption, IfSome}, specs.Prelude.{slice_get, IsSomeAnd}, specs.Ordering.{nat_cmp, is_eq}, specs.declared.cmp.Ordering.{Ordering}, specs.declared.cmp.Ordering.TheVariants.{Less, Equal, Greater}, proofs.lemmas.Map.Lookups.{exact_unsigned}, specs.BTreeMap.{BTreeMap, get, Updates, is_at}, proofs.lemmas.Bool.{cases_lt, cases_eq, true≢false}, proofs.lemmas.Option.{same_Some, slice_get_within}}
+use Rattle.plan_values.{specs.declared.plan.Plan.{Plan}, specs.declared.terminus.PlannedRecord.{PlannedRecord}}
+use Rattle.net_tables.{specs.Repositories.{records_of}, proofs.Elements.{in_push}}
+use Rattle.net_questions.{specs.Lint.{IsSensorRecord, HasEarlierSensor}, specs.Sensors.{IsLocatorOf, HasLocatorOf}, specs.declared.lints.record_index.RecordIndex.{RecordIndex}, specs.RecordIndexes.{IsOfRecord, IsFirst, AreFirst, IsRecordIndex, Notes, NotesAny}, proofs.Within.{record_within}}
 
 -- ---- one number is noted
 

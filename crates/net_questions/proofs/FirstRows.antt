@@ -1,16 +1,9 @@
 -- The first row for an EID, and where it leads.
-use Rattle.std.proofs.Common.{◌≡◌, ℕ, ◌<◌, List, length, get_or, Some, refl, sym, ap, ◌∙◌, subst, inl, inr}
-use Rattle.std.specs.Prelude.{slice_get}
-use Rattle.std.proofs.lemmas.Bool.{cases_order}
-use Rattle.std.proofs.lemmas.Option.{slice_get_read, same_Some}
-use Rattle.plan_values.specs.declared.plan.Plan.{Plan}
-use Rattle.plan_values.specs.declared.nodes.Row.{Row}
+use Rattle.std.{proofs.Common.{◌≡◌, ℕ, ◌<◌, List, length, get_or, Some, refl, sym, ap, ◌∙◌, subst, inl, inr}, specs.Prelude.{slice_get}, proofs.lemmas.Bool.{cases_order}, proofs.lemmas.Option.{slice_get_read, same_Some}}
+use Rattle.plan_values.{specs.declared.plan.Plan.{Plan}, specs.declared.nodes.Row.{Row}}
 use Rattle.net_tables.specs.Routing.{Covers, MovesTo, OfItem, rows_of}
-use Rattle.net_rules.specs.Moves.{IsEnd}
-use Rattle.net_rules.specs.Promises.{WayEnds}
-use Rattle.net_rules.proofs.EidMoves.{no_move}
-use Rattle.net_questions.specs.Lint.{IsFirstRowFor, IsForwardedTo}
-use Rattle.net_questions.proofs.Within.{row_within}
+use Rattle.net_rules.{specs.Moves.{IsEnd}, specs.Promises.{WayEnds}, proofs.EidMoves.{no_move}}
+use Rattle.net_questions.{specs.Lint.{IsFirstRowFor, IsForwardedTo}, proofs.Within.{row_within}}
 
 pub first_row : (plan : Plan) (n e r : ℕ) (row : Row) (rows : List Row) → rows ≡ rows_of plan n → r < length rows → row ≡ get_or rows r row → Covers row e
     → ((k : ℕ) → k < r → OfItem rows k (λ other. ¬ Covers other e)) → IsFirstRowFor plan n e row

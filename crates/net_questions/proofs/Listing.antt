@@ -1,10 +1,6 @@
 -- Lists by the numbers from 0 on.
-use Rattle.std.proofs.Common.{◌≡◌, ℕ, zero, suc, ◌+◌, ◌≢◌, List, [], ◌∷◌, ◌++◌, refl, sym, ap, ◌∙◌, arith, append-nil, inl, inr, Option}
-use Rattle.std.specs.List.{flat_map, range_with_len}
-use Rattle.std.proofs.lemmas.Bool.Decides.{eqb_tells}
-use Rattle.std.proofs.lemmas.List.{flat_map_more}
-use Rattle.net_questions.specs.declared.pair.Pair.{Pair}
-use Rattle.net_questions.specs.Reaching.{pair_between}
+use Rattle.std.{proofs.Common.{◌≡◌, ℕ, zero, suc, ◌+◌, ◌≢◌, List, [], ◌∷◌, ◌++◌, refl, sym, ap, ◌∙◌, arith, append-nil, inl, inr, Option}, specs.List.{flat_map, range_with_len}, proofs.lemmas.Bool.Decides.{eqb_tells}, proofs.lemmas.List.{flat_map_more}}
+use Rattle.net_questions.{specs.declared.pair.Pair.{Pair}, specs.Reaching.{pair_between}}
 
 pub range_more : (a n : ℕ) → range_with_len a (suc n) ≡ range_with_len a n ++ (a + n) ∷ []
 range_more a zero = let same : a ≡ a + 0 = omega arith in ap (λ k. k ∷ []) same

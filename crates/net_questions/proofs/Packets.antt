@@ -1,30 +1,12 @@
 -- Along a run each flight stands on the way of its packet.
-use Rattle.std.proofs.Common.{◌≡◌, ℕ, zero, suc, ◌+◌, ◌≤◌, Bool, true, false, List, [], ◌∷◌, ◌++◌, length, Some, refl, sym, ap, ◌∙◌, subst, inl, inr, arith, take}
-use Rattle.std.specs.Prelude.{slice_get}
-use Rattle.std.proofs.lemmas.List.{length_push}
-use Rattle.std.proofs.lemmas.Option.{same_Some, slice_get_within}
+use Rattle.std.{proofs.Common.{◌≡◌, ℕ, zero, suc, ◌+◌, ◌≤◌, Bool, true, false, List, [], ◌∷◌, ◌++◌, length, Some, refl, sym, ap, ◌∙◌, subst, inl, inr, arith, take}, specs.Prelude.{slice_get}, proofs.lemmas.List.{length_push}, proofs.lemmas.Option.{same_Some, slice_get_within}}
 use Rattle.mctp_transport.specs.PacketValues.{PacketValue}
-use Rattle.mctp_routing.specs.declared.row.Hop.{Hop}
-use Rattle.mctp_routing.specs.declared.decision.Decision.{Decision}
-use Rattle.mctp_routing.specs.declared.decision.Decision.TheVariants.{Forward}
-use Rattle.plan_values.specs.declared.plan.Plan.{Plan}
-use Rattle.plan_values.specs.declared.certificate.Certificate.{Certificate}
+use Rattle.mctp_routing.{specs.declared.row.Hop.{Hop}, specs.declared.decision.Decision.{Decision}, specs.declared.decision.Decision.TheVariants.{Forward}}
+use Rattle.plan_values.{specs.declared.plan.Plan.{Plan}, specs.declared.certificate.Certificate.{Certificate}}
 use Rattle.net_rules.specs.Rules.{Accepts}
-use Rattle.net_tables.specs.Rows.{RowsAreApart}
-use Rattle.net_runs.specs.States.{NetworkState, Flight, at_start, destination, without_flight, with_made}
-use Rattle.net_tables.specs.TwoPlans.{one_plan}
-use Rattle.net_runs.specs.Events.{EventValue, Move, OutcomeValue, PutIn, Moved, Entered, Stopped, Lost, Expired, Answered, Silent, Switched, Refused}
-use Rattle.net_runs.specs.Networks.{Step as OneStep, IsDone, Happens}
-use Rattle.net_runs.specs.Deliveries.{is_refusal}
-use Rattle.net_runs.specs.Runs.{Turn, RunFrom, Run, after_all, reached, PutsIn}
-use Rattle.net_runs.proofs.Nexts.{HasMoved, IsNew, IsNext, step_is_next}
-use Rattle.net_runs.proofs.Promised.{run_parts}
-use Rattle.net_questions.specs.declared.step.WayStep.{WayStep}
-use Rattle.net_questions.specs.declared.way.End.{End}
-use Rattle.net_questions.specs.declared.way.End.TheVariants.{Arrives, Stops}
-use Rattle.net_questions.specs.Ways.{DoesAfter, Follows, IsWay, decision_of}
-use Rattle.net_questions.specs.Packets.{StandsOnWay, IsEndOf, IsNextOnWay, KeepsToWays}
-use Rattle.net_questions.proofs.WayLaws.{accepted_apart, one_step_more, does_one, same_hop, no_end}
+use Rattle.net_tables.{specs.Rows.{RowsAreApart}, specs.TwoPlans.{one_plan}}
+use Rattle.net_runs.{specs.States.{NetworkState, Flight, at_start, destination, without_flight, with_made}, specs.Events.{EventValue, Move, OutcomeValue, PutIn, Moved, Entered, Stopped, Lost, Expired, Answered, Silent, Switched, Refused}, specs.Networks.{Step as OneStep, IsDone, Happens}, specs.Deliveries.{is_refusal}, specs.Runs.{Turn, RunFrom, Run, after_all, reached, PutsIn}, proofs.Nexts.{HasMoved, IsNew, IsNext, step_is_next}, proofs.Promised.{run_parts}}
+use Rattle.net_questions.{specs.declared.step.WayStep.{WayStep}, specs.declared.way.End.{End}, specs.declared.way.End.TheVariants.{Arrives, Stops}, specs.Ways.{DoesAfter, Follows, IsWay, decision_of}, specs.Packets.{StandsOnWay, IsEndOf, IsNextOnWay, KeepsToWays}, proofs.WayLaws.{accepted_apart, one_step_more, does_one, same_hop, no_end}}
 
 -- the steps that a flight has made
 HasGone : Plan → Flight → Type 0

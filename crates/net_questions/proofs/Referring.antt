@@ -1,13 +1,7 @@
 -- What records of sensors refer to.
-use Rattle.std.proofs.Common.{◌≡◌, ℕ, List, [], ◌∷◌, Option, Some, None, IfSome, sym, ◌∙◌, ap, arith}
-use Rattle.std.specs.Prelude.{option_map, IsSomeAnd, Contains}
-use Rattle.std.proofs.lemmas.Option.{same_Some}
-use Rattle.pdr_record.specs.declared.sensor.Sensor.{Sensor}
-use Rattle.pdr_record.specs.Layouts.{SensorValue, EntityValue}
-use Rattle.pdr_record.specs.Records.{BodyValue}
-use Rattle.pdr_record.specs.Values.{sensor_value}
-use Rattle.net_questions.specs.RecordIndexes.{handle_of}
-use Rattle.net_questions.specs.Sensors.{HasBody, IsSensor, IsLocatorOf, sensor_of}
+use Rattle.std.{proofs.Common.{◌≡◌, ℕ, List, [], ◌∷◌, Option, Some, None, IfSome, sym, ◌∙◌, ap, arith}, specs.Prelude.{option_map, IsSomeAnd, Contains}, proofs.lemmas.Option.{same_Some}}
+use Rattle.pdr_record.{specs.declared.sensor.Sensor.{Sensor}, specs.Layouts.{SensorValue, EntityValue}, specs.Records.{BodyValue}, specs.Values.{sensor_value}}
+use Rattle.net_questions.{specs.RecordIndexes.{handle_of}, specs.Sensors.{HasBody, IsSensor, IsLocatorOf, sensor_of}}
 
 pub sensor_found : (bytes : List ℕ) (v : BodyValue) (r : Option Sensor) → HasBody bytes v → option_map sensor_value r ≡ sensor_of v
     → IfSome r (λ s. IsSensor bytes (sensor_value s))

@@ -1,25 +1,9 @@
 -- Tables of next nodes and of numbers of moves.
-use Rattle.std.proofs.Common.{◌≡◌, ℕ, suc, ◌+◌, ◌<◌, ◌≤◌, List, [], ◌∷◌, ◌++◌, length, Option, Some, None, sym, ap, ◌∙◌, subst, inl, inr, arith, get_or}
-use Rattle.std.specs.List.{flat_map, range_with_len}
-use Rattle.std.proofs.lemmas.List.{length_push}
-use Rattle.std.specs.Prelude.{slice_get, option_and_then}
-use Rattle.std.proofs.lemmas.Option.{same_Some, option_and_then_some, slice_get-get_or}
-use Rattle.plan_values.specs.declared.plan.Plan.{Plan}
-use Rattle.plan_values.specs.declared.certificate.Certificate.{Certificate}
-use Rattle.net_tables.specs.Routing.{Holds, MovesTo}
-use Rattle.net_rules.specs.Rules.{Accepts}
-use Rattle.net_rules.specs.Moves.{Leads}
-use Rattle.net_tables.specs.Ranks.{rank}
-use Rattle.net_rules.specs.Circles.{MovesBy, HasNoCircle, next_in}
-use Rattle.net_rules.specs.Promises.{WayEnds}
-use Rattle.net_rules.specs.RoutingLoops.{AreNexts}
-use Rattle.net_tables.proofs.Elements.{element, in_push, holder_within}
-use Rattle.net_rules.proofs.Ends.{ends_within_rank, moves_or_ends}
-use Rattle.net_rules.proofs.EidMoves.{no_move, moves_within}
-use Rattle.net_rules.proofs.SameMoves.{Leads-same}
-use Rattle.net_questions.specs.declared.hops.HopsTo.{HopsTo}
-use Rattle.net_questions.specs.declared.pair.Pair.{Pair}
-use Rattle.net_questions.specs.Reaching.{IsReach, NeverCircles, AreHopsTo, AreHopsToEach, hops_in, pairs_from, ArePairs}
+use Rattle.std.{proofs.Common.{◌≡◌, ℕ, suc, ◌+◌, ◌<◌, ◌≤◌, List, [], ◌∷◌, ◌++◌, length, Option, Some, None, sym, ap, ◌∙◌, subst, inl, inr, arith, get_or}, specs.List.{flat_map, range_with_len}, proofs.lemmas.List.{length_push}, specs.Prelude.{slice_get, option_and_then}, proofs.lemmas.Option.{same_Some, option_and_then_some, slice_get-get_or}}
+use Rattle.plan_values.{specs.declared.plan.Plan.{Plan}, specs.declared.certificate.Certificate.{Certificate}}
+use Rattle.net_tables.{specs.Routing.{Holds, MovesTo}, specs.Ranks.{rank}, proofs.Elements.{element, in_push, holder_within}}
+use Rattle.net_rules.{specs.Rules.{Accepts}, specs.Moves.{Leads}, specs.Circles.{MovesBy, HasNoCircle, next_in}, specs.Promises.{WayEnds}, specs.RoutingLoops.{AreNexts}, proofs.Ends.{ends_within_rank, moves_or_ends}, proofs.EidMoves.{no_move, moves_within}, proofs.SameMoves.{Leads-same}}
+use Rattle.net_questions.{specs.declared.hops.HopsTo.{HopsTo}, specs.declared.pair.Pair.{Pair}, specs.Reaching.{IsReach, NeverCircles, AreHopsTo, AreHopsToEach, hops_in, pairs_from, ArePairs}}
 
 module _ (plan : Plan) (e : ℕ) (table : List (Option ℕ)) (nexts : AreNexts plan e (length plan.nodes.items) table) where
   -- a move by the table is one along rows

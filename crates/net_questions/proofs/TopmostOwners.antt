@@ -1,14 +1,9 @@
 -- Topmost owners.
-use Rattle.std.proofs.Common.{◌≡◌, ◌↔◌, ℕ, suc, ◌<◌, length, Option, Some, None, IsTrue, eqb, ap, inl, inr}
-use Rattle.std.specs.Option.{option_eq}
-use Rattle.std.proofs.lemmas.Bool.Decides.{eqb_tells}
-use Rattle.std.proofs.lemmas.Option.{same_Some, none-some}
+use Rattle.std.{proofs.Common.{◌≡◌, ◌↔◌, ℕ, suc, ◌<◌, length, Option, Some, None, IsTrue, eqb, ap, inl, inr}, specs.Option.{option_eq}, proofs.lemmas.Bool.Decides.{eqb_tells}, proofs.lemmas.Option.{same_Some, none-some}}
 use Rattle.plan_values.specs.declared.plan.Plan.{Plan}
 use Rattle.net_tables.specs.Ownership.{IsOwnedBy}
-use Rattle.net_rules.proofs.LevelLaws.{owner_within}
-use Rattle.net_rules.proofs.Lines.{lands_within}
-use Rattle.net_questions.specs.Lint.{IsTopmostOwner}
-use Rattle.net_questions.proofs.Within.{owned_within}
+use Rattle.net_rules.{proofs.LevelLaws.{owner_within}, proofs.Lines.{lands_within}}
+use Rattle.net_questions.{specs.Lint.{IsTopmostOwner}, proofs.Within.{owned_within}}
 
 -- a topmost owner is a node of the plan
 pub topmost_within : (plan : Plan) (n top : ℕ) → IsTopmostOwner plan n top → top < length plan.nodes.items

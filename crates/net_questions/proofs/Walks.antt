@@ -1,9 +1,6 @@
 -- Walks by moves: a walk to a place makes fewer moves than there are places, or can be cut short.
-use Rattle.std.proofs.Common.{◌≡◌, ℕ, zero, suc, ◌+◌, ◌-◌, ◌<◌, ◌≤◌, inl, inr, refl, sym, subst, arith, below_more}
-use Rattle.std.proofs.lemmas.Bool.{cases_lt, cases_order}
-use Rattle.net_rules.specs.Moves.{Leads, IsEnd}
-use Rattle.net_rules.proofs.Pigeons.{pigeons}
-use Rattle.net_rules.proofs.Circling.{spot, spot_parts, both_ways, leads_only}
+use Rattle.std.{proofs.Common.{◌≡◌, ℕ, zero, suc, ◌+◌, ◌-◌, ◌<◌, ◌≤◌, inl, inr, refl, sym, subst, arith, below_more}, proofs.lemmas.Bool.{cases_lt, cases_order}}
+use Rattle.net_rules.{specs.Moves.{Leads, IsEnd}, proofs.Pigeons.{pigeons}, proofs.Circling.{spot, spot_parts, both_ways, leads_only}}
 
 -- Each place that a move leaves is below a number.
 module _ (Move : ℕ → ℕ → Type 0) (places : ℕ) (within : (n p : ℕ) → Move n p → n < places) where

@@ -1,39 +1,14 @@
 -- Ways: moves along rows, one way from each node, and how many moves reach.
-use Rattle.std.proofs.Common.{◌≡◌, ◌⊎◌, ℕ, zero, suc, ◌+◌, ◌<◌, ◌≤◌, List, [], ◌∷◌, ◌++◌, length, Some, None, refl, sym, ap, ◌∙◌, subst, inl, inr, arith, map, ◌↔◌, take, get_or, All}
-use Rattle.std.specs.Prelude.{slice_get}
-use Rattle.std.proofs.lemmas.Bool.{cases_order}
-use Rattle.std.proofs.lemmas.List.{get_or-map, get_or-take, length-take, length-map}
-use Rattle.std.proofs.lemmas.Option.{slice_get_within, get_or_from_slice_get, same_Some}
+use Rattle.std.{proofs.Common.{◌≡◌, ◌⊎◌, ℕ, zero, suc, ◌+◌, ◌<◌, ◌≤◌, List, [], ◌∷◌, ◌++◌, length, Some, None, refl, sym, ap, ◌∙◌, subst, inl, inr, arith, map, ◌↔◌, take, get_or, All}, specs.Prelude.{slice_get}, proofs.lemmas.Bool.{cases_order}, proofs.lemmas.List.{get_or-map, get_or-take, length-take, length-map}, proofs.lemmas.Option.{slice_get_within, get_or_from_slice_get, same_Some}}
 use Rattle.mctp_transport.specs.PacketValues.{IsAssignable}
-use Rattle.mctp_routing.specs.declared.row.Hop.{Hop}
-use Rattle.mctp_routing.specs.declared.decision.ForwardFault.TheVariants.{Unassignable, NoBridge, NoRow}
-use Rattle.mctp_routing.specs.declared.decision.Decision.{Decision}
-use Rattle.mctp_routing.specs.declared.decision.Decision.TheVariants.{Here, Drop, Forward}
-use Rattle.mctp_routing.specs.Decisions.{Decides}
+use Rattle.mctp_routing.{specs.declared.row.Hop.{Hop}, specs.declared.decision.ForwardFault.TheVariants.{Unassignable, NoBridge, NoRow}, specs.declared.decision.Decision.{Decision}, specs.declared.decision.Decision.TheVariants.{Here, Drop, Forward}, specs.Decisions.{Decides}}
+use Rattle.plan_values.{specs.declared.plan.Plan.{Plan}, specs.declared.nodes.Row.{Row}, specs.declared.certificate.Certificate.{Certificate}}
+use Rattle.net_rules.{specs.declared.rule.Rule.TheVariants.{C05}, specs.HeldEids.{HeldAreLedOn, IsLedOn}, specs.Moves.{Leads}, specs.Rules.{Accepts}, proofs.Ends.{ends_within_rank}, proofs.EidMoves.{moved_in_range}, proofs.MoveCertificates.{plan_rows_in_range}}
+use Rattle.net_tables.{specs.Routing.{Holds, IsBridge, MovesTo, rows_of, Covers}, specs.Rows.{AreApart, IsApartFromEarlier, RowsAreApart, RowsAreInRange}, specs.Tables.{table_row}, specs.Ranks.{rank}, proofs.Elements.{element}, proofs.TableLaws.{named}}
+use Rattle.net_check.proofs.Accepted.{accepted_leads}
+use Rattle.net_questions.{specs.declared.step.WayStep.{WayStep}, specs.declared.way.End.{End}, specs.declared.way.End.TheVariants.{Arrives, Stops}, specs.Ways.{DoesAfter, Follows, IsWay, SameWays, ArrivesAfter, decision_of}, specs.Reaching.{Reaches}}
 use Rattle.mctp_routing.specs.Rows as rule
 use Rattle.mctp_routing.specs.declared.row.TableRow as bridge
-use Rattle.plan_values.specs.declared.plan.Plan.{Plan}
-use Rattle.plan_values.specs.declared.nodes.Row.{Row}
-use Rattle.plan_values.specs.declared.certificate.Certificate.{Certificate}
-use Rattle.net_rules.specs.declared.rule.Rule.TheVariants.{C05}
-use Rattle.net_tables.specs.Routing.{Holds, IsBridge, MovesTo, rows_of, Covers}
-use Rattle.net_tables.specs.Rows.{AreApart, IsApartFromEarlier, RowsAreApart, RowsAreInRange}
-use Rattle.net_rules.specs.HeldEids.{HeldAreLedOn, IsLedOn}
-use Rattle.net_tables.specs.Tables.{table_row}
-use Rattle.net_rules.specs.Moves.{Leads}
-use Rattle.net_tables.specs.Ranks.{rank}
-use Rattle.net_rules.specs.Rules.{Accepts}
-use Rattle.net_check.proofs.Accepted.{accepted_leads}
-use Rattle.net_tables.proofs.Elements.{element}
-use Rattle.net_rules.proofs.Ends.{ends_within_rank}
-use Rattle.net_rules.proofs.EidMoves.{moved_in_range}
-use Rattle.net_tables.proofs.TableLaws.{named}
-use Rattle.net_questions.specs.declared.step.WayStep.{WayStep}
-use Rattle.net_questions.specs.declared.way.End.{End}
-use Rattle.net_questions.specs.declared.way.End.TheVariants.{Arrives, Stops}
-use Rattle.net_questions.specs.Ways.{DoesAfter, Follows, IsWay, SameWays, ArrivesAfter, decision_of}
-use Rattle.net_questions.specs.Reaching.{Reaches}
-use Rattle.net_rules.proofs.MoveCertificates.{plan_rows_in_range}
 
 pub accepted_apart : (plan : Plan) (cert : Certificate) → Accepts plan cert → RowsAreApart plan
 accepted_apart plan cert accepted n r = (accepted C05 n (Some r) None).0

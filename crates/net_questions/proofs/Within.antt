@@ -1,17 +1,7 @@
 -- Of what a plan says something, that is in the plan.
-use Rattle.std.proofs.Common.{◌≡◌, ℕ, ◌<◌, ◌≤◌, length, Some, inl, inr}
-use Rattle.std.specs.Prelude.{slice_get}
-use Rattle.std.proofs.lemmas.Bool.{cases_lt}
-use Rattle.std.proofs.lemmas.Option.{slice_get_past}
-use Rattle.plan_values.specs.declared.plan.Plan.{Plan}
-use Rattle.plan_values.specs.declared.nodes.Port.{Port}
-use Rattle.plan_values.specs.declared.nodes.Pool.{Pool}
-use Rattle.plan_values.specs.declared.nodes.Row.{Row}
-use Rattle.plan_values.specs.declared.terminus.PlannedRecord.{PlannedRecord}
-use Rattle.plan_values.specs.declared.terminus.PlannedTerminus.{PlannedTerminus}
-use Rattle.net_tables.specs.Routing.{HasRow, IsBridge, rows_of}
-use Rattle.net_tables.specs.Ownership.{IsOwnedBy, pool_of, IsInPoolOf}
-use Rattle.net_tables.specs.Repositories.{terminus_of, records_of}
+use Rattle.std.{proofs.Common.{◌≡◌, ℕ, ◌<◌, ◌≤◌, length, Some, inl, inr}, specs.Prelude.{slice_get}, proofs.lemmas.Bool.{cases_lt}, proofs.lemmas.Option.{slice_get_past}}
+use Rattle.plan_values.{specs.declared.plan.Plan.{Plan}, specs.declared.nodes.Port.{Port}, specs.declared.nodes.Pool.{Pool}, specs.declared.nodes.Row.{Row}, specs.declared.terminus.PlannedRecord.{PlannedRecord}, specs.declared.terminus.PlannedTerminus.{PlannedTerminus}}
+use Rattle.net_tables.{specs.Routing.{HasRow, IsBridge, rows_of}, specs.Ownership.{IsOwnedBy, pool_of, IsInPoolOf}, specs.Repositories.{terminus_of, records_of}}
 use Rattle.net_rules.proofs.Beyond.{no_owner}
 use Rattle.net_questions.specs.Ports.{IsPort}
 

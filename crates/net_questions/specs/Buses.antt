@@ -1,8 +1,6 @@
 -- What looks wrong of a plan's buses, and of addresses on them, by the identifiers of DSP0239.
 use Rattle.std.specs.Prelude.{◌≡◌, ◌≢◌, ◌⊎◌, ℕ, ◌<◌, ◌≤◌, ◌/◌, List, [], ◌∷◌, Some, slice_get}
-use Rattle.plan_values.specs.declared.plan.Plan.{Plan}
-use Rattle.plan_values.specs.declared.nodes.Bus.{Bus}
-use Rattle.plan_values.specs.declared.nodes.Port.{Port}
+use Rattle.plan_values.{specs.declared.plan.Plan.{Plan}, specs.declared.nodes.Bus.{Bus}, specs.declared.nodes.Port.{Port}}
 use Rattle.net_questions.specs.Ports.{IsPort}
 
 -- this is the plan's bus b

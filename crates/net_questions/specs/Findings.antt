@@ -1,25 +1,10 @@
 -- The list of all that looks wrong, and its order.
 use Rattle.std.specs.Prelude.{◌≡◌, ◌↔◌, ℕ, List, [], ◌∷◌, ◌++◌, length, Contains, AllPairs, All, ⊤}
 use Rattle.plan_values.specs.declared.plan.Plan.{Plan}
-use Rattle.net_tables.specs.Routing.{ports_of, rows_of}
-use Rattle.net_tables.specs.Repositories.{records_of}
+use Rattle.net_tables.{specs.Routing.{ports_of, rows_of}, specs.Repositories.{records_of}}
 use Rattle.net_rules.specs.Faults.{LessByFirstDifference}
-use Rattle.net_questions.specs.declared.code.Code.{Code}
+use Rattle.net_questions.{specs.declared.code.Code.{Code}, specs.declared.finding.Finding.{Finding}, specs.declared.finding.Finding.TheVariants.{SharedAddress, MissingAddress, SharedTid, MissingLocator, SharedSensorId, OwnerHasNoWay, NoWayToOwner, IdleRow, PoolEidNotLedOn, LonePort, EmptyReadableRange, Isolated, ForeignMedia, ReservedBinding, ReservedAddress, EmptyBus, CrossedThresholds, UnknownTerminusHandle, UncontainedEntity}, specs.Lint.{ShareAddress, LacksAddress, IsAloneOnBus, ShareTid, LacksLocator, SharesSensorId, HasNoWayFromOwner, HasNoWayToOwner, HasIdleRow, LeavesHeld, HasEmptyReadableRange, IsIsolated}, specs.Buses.{HasForeignMedia, HasReservedBinding, IsReservedPort, IsEmptyBus}, specs.Sensors.{HasCrossedThresholds, NamesNoTerminus, MeasuresUncontained}}
 use Rattle.net_questions.specs.declared.code.Code.TheVariants as code
-use Rattle.net_questions.specs.declared.finding.Finding.{Finding}
-use Rattle.net_questions.specs.declared.finding.Finding.TheVariants.{SharedAddress, MissingAddress, SharedTid}
-use Rattle.net_questions.specs.declared.finding.Finding.TheVariants.{MissingLocator, SharedSensorId}
-use Rattle.net_questions.specs.declared.finding.Finding.TheVariants.{OwnerHasNoWay, NoWayToOwner}
-use Rattle.net_questions.specs.declared.finding.Finding.TheVariants.{IdleRow, PoolEidNotLedOn}
-use Rattle.net_questions.specs.declared.finding.Finding.TheVariants.{LonePort, EmptyReadableRange, Isolated}
-use Rattle.net_questions.specs.declared.finding.Finding.TheVariants.{ForeignMedia, ReservedBinding, ReservedAddress}
-use Rattle.net_questions.specs.declared.finding.Finding.TheVariants.{EmptyBus, CrossedThresholds}
-use Rattle.net_questions.specs.declared.finding.Finding.TheVariants.{UnknownTerminusHandle, UncontainedEntity}
-use Rattle.net_questions.specs.Lint.{ShareAddress, LacksAddress, IsAloneOnBus, ShareTid, LacksLocator}
-use Rattle.net_questions.specs.Lint.{SharesSensorId, HasNoWayFromOwner, HasNoWayToOwner, HasIdleRow, LeavesHeld}
-use Rattle.net_questions.specs.Lint.{HasEmptyReadableRange, IsIsolated}
-use Rattle.net_questions.specs.Buses.{HasForeignMedia, HasReservedBinding, IsReservedPort, IsEmptyBus}
-use Rattle.net_questions.specs.Sensors.{HasCrossedThresholds, NamesNoTerminus, MeasuresUncontained}
 
 -- the finding is so in the plan
 abbrev pub IsSo : Plan → Finding → Type 0

@@ -1,18 +1,9 @@
 -- What is lawful in a plan and still looks wrong.
-use Rattle.std.specs.Prelude.{◌≡◌, ◌≢◌, ◌⊎◌, ℕ, suc, ◌<◌, ◌+◌, ◌*◌, ◌-◌, ◌^◌, nat_lt, nat_eq, if◌then◌else◌}
-use Rattle.std.specs.Prelude.{List, [], ◌∷◌, Option, Some, None, slice_get}
-use Rattle.plan_values.specs.declared.plan.Plan.{Plan}
-use Rattle.plan_values.specs.declared.nodes.Port.{Port}
-use Rattle.plan_values.specs.declared.nodes.Row.{Row}
-use Rattle.plan_values.specs.declared.terminus.PlannedRecord.{PlannedRecord}
-use Rattle.plan_values.specs.declared.terminus.PlannedTerminus.{PlannedTerminus}
-use Rattle.pdr_record.specs.Layouts.{NumericValue}
-use Rattle.pdr_record.specs.Records.{RecordValue, BodyValue, Spelled}
-use Rattle.net_tables.specs.Routing.{rows_of, IsBridge, Holds, IsHeld, Covers, HasRow, OfItem}
-use Rattle.net_rules.specs.Moves.{Leads, IsEnd}
-use Rattle.net_tables.specs.Ownership.{IsOwnedBy, IsInPoolOf}
-use Rattle.net_tables.specs.Repositories.{terminus_of, records_of}
-use Rattle.net_rules.specs.Locators.{IsEidLocator}
+use Rattle.std.specs.Prelude.{◌≡◌, ◌≢◌, ◌⊎◌, ℕ, suc, ◌<◌, ◌+◌, ◌*◌, ◌-◌, ◌^◌, nat_lt, nat_eq, if◌then◌else◌, List, [], ◌∷◌, Option, Some, None, slice_get}
+use Rattle.plan_values.{specs.declared.plan.Plan.{Plan}, specs.declared.nodes.Port.{Port}, specs.declared.nodes.Row.{Row}, specs.declared.terminus.PlannedRecord.{PlannedRecord}, specs.declared.terminus.PlannedTerminus.{PlannedTerminus}}
+use Rattle.pdr_record.{specs.Layouts.{NumericValue}, specs.Records.{RecordValue, BodyValue, Spelled}}
+use Rattle.net_tables.{specs.Routing.{rows_of, IsBridge, Holds, IsHeld, Covers, HasRow, OfItem}, specs.Ownership.{IsOwnedBy, IsInPoolOf}, specs.Repositories.{terminus_of, records_of}}
+use Rattle.net_rules.{specs.Moves.{Leads, IsEnd}, specs.Locators.{IsEidLocator}}
 use Rattle.net_questions.specs.Ports.{IsPort}
 
 -- ---- ports

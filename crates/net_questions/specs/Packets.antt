@@ -1,17 +1,9 @@
 -- That packets keep to their ways, in every run.
 use Rattle.std.specs.Prelude.{◌≡◌, ℕ, ◌+◌, ◌≤◌, List, [], ◌∷◌, ◌++◌, length, take, slice_get, Some, Bool, false}
-use Rattle.plan_values.specs.declared.plan.Plan.{Plan}
-use Rattle.plan_values.specs.declared.certificate.Certificate.{Certificate}
-use Rattle.mctp_transport.specs.PacketValues.{KeyValue}
-use Rattle.mctp_transport.specs.Hearing.{Answer}
-use Rattle.net_runs.specs.States.{Flight, destination}
-use Rattle.net_runs.specs.Events.{OutcomeValue, Moved, Entered, Stopped, Move}
-use Rattle.net_runs.specs.Deliveries.{is_refusal}
-use Rattle.net_runs.specs.Runs.{Turn, Run, reached}
-use Rattle.net_questions.specs.declared.step.WayStep.{WayStep}
-use Rattle.net_questions.specs.declared.way.End.{End}
-use Rattle.net_questions.specs.declared.way.End.TheVariants.{Arrives, Stops}
-use Rattle.net_questions.specs.Ways.{Follows, IsWay}
+use Rattle.plan_values.{specs.declared.plan.Plan.{Plan}, specs.declared.certificate.Certificate.{Certificate}}
+use Rattle.mctp_transport.{specs.PacketValues.{KeyValue}, specs.Hearing.{Answer}}
+use Rattle.net_runs.{specs.States.{Flight, destination}, specs.Events.{OutcomeValue, Moved, Entered, Stopped, Move}, specs.Deliveries.{is_refusal}, specs.Runs.{Turn, Run, reached}}
+use Rattle.net_questions.{specs.declared.step.WayStep.{WayStep}, specs.declared.way.End.{End}, specs.declared.way.End.TheVariants.{Arrives, Stops}, specs.Ways.{Follows, IsWay}}
 
 -- a flight stands on the way of its packet, after as many steps as it has made hops
 abbrev pub StandsOnWay : Plan → Flight → List WayStep → Type 0

@@ -1,7 +1,6 @@
 -- The ports of a plan's nodes.
 use Rattle.std.specs.Prelude.{◌≡◌, ℕ, Some, slice_get}
-use Rattle.plan_values.specs.declared.plan.Plan.{Plan}
-use Rattle.plan_values.specs.declared.nodes.Port.{Port}
+use Rattle.plan_values.{specs.declared.plan.Plan.{Plan}, specs.declared.nodes.Port.{Port}}
 use Rattle.net_tables.specs.Routing.{ports_of}
 
 -- this is n's port p

@@ -1,15 +1,9 @@
 -- Who reaches whom along rows, and by how many moves.
-use Rattle.std.specs.Prelude.{◌≡◌, ℕ, ◌<◌, ◌≤◌, ◌==◌, List, [], ◌∷◌, length, slice_get}
-use Rattle.std.specs.Prelude.{Option, Some, MatchOption, option_and_then, if◌then◌else◌}
-use Rattle.std.specs.List.{flat_map, range_with_len}
-use Rattle.plan_values.specs.declared.plan.Plan.{Plan}
-use Rattle.plan_values.specs.declared.certificate.Certificate.{Certificate}
-use Rattle.net_tables.specs.Routing.{Holds, HasRow, MovesTo}
-use Rattle.net_rules.specs.Circles.{HasNoCircle}
-use Rattle.net_rules.specs.Moves.{Leads}
-use Rattle.net_tables.specs.Ranks.{rank}
-use Rattle.net_questions.specs.declared.hops.HopsTo.{HopsTo}
-use Rattle.net_questions.specs.declared.pair.Pair.{Pair}
+use Rattle.std.{specs.Prelude.{◌≡◌, ℕ, ◌<◌, ◌≤◌, ◌==◌, List, [], ◌∷◌, length, slice_get, Option, Some, MatchOption, option_and_then, if◌then◌else◌}, specs.List.{flat_map, range_with_len}}
+use Rattle.plan_values.{specs.declared.plan.Plan.{Plan}, specs.declared.certificate.Certificate.{Certificate}}
+use Rattle.net_tables.{specs.Routing.{Holds, HasRow, MovesTo}, specs.Ranks.{rank}}
+use Rattle.net_rules.{specs.Circles.{HasNoCircle}, specs.Moves.{Leads}}
+use Rattle.net_questions.{specs.declared.hops.HopsTo.{HopsTo}, specs.declared.pair.Pair.{Pair}}
 
 -- so many moves along rows lead what is for e from n to a holder of e
 abbrev pub Reaches : Plan → ℕ → ℕ → ℕ → Type 0

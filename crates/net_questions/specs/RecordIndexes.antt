@@ -1,18 +1,9 @@
 -- The first records of a node by what they have.
-use Rattle.std.specs.Prelude.{◌≡◌, ◌≢◌, ◌↔◌, ◌⊎◌, ℕ, ◌<◌, List, Option, Some, None, MatchOption, length, slice_get}
-use Rattle.std.specs.Prelude.{IsTrue, Contains}
-use Rattle.std.specs.Ordering.{nat_cmp, ordering_then}
-use Rattle.std.specs.declared.cmp.Ordering.{Ordering}
-use Rattle.std.specs.BTreeMap.{BTreeMap, get}
-use Rattle.std.specs.BTreeSet.{BTreeSet, contains}
-use Rattle.plan_values.specs.declared.plan.Plan.{Plan}
-use Rattle.plan_values.specs.declared.terminus.PlannedRecord.{PlannedRecord}
+use Rattle.std.{specs.Prelude.{◌≡◌, ◌≢◌, ◌↔◌, ◌⊎◌, ℕ, ◌<◌, List, Option, Some, None, MatchOption, length, slice_get, IsTrue, Contains}, specs.Ordering.{nat_cmp, ordering_then}, specs.declared.cmp.Ordering.{Ordering}, specs.BTreeMap.{BTreeMap, get}, specs.BTreeSet.{BTreeSet, contains}}
+use Rattle.plan_values.{specs.declared.plan.Plan.{Plan}, specs.declared.terminus.PlannedRecord.{PlannedRecord}}
 use Rattle.net_tables.specs.Repositories.{records_of}
-use Rattle.pdr_record.specs.Layouts.{AssociationValue, EntityValue}
-use Rattle.pdr_record.specs.Records.{BodyValue}
-use Rattle.net_questions.specs.Lint.{IsSensorRecord}
-use Rattle.net_questions.specs.Sensors.{IsLocatorOf, HasAssociationOf}
-use Rattle.net_questions.specs.declared.lints.record_index.RecordIndex.{RecordIndex}
+use Rattle.pdr_record.{specs.Layouts.{AssociationValue, EntityValue}, specs.Records.{BodyValue}}
+use Rattle.net_questions.{specs.Lint.{IsSensorRecord}, specs.Sensors.{IsLocatorOf, HasAssociationOf}, specs.declared.lints.record_index.RecordIndex.{RecordIndex}}
 
 -- the terminus handle of a body, if it is a terminus locator's
 abbrev pub handle_of : BodyValue → Option ℕ

@@ -1,11 +1,8 @@
 -- What the record of a sensor says (DSP0248).
-use Rattle.std.specs.Prelude.{◌≡◌, ◌≢◌, ℕ, ◌<◌, ◌≤◌, ◌/◌, ◌%◌, nat_eq, ◌&&◌, Bool, true, false, List, [], ◌∷◌}
-use Rattle.std.specs.Prelude.{Option, Some, None, slice_get, unwrap_or, Contains}
-use Rattle.plan_values.specs.declared.plan.Plan.{Plan}
-use Rattle.plan_values.specs.declared.terminus.PlannedRecord.{PlannedRecord}
+use Rattle.std.specs.Prelude.{◌≡◌, ◌≢◌, ℕ, ◌<◌, ◌≤◌, ◌/◌, ◌%◌, nat_eq, ◌&&◌, Bool, true, false, List, [], ◌∷◌, Option, Some, None, slice_get, unwrap_or, Contains}
+use Rattle.plan_values.{specs.declared.plan.Plan.{Plan}, specs.declared.terminus.PlannedRecord.{PlannedRecord}}
 use Rattle.net_tables.specs.Repositories.{records_of}
-use Rattle.pdr_record.specs.Layouts.{SensorValue, EntityValue, NumericValue, TerminusValue, AssociationValue}
-use Rattle.pdr_record.specs.Records.{RecordValue, BodyValue, Spelled}
+use Rattle.pdr_record.{specs.Layouts.{SensorValue, EntityValue, NumericValue, TerminusValue, AssociationValue}, specs.Records.{RecordValue, BodyValue, Spelled}}
 use Rattle.net_questions.specs.Lint.{IsOver, IsNumericSensor}
 
 -- the bytes are those of a record with this body

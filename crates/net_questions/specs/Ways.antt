@@ -1,15 +1,9 @@
 -- The way of a packet: where each node sends it, and what the last one does with it.
 use Rattle.std.specs.Prelude.{◌≡◌, ◌⊎◌, ℕ, suc, List, [], ◌∷◌, length, map}
-use Rattle.mctp_routing.specs.declared.decision.Decision.{Decision}
-use Rattle.mctp_routing.specs.declared.decision.Decision.TheVariants.{Here, Drop, Forward}
-use Rattle.mctp_routing.specs.Decisions.{Decides}
-use Rattle.mctp_routing.specs.Rows.{Routes}
+use Rattle.mctp_routing.{specs.declared.decision.Decision.{Decision}, specs.declared.decision.Decision.TheVariants.{Here, Drop, Forward}, specs.Decisions.{Decides}, specs.Rows.{Routes}}
 use Rattle.plan_values.specs.declared.plan.Plan.{Plan}
-use Rattle.net_tables.specs.Routing.{Holds, IsBridge, rows_of}
-use Rattle.net_tables.specs.Tables.{table_row}
-use Rattle.net_questions.specs.declared.step.WayStep.{WayStep}
-use Rattle.net_questions.specs.declared.way.End.{End}
-use Rattle.net_questions.specs.declared.way.End.TheVariants.{Arrives, Stops}
+use Rattle.net_tables.{specs.Routing.{Holds, IsBridge, rows_of}, specs.Tables.{table_row}}
+use Rattle.net_questions.{specs.declared.step.WayStep.{WayStep}, specs.declared.way.End.{End}, specs.declared.way.End.TheVariants.{Arrives, Stops}}
 
 -- what n does with a packet for e that has come to it with so many moves
 abbrev pub DoesAfter : Plan → ℕ → ℕ → ℕ → Decision → Type 0

@@ -1,10 +1,7 @@
 //! How many moves along rows lead to the holder of an endpoint ID.
 ghost use Rattle.std.specs.Prelude.{◌≡◌, length, IfOk, MatchOption};
-ghost use Rattle.net_rules.specs.Moves.{IsEnd};
-ghost use Rattle.net_rules.specs.RoutingLoops.{IsNext, AreNexts};
-ghost use Rattle.net_rules.specs.Circles.{next_in};
-ghost use Rattle.net_questions.specs.Lint.{IsForwardedTo};
-ghost use Rattle.net_questions.specs.Reaching.{IsReach, NeverCircles, AreHopsTo, AreHopsToEach, hops_in};
+ghost use Rattle.net_rules.{specs.Moves.{IsEnd}, specs.RoutingLoops.{IsNext, AreNexts}, specs.Circles.{next_in}};
+ghost use Rattle.net_questions.{specs.Lint.{IsForwardedTo}, specs.Reaching.{IsReach, NeverCircles, AreHopsTo, AreHopsToEach, hops_in}};
 
 use crate::lookup::{eid_at, row_for};
 use mctp_transport::Eid;

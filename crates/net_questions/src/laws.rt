@@ -1,13 +1,8 @@
 //! Laws of the ways of packets. The functions do nothing: their contracts are the laws.
 ghost use Rattle.std.specs.Prelude.{◌↔◌, ℕ, List};
-ghost use Rattle.plan_values.specs.declared.plan.Plan.{Plan};
-ghost use Rattle.plan_values.specs.declared.certificate.Certificate.{Certificate};
+ghost use Rattle.plan_values.{specs.declared.plan.Plan.{Plan}, specs.declared.certificate.Certificate.{Certificate}};
 ghost use Rattle.net_rules.specs.Rules.{Accepts};
-ghost use Rattle.net_questions.specs.declared.step.WayStep.{WayStep};
-ghost use Rattle.net_questions.specs.declared.way.End.{End};
-ghost use Rattle.net_questions.specs.Reaching.{Reaches};
-ghost use Rattle.net_questions.specs.Ways.{IsWay, SameWays, ArrivesAfter};
-ghost use Rattle.net_questions.specs.Packets.{KeepsToWays};
+ghost use Rattle.net_questions.{specs.declared.step.WayStep.{WayStep}, specs.declared.way.End.{End}, specs.Reaching.{Reaches}, specs.Ways.{IsWay, SameWays, ArrivesAfter}, specs.Packets.{KeepsToWays}};
 
 /// Two ways of packets for one endpoint ID from one node are the same, where no two rows of a node cover one endpoint
 /// ID; so it is in an accepted plan.

@@ -1,7 +1,6 @@
 //! All that is lawful in a plan and still looks wrong.
 ghost use Rattle.std.specs.Prelude.{◌<◌, ◌≡◌, ◌↔◌, [], ◌∷◌, IsTrue, IfOk, OnOk};
-ghost use Rattle.net_questions.specs.RecordIndexes.{AreRecordIndexes};
-ghost use Rattle.net_questions.specs.Findings.{IsSo, AreFindings, Adds, IsUnder, order_of, key_of, sites_of, items_of, others_of, other_items_of};
+ghost use Rattle.net_questions.{specs.RecordIndexes.{AreRecordIndexes}, specs.Findings.{IsSo, AreFindings, Adds, IsUnder, order_of, key_of, sites_of, items_of, others_of, other_items_of}};
 
 use crate::code::{CODES, Code};
 use crate::finding::Finding;

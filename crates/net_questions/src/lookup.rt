@@ -1,8 +1,7 @@
 //! What a plan says of a node beside `net_tables::lookup`: the first of its rows for an endpoint ID.
 ghost use Rattle.std.specs.Prelude.{◌<◌, length, map, MatchOption};
 ghost use Rattle.mctp_routing.specs.Rows.{IsNext};
-ghost use Rattle.net_tables.specs.Routing.{Holds, HasRow, rows_of};
-ghost use Rattle.net_tables.specs.Tables.{table_row};
+ghost use Rattle.net_tables.{specs.Routing.{Holds, HasRow, rows_of}, specs.Tables.{table_row}};
 ghost use Rattle.net_questions.specs.Lint.{IsFirstRowFor};
 
 use mctp_routing::Hop;

@@ -1,17 +1,10 @@
 -- Whether a packet arrives, by its way.
-use Rattle.std.proofs.Common.{◌≡◌, ◌↔◌, ◌+◌, inl, inr, arith, ℕ, List, length, refl, sym, subst, ◌∙◌, Option, Some, None, Result, Ok, Err, IfOk, IsTrue, is_some}
-use Rattle.std.specs.Prelude.{MatchOption}
-use Rattle.std.proofs.lemmas.Bool.{cases_lt}
-use Rattle.std.proofs.lemmas.Option.{same_Some}
-use Rattle.plan_values.specs.declared.plan.Plan.{Plan}
-use Rattle.plan_values.specs.declared.certificate.Certificate.{Certificate}
+use Rattle.std.{proofs.Common.{◌≡◌, ◌↔◌, ◌+◌, inl, inr, arith, ℕ, List, length, refl, sym, subst, ◌∙◌, Option, Some, None, Result, Ok, Err, IfOk, IsTrue, is_some}, specs.Prelude.{MatchOption}, proofs.lemmas.Bool.{cases_lt}, proofs.lemmas.Option.{same_Some}}
+use Rattle.plan_values.{specs.declared.plan.Plan.{Plan}, specs.declared.certificate.Certificate.{Certificate}}
 use Rattle.mctp_routing.specs.declared.decision.ForwardFault.{ForwardFault}
 use Rattle.net_rules.specs.Rules.{Accepts}
 use Rattle.net_tables.specs.Routing.{Holds}
-use Rattle.net_questions.specs.declared.step.WayStep.{WayStep}
-use Rattle.net_questions.specs.declared.way.End.TheVariants.{Arrives, Stops}
-use Rattle.net_questions.specs.Ways.{IsWay, ArrivesAfter}
-use Rattle.net_questions.proofs.WayLaws.{ways_are_alone}
+use Rattle.net_questions.{specs.declared.step.WayStep.{WayStep}, specs.declared.way.End.TheVariants.{Arrives, Stops}, specs.Ways.{IsWay, ArrivesAfter}, proofs.WayLaws.{ways_are_alone}}
 use Rattle.net_reached.specs.Wishes.{ComesTo, ReachesNode, ReachesFirst}
 
 -- it arrives where its way ends so

@@ -1,10 +1,7 @@
 -- Which of wishes are not met, with one more at their end.
-use Rattle.std.proofs.Common.{◌≡◌, ℕ, ◌+◌, ◌<◌, List, [], ◌∷◌, ◌++◌, length, get_or, take, inl, inr, refl, subst, sym, rules, All}
-use Rattle.std.proofs.lemmas.List.{take_more}
-use Rattle.std.proofs.lemmas.List.Elements.{All-nil, All-cons}
+use Rattle.std.{proofs.Common.{◌≡◌, ℕ, ◌+◌, ◌<◌, List, [], ◌∷◌, ◌++◌, length, get_or, take, inl, inr, refl, subst, sym, rules, All}, proofs.lemmas.List.{take_more}, proofs.lemmas.List.Elements.{All-nil, All-cons}}
 use Rattle.plan_values.specs.declared.plan.Plan.{Plan}
-use Rattle.net_reached.specs.declared.wish.Wish.{Wish}
-use Rattle.net_reached.specs.Wishes.{IsMet, AreUnmet, AddsIfUnmet}
+use Rattle.net_reached.{specs.declared.wish.Wish.{Wish}, specs.Wishes.{IsMet, AreUnmet, AddsIfUnmet}}
 
 pub one_met : (plan : Plan) (wishes unmet : List Wish) (wish : Wish) → AreUnmet plan wishes unmet → IsMet plan wish
     → AreUnmet plan (wishes ++ wish ∷ []) unmet

@@ -1,13 +1,7 @@
 -- Which lines say wishes.
-use Rattle.std.proofs.Common.{◌≡◌, ◌≢◌, ℕ, zero, suc, ◌≤◌, ◌+◌, ◌<◌, List, [], ◌∷◌, ◌++◌, length, get_or, map, take, refl, sym, ap, ◌∙◌, subst, arith, Option, Some, None, IfSome, IfNone, inl, inr, Bor}
-use Rattle.std.specs.Prelude.{slice_get, option_map}
-use Rattle.std.proofs.lemmas.Bool.{cases_lt}
-use Rattle.std.proofs.lemmas.List.{append_cancel_left, take_more}
-use Rattle.std.proofs.lemmas.Option.{same_Some, slice_get-map, slice_get-get_or, slice_get_past, slice_get_within, get_or_from_slice_get}
+use Rattle.std.{proofs.Common.{◌≡◌, ◌≢◌, ℕ, zero, suc, ◌≤◌, ◌+◌, ◌<◌, List, [], ◌∷◌, ◌++◌, length, get_or, map, take, refl, sym, ap, ◌∙◌, subst, arith, Option, Some, None, IfSome, IfNone, inl, inr, Bor}, specs.Prelude.{slice_get, option_map}, proofs.lemmas.Bool.{cases_lt}, proofs.lemmas.List.{append_cancel_left, take_more}, proofs.lemmas.Option.{same_Some, slice_get-map, slice_get-get_or, slice_get_past, slice_get_within, get_or_from_slice_get}}
 use Rattle.plan_values.specs.declared.plan.Plan.{Plan}
-use Rattle.net_reached.specs.declared.wish.Wish.{Wish}
-use Rattle.net_reached.specs.declared.wish.Wish.TheVariants.{Nothing, Reaches, ReachesAll, Avoids}
-use Rattle.net_reached.specs.Reading.{IsNamed, IsRemark, SaysBehind, SaysOf, Says, SaysNothing, SayEach, from_of}
+use Rattle.net_reached.{specs.declared.wish.Wish.{Wish}, specs.declared.wish.Wish.TheVariants.{Nothing, Reaches, ReachesAll, Avoids}, specs.Reading.{IsNamed, IsRemark, SaysBehind, SaysOf, Says, SaysNothing, SayEach, from_of}}
 
 -- ---- names behind a front
 

@@ -1,10 +1,8 @@
 -- The lines by which a text says whom nodes are to reach.
-use Rattle.std.specs.Prelude.{ℕ, List, ◌++◌, codes}
-use Rattle.std.specs.List.{flat_map}
+use Rattle.std.{specs.Prelude.{ℕ, List, ◌++◌, codes}, specs.List.{flat_map}}
 use Rattle.plan_values.specs.declared.plan.Plan.{Plan}
 use Rattle.net_tables.specs.Names.{node_name}
-use Rattle.net_reached.specs.declared.wish.Wish.{Wish}
-use Rattle.net_reached.specs.declared.wish.Wish.TheVariants.{Nothing, Reaches, ReachesAll, Avoids}
+use Rattle.net_reached.{specs.declared.wish.Wish.{Wish}, specs.declared.wish.Wish.TheVariants.{Nothing, Reaches, ReachesAll, Avoids}}
 
 -- the line of a wish
 abbrev pub wish_line : Plan → Wish → List ℕ

@@ -1,6 +1,5 @@
 -- A table of who reaches whom.
-use Rattle.std.specs.Prelude.{◌≡◌, ◌≢◌, ◌⊎◌, ℕ, suc, zero, ◌+◌, nat_lt, if◌then◌else◌, List, [], ◌++◌, codes, length}
-use Rattle.std.specs.Fmt.{decimal}
+use Rattle.std.{specs.Prelude.{◌≡◌, ◌≢◌, ◌⊎◌, ℕ, suc, zero, ◌+◌, nat_lt, if◌then◌else◌, List, [], ◌++◌, codes, length}, specs.Fmt.{decimal}}
 use Rattle.plan_values.specs.declared.plan.Plan.{Plan}
 use Rattle.net_tables.specs.Names.{node_name}
 use Rattle.net_reached.specs.Wishes.{ComesTo, ReachesNode}

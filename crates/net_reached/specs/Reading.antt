@@ -1,12 +1,8 @@
 -- Which text says which wishes.
-use Rattle.std.specs.Prelude.{◌≡◌, ◌⊎◌, ℕ, ◌<◌, ◌+◌, List, [], ◌∷◌, ◌++◌, Option, Some, None, slice_get, codes, ⊤}
-use Rattle.std.specs.Str.Lines.{lines}
+use Rattle.std.{specs.Prelude.{◌≡◌, ◌⊎◌, ℕ, ◌<◌, ◌+◌, List, [], ◌∷◌, ◌++◌, Option, Some, None, slice_get, codes, ⊤}, specs.Str.Lines.{lines}}
 use Rattle.plan_values.specs.declared.plan.Plan.{Plan}
 use Rattle.net_rules.specs.Names.{name_of}
-use Rattle.net_reached.specs.declared.wish.Wish.{Wish}
-use Rattle.net_reached.specs.declared.wish.Wish.TheVariants.{Nothing, Reaches, ReachesAll, Avoids}
-use Rattle.net_reached.specs.declared.reading.WishError.{WishError}
-use Rattle.net_reached.specs.declared.reading.WishError.TheVariants.{Unread, OutOfMemory}
+use Rattle.net_reached.{specs.declared.wish.Wish.{Wish}, specs.declared.wish.Wish.TheVariants.{Nothing, Reaches, ReachesAll, Avoids}, specs.declared.reading.WishError.{WishError}, specs.declared.reading.WishError.TheVariants.{Unread, OutOfMemory}}
 
 -- n is a node of this name
 abbrev pub IsNamed : Plan → ℕ → List ℕ → Type 0

@@ -3,8 +3,7 @@ use Rattle.std.specs.Prelude.{◌≡◌, ◌⊎◌, ℕ, ◌<◌, List, [], ◌�
 use Rattle.plan_values.specs.declared.plan.Plan.{Plan}
 use Rattle.net_tables.specs.Routing.{Holds}
 use Rattle.net_questions.specs.Ways.{ArrivesAfter}
-use Rattle.net_reached.specs.declared.wish.Wish.{Wish}
-use Rattle.net_reached.specs.declared.wish.Wish.TheVariants.{Nothing, Reaches, ReachesAll, Avoids}
+use Rattle.net_reached.{specs.declared.wish.Wish.{Wish}, specs.declared.wish.Wish.TheVariants.{Nothing, Reaches, ReachesAll, Avoids}}
 
 -- a packet for b's endpoint ID that is put in at a arrives, after so many hops
 abbrev pub ComesTo : Plan → ℕ → ℕ → ℕ → Type 0

@@ -1,8 +1,6 @@
 //! Reading wishes from a text.
-ghost use Rattle.std.specs.Prelude.{◌≡◌, ◌≢◌, ◌<◌, ◌+◌, ◌↔◌, ◌++◌, ℕ, List, Some, IfOk, IfErr, IfSome, IfNone, IsTrue, MatchOption, OnOk, [], ◌∷◌, ◌^◌, length, map, codes};
-ghost use Rattle.std.specs.Str.Lines.{lines};
-ghost use Rattle.net_reached.specs.declared.wish.Wish.{Wish};
-ghost use Rattle.net_reached.specs.Reading.{IsRemark, Says, SaysNothing, IsNamed, from_of, SaysBehind, AreWishesOf, IsWhyUnread};
+ghost use Rattle.std.{specs.Prelude.{◌≡◌, ◌≢◌, ◌<◌, ◌+◌, ◌↔◌, ◌++◌, ℕ, List, Some, IfOk, IfErr, IfSome, IfNone, IsTrue, MatchOption, OnOk, [], ◌∷◌, ◌^◌, length, map, codes}, specs.Str.Lines.{lines}};
+ghost use Rattle.net_reached.{specs.declared.wish.Wish.{Wish}, specs.Reading.{IsRemark, Says, SaysNothing, IsNamed, from_of, SaysBehind, AreWishesOf, IsWhyUnread}};
 
 use crate::names::{first_named, name_of};
 use crate::wish::Wish;

@@ -1,10 +1,7 @@
 -- Steps, one after the other.
-use Rattle.std.proofs.Common.{◌≡◌, ◌+◌, ◌-◌, ℕ, zero, suc, List, [], ◌∷◌, ◌++◌, length, Some, ap, sym, arith}
-use Rattle.std.specs.Prelude.{slice_get}
-use Rattle.std.proofs.lemmas.Option.{slice_get_within, same_Some}
+use Rattle.std.{proofs.Common.{◌≡◌, ◌+◌, ◌-◌, ℕ, zero, suc, List, [], ◌∷◌, ◌++◌, length, Some, ap, sym, arith}, specs.Prelude.{slice_get}, proofs.lemmas.Option.{slice_get_within, same_Some}}
 use Rattle.plan_values.specs.declared.plan.Plan.{Plan}
-use Rattle.net_rollout.specs.declared.change.Step.{Step}
-use Rattle.net_rollout.specs.Steps.{AreSteps, IsStep, last_plan}
+use Rattle.net_rollout.{specs.declared.change.Step.{Step}, specs.Steps.{AreSteps, IsStep, last_plan}}
 
 -- one step more
 pub steps_more : (before new : Plan) (steps : List Step) (step : Step) → AreSteps before new steps → IsStep (last_plan before steps) new step

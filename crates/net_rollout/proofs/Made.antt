@@ -1,33 +1,11 @@
 -- What a change makes of a plan.
-use Rattle.std.proofs.Common.{◌≡◌, ◌≢◌, ◌⊎◌, ◌↔◌, inl, inr, ◌<◌, ◌≤◌, ℕ, ◌+◌, List, [], ◌∷◌, ◌++◌, length, map, get_or, Some, None, Option, option_map, unwrap_or, ap, refl, sym, subst, ◌∙◌, arith}
-use Rattle.std.specs.Prelude.{slice_get, IfSome, IfOk, Result, Ok, Err, AllPairs, Contains, Vec}
-use Rattle.std.specs.declared.alloc.AllocError.{AllocError}
-use Rattle.std.specs.declared.alloc.Global.{Global}
-use Rattle.std.proofs.lemmas.Bool.{cases_lt}
-use Rattle.std.proofs.lemmas.List.{get_or_default}
-use Rattle.std.proofs.lemmas.Option.{slice_get_past, slice_get_within}
-use Rattle.std.proofs.lemmas.List.Elements.{Contains-append_left, Contains-push, Contains-push_cases}
-use Rattle.std.proofs.lemmas.List.Quantifiers.{all_pairs_push}
-use Rattle.plan_values.specs.declared.plan.Plan.{Plan}
-use Rattle.plan_values.specs.declared.nodes.Bus.{Bus}
-use Rattle.plan_values.specs.declared.nodes.Node.{Node}
-use Rattle.plan_values.specs.declared.nodes.Row.{Row}
-use Rattle.plan_values.specs.NodeValues.{bus_value, row_value}
-use Rattle.net_tables.specs.Routing.{node_at, rows_of}
-use Rattle.plan_values.specs.declared.certificate.Certificate.{Certificate}
-use Rattle.plan_values.specs.NodeValues.{but_rows}
-use Rattle.net_rules.specs.MoveRules.{AcceptsMove, HaveSameFrame, IsSameNode, SameFrame, SameNode}
-use Rattle.net_rules.specs.MoveObstacles.{DifferInRowsAlone}
-use Rattle.net_rollout.specs.declared.change.LastStep.{LastStep}
-use Rattle.net_rollout.specs.declared.change.Part.{Part}
-use Rattle.net_rollout.specs.declared.change.Step.{Step}
-use Rattle.net_rollout.specs.declared.change.Change.{Change}
-use Rattle.net_rollout.specs.declared.change.Change.TheVariants as change
-use Rattle.net_rollout.specs.Steps.{AreChanged, AreNodesAfter, AreTold, GoAs, GoesAs, IsCertified, IsLastStep, IsNodeAfter, IsOfPart, IsSwitched, IsTaken, IsTold, SendAs, SendsBy, TakesParts, last_plan, row_values}
-use Rattle.net_rollout.proofs.Items.{item_pushed}
+use Rattle.std.{proofs.Common.{◌≡◌, ◌≢◌, ◌⊎◌, ◌↔◌, inl, inr, ◌<◌, ◌≤◌, ℕ, ◌+◌, List, [], ◌∷◌, ◌++◌, length, map, get_or, Some, None, Option, option_map, unwrap_or, ap, refl, sym, subst, ◌∙◌, arith}, specs.Prelude.{slice_get, IfSome, IfOk, Result, Ok, Err, AllPairs, Contains, Vec}, specs.declared.alloc.AllocError.{AllocError}, specs.declared.alloc.Global.{Global}, proofs.lemmas.Bool.{cases_lt}, proofs.lemmas.List.{get_or_default}, proofs.lemmas.Option.{slice_get_past, slice_get_within}, proofs.lemmas.List.Elements.{Contains-append_left, Contains-push, Contains-push_cases}, proofs.lemmas.List.Quantifiers.{all_pairs_push}}
+use Rattle.plan_values.{specs.declared.plan.Plan.{Plan}, specs.declared.nodes.Bus.{Bus}, specs.declared.nodes.Node.{Node}, specs.declared.nodes.Row.{Row}, specs.NodeValues.{bus_value, row_value, but_rows}, specs.declared.certificate.Certificate.{Certificate}}
+use Rattle.net_tables.{specs.Routing.{node_at, rows_of}, proofs.Elements.{element}}
+use Rattle.net_rules.{specs.MoveRules.{AcceptsMove, HaveSameFrame, IsSameNode, SameFrame, SameNode}, specs.MoveObstacles.{DifferInRowsAlone}, proofs.Beyond.{no_rows as rows_beyond}}
+use Rattle.net_rollout.{specs.declared.change.LastStep.{LastStep}, specs.declared.change.Part.{Part}, specs.declared.change.Step.{Step}, specs.declared.change.Change.{Change}, specs.Steps.{AreChanged, AreNodesAfter, AreTold, GoAs, GoesAs, IsCertified, IsLastStep, IsNodeAfter, IsOfPart, IsSwitched, IsTaken, IsTold, SendAs, SendsBy, TakesParts, last_plan, row_values}, proofs.Items.{item_pushed}}
 use Rattle.mctp_transport.proofs.FirstIndexes.{same_element}
-use Rattle.net_tables.proofs.Elements.{element}
-use Rattle.net_rules.proofs.Beyond.{no_rows as rows_beyond}
+use Rattle.net_rollout.specs.declared.change.Change.TheVariants as change
 
 -- ---- parts
 

@@ -1,12 +1,8 @@
 -- Rows that are made of pieces of others.
-use Rattle.std.proofs.Common.{◌≡◌, ◌⊎◌, ◌↔◌, inl, inr, ◌<◌, ◌≤◌, ℕ, ◌+◌, List, [], ◌∷◌, ◌++◌, length, Some, None, Option, Bool, true, false, ap, sym, subst, ◌∙◌, arith}
-use Rattle.std.specs.Prelude.{slice_get}
-use Rattle.std.proofs.lemmas.Bool.{cases_lt, false≢true}
-use Rattle.std.proofs.lemmas.Option.{slice_get_within, same_Some}
+use Rattle.std.{proofs.Common.{◌≡◌, ◌⊎◌, ◌↔◌, inl, inr, ◌<◌, ◌≤◌, ℕ, ◌+◌, List, [], ◌∷◌, ◌++◌, length, Some, None, Option, Bool, true, false, ap, sym, subst, ◌∙◌, arith}, specs.Prelude.{slice_get}, proofs.lemmas.Bool.{cases_lt, false≢true}, proofs.lemmas.Option.{slice_get_within, same_Some}}
 use Rattle.plan_values.specs.declared.nodes.Row.{Row}
 use Rattle.net_tables.specs.Routing.{Covers, NamesFor}
-use Rattle.net_rollout.specs.Steps.{IsPieceOf, SendsBy, SendAs}
-use Rattle.net_rollout.proofs.Items.{item_pushed}
+use Rattle.net_rollout.{specs.Steps.{IsPieceOf, SendsBy, SendAs}, proofs.Items.{item_pushed}}
 use Rattle.mctp_transport.proofs.FirstIndexes.{get_front, get_last, same_element}
 
 -- so one of the first k rows does

@@ -1,26 +1,10 @@
 -- Steps from the rows of one plan to those of another.
-use Rattle.std.specs.Prelude.{◌≡◌, ◌≢◌, ◌⊎◌, ◌↔◌, ℕ, ◌<◌, ◌≤◌, List, [], ◌∷◌, slice_get, length, map}
-use Rattle.std.specs.Prelude.{AllPairs, Contains, Some, option_map, ⊤}
-use Rattle.plan_values.specs.declared.plan.Plan.{Plan}
-use Rattle.plan_values.specs.declared.nodes.Row.{Row}
-use Rattle.plan_values.specs.declared.certificate.Certificate.{Certificate}
-use Rattle.plan_values.specs.CertificateValues.{certificate_value}
-use Rattle.plan_values.specs.NodeValues.{RowValue, row_value}
-use Rattle.plan_values.specs.PlanValues.{plan_value}
-use Rattle.plan_values.specs.ShortText.{HasFewPlaces}
-use Rattle.plan_values.specs.WellFormed.{IsWellFormed}
-use Rattle.plan_values.specs.declared.nodes.Node.{Node}
+use Rattle.std.specs.Prelude.{◌≡◌, ◌≢◌, ◌⊎◌, ◌↔◌, ℕ, ◌<◌, ◌≤◌, List, [], ◌∷◌, slice_get, length, map, AllPairs, Contains, Some, option_map, ⊤}
+use Rattle.plan_values.{specs.declared.plan.Plan.{Plan}, specs.declared.nodes.Row.{Row}, specs.declared.certificate.Certificate.{Certificate}, specs.CertificateValues.{certificate_value}, specs.NodeValues.{RowValue, row_value, but_rows}, specs.PlanValues.{plan_value}, specs.ShortText.{HasFewPlaces}, specs.WellFormed.{IsWellFormed}, specs.declared.nodes.Node.{Node}}
 use Rattle.net_tables.specs.Routing.{Covers, NamesFor, rows_of, node_at}
-use Rattle.net_rules.specs.MoveObstacles.{DifferInRowsAlone, HasNoMoveCertificate, IsExactForMove, NamesMoveObstacle}
-use Rattle.plan_values.specs.NodeValues.{but_rows}
-use Rattle.net_rules.specs.MoveRules.{AcceptsMove}
-use Rattle.net_rules.specs.Rules.{Accepts}
-use Rattle.net_rollout.specs.declared.change.Part.{Part}
-use Rattle.net_rollout.specs.declared.change.Change.{Change}
+use Rattle.net_rules.{specs.MoveObstacles.{DifferInRowsAlone, HasNoMoveCertificate, IsExactForMove, NamesMoveObstacle}, specs.MoveRules.{AcceptsMove}, specs.Rules.{Accepts}}
+use Rattle.net_rollout.{specs.declared.change.Part.{Part}, specs.declared.change.Change.{Change}, specs.declared.change.Step.{Step}, specs.declared.change.LastStep.{LastStep}, specs.declared.change.Rollout.{Rollout}}
 use Rattle.net_rollout.specs.declared.change.Change.TheVariants as change
-use Rattle.net_rollout.specs.declared.change.Step.{Step}
-use Rattle.net_rollout.specs.declared.change.LastStep.{LastStep}
-use Rattle.net_rollout.specs.declared.change.Rollout.{Rollout}
 use Rattle.net_rollout.specs.declared.change.Rollout.TheVariants as way
 
 -- the part is of node n, and e is one of its EIDs

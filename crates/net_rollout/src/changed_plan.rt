@@ -1,9 +1,7 @@
 //! The plan that a change leads to.
 ghost use Rattle.std.specs.Prelude.{◌≡◌, ◌↔◌, ℕ, IfOk, IfSome, IsTrue, length, map, option_map};
-ghost use Rattle.plan_values.specs.declared.plan.Plan.{Plan};
-ghost use Rattle.plan_values.specs.NodeValues.{bus_value, port_value, record_value, row_value, terminus_value, name_bytes};
+ghost use Rattle.plan_values.{specs.declared.plan.Plan.{Plan}, specs.NodeValues.{bus_value, port_value, record_value, row_value, terminus_value, name_bytes, but_rows}};
 ghost use Rattle.net_tables.specs.Routing.{rows_of};
-ghost use Rattle.plan_values.specs.NodeValues.{but_rows};
 ghost use Rattle.net_rollout.specs.Steps.{AreChanged, AreNodesAfter, AreTold, ChangesAs, GoAs, GoesAs, IsPartTold, IsTaken, IsTold, SendAs};
 
 use crate::change::{Change, Part};

@@ -1,7 +1,6 @@
 //! `rollout`: the steps from the rows of one plan to those of another.
 ghost use Rattle.std.specs.Prelude.{◌≡◌, ◌≢◌, ◌↔◌, ◌⊎◌, IfOk, IfSome, IsTrue};
-ghost use Rattle.net_rules.specs.declared.move_obstacle.MoveObstacle.TheVariants.{OutOfMemory};
-ghost use Rattle.net_rules.specs.MoveObstacles.{DifferInRowsAlone, HasNoMoveCertificate, NamesMoveObstacle, RulesOutMoveCertificates};
+ghost use Rattle.net_rules.{specs.declared.move_obstacle.MoveObstacle.TheVariants.{OutOfMemory}, specs.MoveObstacles.{DifferInRowsAlone, HasNoMoveCertificate, NamesMoveObstacle, RulesOutMoveCertificates}};
 ghost use Rattle.net_rollout.specs.Steps.{HasCertificate, AreFit, IsUnfit, AreSteps, IsStep, IsRollout, last_plan};
 
 use crate::change::{Change, LastStep, Rollout, Step};

@@ -1,21 +1,12 @@
 -- Stretches of EIDs that the nodes send on alike.
-use Rattle.std.proofs.Common.{◌≡◌, ℕ, ◌<◌, ◌≤◌, List, [], ◌∷◌, length, Option, Some, None, refl, sym, ◌∙◌, subst, arith, inl, inr, min, ◌+◌, ◌⊎◌}
-use Rattle.std.specs.Prelude.{Any, MatchOption, slice_get}
-use Rattle.std.proofs.lemmas.Bool.{cases_lt}
-use Rattle.std.proofs.Math.Nat.{min-eq_left, min-eq_right}
-use Rattle.mctp_routing.specs.declared.row.Hop.{Hop}
+use Rattle.std.{proofs.Common.{◌≡◌, ℕ, ◌<◌, ◌≤◌, List, [], ◌∷◌, length, Option, Some, None, refl, sym, ◌∙◌, subst, arith, inl, inr, min, ◌+◌, ◌⊎◌}, specs.Prelude.{Any, MatchOption, slice_get}, proofs.lemmas.Bool.{cases_lt}, proofs.Math.Nat.{min-eq_left, min-eq_right}}
+use Rattle.mctp_routing.{specs.declared.row.Hop.{Hop}, specs.declared.pieces.Piece.{Piece}, proofs.PieceLoops.{at_place, looked_before, inside_interval}}
+use Rattle.plan_values.specs.declared.plan.Plan.{Plan}
+use Rattle.net_tables.{specs.Routing.{rows_of, NamesFor}, specs.Rows.{RowsAreApart}, specs.Tables.{IsHopOf, SendsAs}, proofs.TableLaws.{same_next}}
+use Rattle.net_rules.{specs.MovingAlike.{MovesAlike, MoveAlike, HoldsAlike, HaveOneHop, HoldsBeside, HaveEdge, IsCutAt, IsCut}, proofs.EidMoves.{moves_within}}
 use Rattle.mctp_routing.specs.declared.row.TableRow as bridge
-use Rattle.mctp_routing.specs.declared.pieces.Piece.{Piece}
 use Rattle.mctp_routing.specs.Rows as rule
 use Rattle.mctp_routing.specs.Pieces as cut
-use Rattle.mctp_routing.proofs.PieceLoops.{at_place, looked_before, inside_interval}
-use Rattle.plan_values.specs.declared.plan.Plan.{Plan}
-use Rattle.net_tables.specs.Routing.{rows_of, NamesFor}
-use Rattle.net_tables.specs.Rows.{RowsAreApart}
-use Rattle.net_tables.specs.Tables.{IsHopOf, SendsAs}
-use Rattle.net_rules.specs.MovingAlike.{MovesAlike, MoveAlike, HoldsAlike, HaveOneHop, HoldsBeside, HaveEdge, IsCutAt, IsCut}
-use Rattle.net_tables.proofs.TableLaws.{same_next}
-use Rattle.net_rules.proofs.EidMoves.{moves_within}
 
 -- ---- the first piece
 

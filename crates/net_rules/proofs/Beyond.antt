@@ -1,29 +1,10 @@
 -- Beyond the plan's nodes no rule demands anything.
-use Rattle.std.proofs.Common.{◌≡◌, ℕ, ◌≤◌, length, List, [], Option, Some, None, refl, arith}
-use Rattle.std.specs.Prelude.{slice_get}
-use Rattle.std.proofs.lemmas.Option.{slice_get_past}
+use Rattle.std.{proofs.Common.{◌≡◌, ℕ, ◌≤◌, length, List, [], Option, Some, None, refl, arith}, specs.Prelude.{slice_get}, proofs.lemmas.Option.{slice_get_past}}
 use Rattle.mctp_transport.specs.PacketValues.{IsAssignable}
-use Rattle.net_rules.specs.declared.rule.Rule.{Rule}
-use Rattle.net_rules.specs.declared.rule.Rule.TheVariants.{C01, C02, C03, C04, C05, C06, C07, C08, C09, C10, C11, C12, C13, C14, C15, C16}
-use Rattle.plan_values.specs.declared.plan.Plan.{Plan}
-use Rattle.plan_values.specs.declared.nodes.Row.{Row}
-use Rattle.plan_values.specs.declared.certificate.Certificate.{Certificate}
-use Rattle.plan_values.specs.declared.nodes.Pool.{Pool}
+use Rattle.net_rules.{specs.declared.rule.Rule.{Rule}, specs.declared.rule.Rule.TheVariants.{C01, C02, C03, C04, C05, C06, C07, C08, C09, C10, C11, C12, C13, C14, C15, C16}, specs.Owners.{HasBridgeAsOwner, IsBelowItsOwner}, specs.Pools.{IsInItsPool, HasLawfulPool}, specs.HeldEids.{IsLedOn}, specs.Locators.{HasOneByteAsEid, LocatesTerminus}, specs.Superfluous.{NeedsWhatItIsGiven, NeedsItsRank}, specs.Names.{name_of, HaveOneName, HasNewName}, specs.Eids.{IsNewlyHeld}, specs.Rules.{AtNode, AtItsEid, AtNodeOrEid, AtItem, AtNodeOrItem, AtRowEid, AtItemOrEid, PlanDemands, CertificateDemands, Demands}}
+use Rattle.plan_values.{specs.declared.plan.Plan.{Plan}, specs.declared.nodes.Row.{Row}, specs.declared.certificate.Certificate.{Certificate}, specs.declared.nodes.Pool.{Pool}}
 use Rattle.pdr_repository.specs.Records.{IsRecordOf}
-use Rattle.net_tables.specs.Routing.{Holds, rows_of, OfItem}
-use Rattle.net_tables.specs.Ownership.{IsOwnedBy, pool_of}
-use Rattle.net_rules.specs.Owners.{HasBridgeAsOwner, IsBelowItsOwner}
-use Rattle.net_rules.specs.Pools.{IsInItsPool, HasLawfulPool}
-use Rattle.net_tables.specs.TwoPlans.{Tables, one_plan}
-use Rattle.net_rules.specs.HeldEids.{IsLedOn}
-use Rattle.net_tables.specs.Repositories.{terminus_of, records_of, places_of, HasRecords, HasNewHandle, IsChained}
-use Rattle.net_rules.specs.Locators.{HasOneByteAsEid, LocatesTerminus}
-use Rattle.net_rules.specs.Superfluous.{NeedsWhatItIsGiven, NeedsItsRank}
-use Rattle.net_rules.specs.Names.{name_of, HaveOneName, HasNewName}
-use Rattle.net_rules.specs.Eids.{IsNewlyHeld}
-use Rattle.net_tables.specs.Rows.{IsInRange, IsApartFromEarlier, NamesNeighbor}
-use Rattle.net_tables.specs.Ranks.{Falls}
-use Rattle.net_rules.specs.Rules.{AtNode, AtItsEid, AtNodeOrEid, AtItem, AtNodeOrItem, AtRowEid, AtItemOrEid, PlanDemands, CertificateDemands, Demands}
+use Rattle.net_tables.{specs.Routing.{Holds, rows_of, OfItem}, specs.Ownership.{IsOwnedBy, pool_of}, specs.TwoPlans.{Tables, one_plan}, specs.Repositories.{terminus_of, records_of, places_of, HasRecords, HasNewHandle, IsChained}, specs.Rows.{IsInRange, IsApartFromEarlier, NamesNeighbor}, specs.Ranks.{Falls}}
 
 pub no_row : (plan : Plan) (n r : ℕ) (row : Row) → length plan.nodes.items ≤ n → slice_get (rows_of plan n) r ≡ Some row → ⊥
 no_row plan n r row past = rw (slice_get_past plan.nodes.items n past) (λ is. cc)

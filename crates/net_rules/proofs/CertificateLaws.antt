@@ -1,20 +1,8 @@
 -- Exact ranks fall with each move, and none do round a loop.
-use Rattle.std.proofs.Common.{◌≡◌, ℕ, List, Some, None, refl, arith}
-use Rattle.std.specs.Prelude.{slice_get}
-use Rattle.net_rules.specs.declared.rule.Rule.TheVariants.{C05, C10}
-use Rattle.plan_values.specs.declared.plan.Plan.{Plan}
-use Rattle.plan_values.specs.declared.nodes.Row.{Row}
-use Rattle.plan_values.specs.declared.certificate.Certificate.{Certificate}
-use Rattle.net_tables.specs.Routing.{rows_of, Covers, MovesTo}
-use Rattle.net_tables.specs.Ranks.{rank, Falls}
-use Rattle.net_rules.specs.PlanFaults.{PlanMeetsAll}
-use Rattle.net_tables.specs.Rows.{RowsAreApart}
-use Rattle.net_rules.specs.RoutingLoops.{IsFirstRoutingLoop}
-use Rattle.net_rules.specs.Rules.{RuleHolds}
-use Rattle.net_rules.specs.Certificates.{AreExactRanks}
-use Rattle.net_rules.proofs.Ends.{falls_by_rule}
-use Rattle.net_rules.proofs.Circling.{one_less, no_circle_down}
-use Rattle.net_rules.proofs.EidMoves.{moves_only, ends_from_rank}
+use Rattle.std.{proofs.Common.{◌≡◌, ℕ, List, Some, None, refl, arith}, specs.Prelude.{slice_get}}
+use Rattle.net_rules.{specs.declared.rule.Rule.TheVariants.{C05, C10}, specs.PlanFaults.{PlanMeetsAll}, specs.RoutingLoops.{IsFirstRoutingLoop}, specs.Rules.{RuleHolds}, specs.Certificates.{AreExactRanks}, proofs.Ends.{falls_by_rule}, proofs.Circling.{one_less, no_circle_down}, proofs.EidMoves.{moves_only, ends_from_rank}}
+use Rattle.plan_values.{specs.declared.plan.Plan.{Plan}, specs.declared.nodes.Row.{Row}, specs.declared.certificate.Certificate.{Certificate}}
+use Rattle.net_tables.{specs.Routing.{rows_of, Covers, MovesTo}, specs.Ranks.{rank, Falls}, specs.Rows.{RowsAreApart}}
 
 pub rows_apart : (plan : Plan) → PlanMeetsAll plan → RowsAreApart plan
 rows_apart plan met n r = met C05 n (Some r) None

@@ -1,17 +1,8 @@
 -- Chains of records, and why a bad one leaves no places.
-use Rattle.std.proofs.Common.{◌≡◌, ◌⊎◌, ℕ, ◌+◌, ◌-◌, ◌<◌, List, length, Some, get_or, sym, ◌∙◌, ap, arith, inl, inr}
-use Rattle.std.specs.Prelude.{slice_get}
-use Rattle.std.proofs.lemmas.Bool.{cases_order}
-use Rattle.std.proofs.lemmas.Option.{same_Some, slice_get_within, get_or_from_slice_get}
+use Rattle.std.{proofs.Common.{◌≡◌, ◌⊎◌, ℕ, ◌+◌, ◌-◌, ◌<◌, List, length, Some, get_or, sym, ◌∙◌, ap, arith, inl, inr}, specs.Prelude.{slice_get}, proofs.lemmas.Bool.{cases_order}, proofs.lemmas.Option.{same_Some, slice_get_within, get_or_from_slice_get}}
 use Rattle.plan_values.specs.declared.terminus.PlannedRecord.{PlannedRecord}
-use Rattle.net_rules.specs.declared.certifying.chains.ChainFault.{ChainFault}
-use Rattle.net_rules.specs.declared.certifying.chains.ChainFault.TheVariants.{Missing, Doubled, Circle}
-use Rattle.net_rules.specs.Moves.{IsEnd}
-use Rattle.net_rules.specs.Circles.{EndsAfter, IsOnCircle}
-use Rattle.net_rules.specs.RecordChains.{HasNext, HasNewNext, IsFollowedBy, HaveNewHandles, IsBadChain, AreChained, AreLinked}
-use Rattle.net_rules.proofs.Circling.{no_circle_down}
+use Rattle.net_rules.{specs.declared.certifying.chains.ChainFault.{ChainFault}, specs.declared.certifying.chains.ChainFault.TheVariants.{Missing, Doubled, Circle}, specs.Moves.{IsEnd}, specs.Circles.{EndsAfter, IsOnCircle}, specs.RecordChains.{HasNext, HasNewNext, IsFollowedBy, HaveNewHandles, IsBadChain, AreChained, AreLinked}, proofs.Circling.{no_circle_down}, proofs.Lines.{end_is_near, endless_circles, as_far}}
 use Rattle.net_tables.proofs.Elements.{element}
-use Rattle.net_rules.proofs.Lines.{end_is_near, endless_circles, as_far}
 
 pub next_same : (records : List PlannedRecord) (j : ℕ) (r other : PlannedRecord) → slice_get records j ≡ Some r → slice_get records j ≡ Some other → r.next ≡ other.next
 next_same records j r other is is' = ap (λ (x : PlannedRecord). x.next) (same_Some r other (sym is ∙ is'))

@@ -1,21 +1,8 @@
 -- Places given from the end of a chain on.
-use Rattle.std.proofs.Common.{◌≡◌, ◌≢◌, ℕ, zero, suc, ◌+◌, ◌-◌, ◌<◌, List, [], ◌∷◌, ◌++◌, length, map, Option, Some, None, sym, ◌∙◌, ap, refl, arith, subst, inl, inr, slice_set, replicate, MatchOption, IsTrue, ◌↔◌, nat_eq}
-use Rattle.std.specs.Prelude.{slice_get, option_map, is_some}
-use Rattle.std.proofs.lemmas.Bool.{cases_lt, cases_order, eqb-true, eq-eqb, false≢true}
-use Rattle.std.proofs.lemmas.Option.{same_Some, none-some, slice_get-map, slice_get_within}
-use Rattle.std.proofs.lemmas.List.{length-map, length-set, length_push}
-use Rattle.plan_values.specs.declared.terminus.PlannedRecord.{PlannedRecord}
-use Rattle.plan_values.specs.declared.certificate.RecordPlace.{RecordPlace}
-use Rattle.net_rules.specs.declared.certifying.handle_index.HandleIndex.{HandleIndex}
-use Rattle.net_rules.specs.Moves.{IsEnd}
-use Rattle.net_tables.specs.Routing.{OfItem}
-use Rattle.net_rules.specs.Circles.{EndsAfter, IsLeastOnCircle}
-use Rattle.net_tables.specs.Repositories.{IsChained}
-use Rattle.net_rules.specs.RecordChains.{HasNext, HasNewNext, IsFollowedBy, ArePlaces, found_in, IsIndexOf, IsFirstIndexOf, AreLinked, AreFromTheEnd}
-use Rattle.net_rules.proofs.Circling.{one_less, circle_never_ends, ends_once, spot, spot_parts}
-use Rattle.net_tables.proofs.Elements.{element, in_set, in_push}
-use Rattle.net_rules.proofs.Lines.{lands_within}
-use Rattle.net_rules.proofs.ChainLaws.{next_same, handle_same, one_follows, follows_within, zero_ends, one_next, follows_or_ends, end_is_zero, as_far_is_one, near_end, without_end_circles}
+use Rattle.std.{proofs.Common.{◌≡◌, ◌≢◌, ℕ, zero, suc, ◌+◌, ◌-◌, ◌<◌, List, [], ◌∷◌, ◌++◌, length, map, Option, Some, None, sym, ◌∙◌, ap, refl, arith, subst, inl, inr, slice_set, replicate, MatchOption, IsTrue, ◌↔◌, nat_eq}, specs.Prelude.{slice_get, option_map, is_some}, proofs.lemmas.Bool.{cases_lt, cases_order, eqb-true, eq-eqb, false≢true}, proofs.lemmas.Option.{same_Some, none-some, slice_get-map, slice_get_within}, proofs.lemmas.List.{length-map, length-set, length_push}}
+use Rattle.plan_values.{specs.declared.terminus.PlannedRecord.{PlannedRecord}, specs.declared.certificate.RecordPlace.{RecordPlace}}
+use Rattle.net_rules.{specs.declared.certifying.handle_index.HandleIndex.{HandleIndex}, specs.Moves.{IsEnd}, specs.Circles.{EndsAfter, IsLeastOnCircle}, specs.RecordChains.{HasNext, HasNewNext, IsFollowedBy, ArePlaces, found_in, IsIndexOf, IsFirstIndexOf, AreLinked, AreFromTheEnd}, proofs.Circling.{one_less, circle_never_ends, ends_once, spot, spot_parts}, proofs.Lines.{lands_within}, proofs.ChainLaws.{next_same, handle_same, one_follows, follows_within, zero_ends, one_next, follows_or_ends, end_is_zero, as_far_is_one, near_end, without_end_circles}}
+use Rattle.net_tables.{specs.Routing.{OfItem}, specs.Repositories.{IsChained}, proofs.Elements.{element, in_set, in_push}}
 
 pub none_placed : (n j : ℕ) (o : Option ℕ) → slice_get (replicate n None) j ≡ Some o → o ≡ None
 none_placed zero j o is = absurd (none-some o is)

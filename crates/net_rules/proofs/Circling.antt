@@ -1,12 +1,6 @@
 -- Where moves lead: to an end, or round a circle.
-use Rattle.std.proofs.Common.{◌≡◌, ℕ, zero, suc, ◌+◌, ◌-◌, ◌<◌, ◌≤◌, inl, inr, arith, refl, subst, sym, ◌∙◌, ap, List, length, Some, Option, None, add-one, get_or, ◌++◌, ◌∷◌, [], ◌≢◌, length-append}
-use Rattle.std.specs.Prelude.{slice_get}
-use Rattle.std.proofs.lemmas.Bool.{cases_lt}
-use Rattle.std.proofs.lemmas.List.{get_or_append_left, get_or_push, length_push}
-use Rattle.std.proofs.lemmas.Option.{same_Some, slice_get_within, slice_get-get_or, option_and_then_some, none-some}
-use Rattle.net_rules.specs.Moves.{Leads, IsEnd}
-use Rattle.net_rules.specs.Circles.{EndsAfter, IsOnCircle, IsLoop, IsLoopFrom, MovesBy, HasNoCircle, next_in}
-use Rattle.net_rules.proofs.Pigeons.{pigeons}
+use Rattle.std.{proofs.Common.{◌≡◌, ℕ, zero, suc, ◌+◌, ◌-◌, ◌<◌, ◌≤◌, inl, inr, arith, refl, subst, sym, ◌∙◌, ap, List, length, Some, Option, None, add-one, get_or, ◌++◌, ◌∷◌, [], ◌≢◌, length-append}, specs.Prelude.{slice_get}, proofs.lemmas.Bool.{cases_lt}, proofs.lemmas.List.{get_or_append_left, get_or_push, length_push}, proofs.lemmas.Option.{same_Some, slice_get_within, slice_get-get_or, option_and_then_some, none-some}}
+use Rattle.net_rules.{specs.Moves.{Leads, IsEnd}, specs.Circles.{EndsAfter, IsOnCircle, IsLoop, IsLoopFrom, MovesBy, HasNoCircle, next_in}, proofs.Pigeons.{pigeons}}
 
 -- the place after so many of the moves
 pub spot : (Move : ℕ → ℕ → Type 0) (n k m : ℕ) → Leads Move n k m → ℕ → ℕ

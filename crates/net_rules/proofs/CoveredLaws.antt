@@ -1,10 +1,6 @@
 -- Endpoint IDs that rows cover: those of one row more, and those of all rows.
-use Rattle.std.proofs.Common.{◌≡◌, ◌⊎◌, ◌↔◌, ℕ, ◌+◌, ◌<◌, ◌≤◌, List, length, Some, refl, sym, ◌∙◌, subst, arith, inl, inr}
-use Rattle.std.specs.Prelude.{slice_get}
-use Rattle.std.proofs.lemmas.Bool.{cases_lt}
-use Rattle.std.proofs.lemmas.Option.{same_Some, slice_get_within}
-use Rattle.plan_values.specs.declared.nodes.Row.{Row}
-use Rattle.plan_values.specs.declared.plan.Plan.{Plan}
+use Rattle.std.{proofs.Common.{◌≡◌, ◌⊎◌, ◌↔◌, ℕ, ◌+◌, ◌<◌, ◌≤◌, List, length, Some, refl, sym, ◌∙◌, subst, arith, inl, inr}, specs.Prelude.{slice_get}, proofs.lemmas.Bool.{cases_lt}, proofs.lemmas.Option.{same_Some, slice_get_within}}
+use Rattle.plan_values.{specs.declared.nodes.Row.{Row}, specs.declared.plan.Plan.{Plan}}
 use Rattle.net_tables.specs.Routing.{Covers, HasRow, rows_of}
 use Rattle.net_rules.specs.Spans.{IsCovered}
 

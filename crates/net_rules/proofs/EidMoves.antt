@@ -1,22 +1,8 @@
 -- Moves of what is for an EID, by rows and by table.
-use Rattle.std.proofs.Common.{◌≡◌, ℕ, ◌<◌, ◌≤◌, List, length, Option, Some, None, refl, sym, ◌∙◌, arith, ◌⊎◌, inl, inr, subst, ap, get_or, IfOk, Ok, Err, Result}
-use Rattle.std.specs.Prelude.{slice_get}
-use Rattle.std.proofs.lemmas.Bool.{cases_lt}
-use Rattle.std.proofs.lemmas.Option.{slice_get-get_or, option_and_then_some}
-use Rattle.std.specs.declared.alloc.AllocError.{AllocError}
-use Rattle.net_rules.specs.declared.certifying.walks.Walked.{Walked}
+use Rattle.std.{proofs.Common.{◌≡◌, ℕ, ◌<◌, ◌≤◌, List, length, Option, Some, None, refl, sym, ◌∙◌, arith, ◌⊎◌, inl, inr, subst, ap, get_or, IfOk, Ok, Err, Result}, specs.Prelude.{slice_get}, proofs.lemmas.Bool.{cases_lt}, proofs.lemmas.Option.{slice_get-get_or, option_and_then_some}, specs.declared.alloc.AllocError.{AllocError}}
+use Rattle.net_rules.{specs.declared.certifying.walks.Walked.{Walked}, specs.Moves.{IsEnd}, specs.Circles.{MovesBy, EndsAfter, HasNoCircle, IsWalked}, specs.Promises.{WayEnds}, specs.RoutingLoops.{IsRank, AreNexts}, proofs.Beyond.{no_row}, proofs.Circling.{ends_once}, proofs.SameMoves.{IsWalked-same}, proofs.Ends.{moves_or_ends}}
 use Rattle.plan_values.specs.declared.plan.Plan.{Plan}
-use Rattle.net_tables.specs.Routing.{MovesTo, rows_of, NamesFor}
-use Rattle.net_tables.specs.Rows.{IsInRange, RowsAreApart, RowsAreInRange}
-use Rattle.net_rules.specs.Moves.{IsEnd}
-use Rattle.net_rules.specs.Circles.{MovesBy, EndsAfter, HasNoCircle, IsWalked}
-use Rattle.net_rules.specs.Promises.{WayEnds}
-use Rattle.net_rules.specs.RoutingLoops.{IsRank, AreNexts}
-use Rattle.net_rules.proofs.Beyond.{no_row}
-use Rattle.net_rules.proofs.Circling.{ends_once}
-use Rattle.net_rules.proofs.SameMoves.{IsWalked-same}
-use Rattle.net_rules.proofs.Ends.{moves_or_ends}
-use Rattle.net_tables.proofs.TableLaws.{same_next}
+use Rattle.net_tables.{specs.Routing.{MovesTo, rows_of, NamesFor}, specs.Rows.{IsInRange, RowsAreApart, RowsAreInRange}, proofs.TableLaws.{same_next}}
 
 -- ---- ends, in two words
 

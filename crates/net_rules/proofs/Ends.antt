@@ -1,15 +1,8 @@
 -- Following rows ends within the rank.
-use Rattle.std.proofs.Common.{ℕ, zero, suc, ◌+◌, ◌<◌, ◌≤◌, Some, refl, subst, inl, inr, arith}
-use Rattle.std.specs.Prelude.{◌⊎◌}
-use Rattle.net_rules.specs.declared.rule.Rule.TheVariants.{C10}
-use Rattle.plan_values.specs.declared.plan.Plan.{Plan}
-use Rattle.plan_values.specs.declared.certificate.Certificate.{Certificate}
-use Rattle.net_tables.specs.Routing.{MovesTo, rows_of, eid_of}
-use Rattle.net_tables.specs.Ranks.{rank, Falls}
-use Rattle.net_rules.specs.Rules.{RuleHolds, Accepts}
-use Rattle.net_rules.specs.Moves.{Leads}
-use Rattle.net_rules.specs.Promises.{WayEnds, EndsWithinRank}
-use Rattle.net_tables.proofs.RowSearches.{is_or_not, one_or_none}
+use Rattle.std.{proofs.Common.{ℕ, zero, suc, ◌+◌, ◌<◌, ◌≤◌, Some, refl, subst, inl, inr, arith}, specs.Prelude.{◌⊎◌}}
+use Rattle.net_rules.{specs.declared.rule.Rule.TheVariants.{C10}, specs.Rules.{RuleHolds, Accepts}, specs.Moves.{Leads}, specs.Promises.{WayEnds, EndsWithinRank}}
+use Rattle.plan_values.{specs.declared.plan.Plan.{Plan}, specs.declared.certificate.Certificate.{Certificate}}
+use Rattle.net_tables.{specs.Routing.{MovesTo, rows_of, eid_of}, specs.Ranks.{rank, Falls}, proofs.RowSearches.{is_or_not, one_or_none}}
 
 -- along a row the rank falls
 pub falls_by_rule : (plan : Plan) (cert : Certificate) → RuleHolds plan cert C10 → (e n m : ℕ) → MovesTo plan e n m → rank cert m e < rank cert n e

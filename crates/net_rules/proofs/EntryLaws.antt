@@ -1,10 +1,7 @@
 -- What is said of one item of a list.
-use Rattle.std.proofs.Common.{◌≡◌, ◌≢◌, ℕ, ◌+◌, ◌<◌, ◌≤◌, List, length, get_or, Some, None, refl, sym, ◌∙◌, subst, arith, ◌⊎◌}
-use Rattle.std.specs.Prelude.{slice_get}
-use Rattle.std.proofs.lemmas.Option.{same_Some, slice_get_read, slice_get_within}
+use Rattle.std.{proofs.Common.{◌≡◌, ◌≢◌, ℕ, ◌+◌, ◌<◌, ◌≤◌, List, length, get_or, Some, None, refl, sym, ◌∙◌, subst, arith, ◌⊎◌}, specs.Prelude.{slice_get}, proofs.lemmas.Option.{same_Some, slice_get_read, slice_get_within}}
+use Rattle.net_tables.{specs.Routing.{OfItem}, specs.Repositories.{IsHandleAt, IsChained}}
 use Rattle.plan_values.specs.declared.terminus.PlannedRecord as listed
-use Rattle.net_tables.specs.Routing.{OfItem}
-use Rattle.net_tables.specs.Repositories.{IsHandleAt, IsChained}
 
 -- of the item at an index of the list, whichever list was looked at
 pub of_read : {A : Type 0} (items others : List A) (i : ℕ) (item : A) (P : List A → A → Type 0) → items ≡ others → i < length items → item ≡ get_or items i item

@@ -1,45 +1,8 @@
 -- A plan that meets the rules, and the certificate that is exactly its own: it is accepted, and well formed.
-use Rattle.std.proofs.Common.{◌≡◌, ◌≢◌, ℕ, zero, suc, ◌+◌, ◌<◌, ◌≤◌, List, length, map, get_or, slice_get, Option, Some, None, unwrap_or, refl, sym, ◌∙◌, ap, subst, arith, option_map, AllPairs, All, nat_lt, Bool, true, [], ◌∷◌, string_bytes}
-use Rattle.std.specs.List.{list_all}
-use Rattle.std.proofs.lemmas.Bool.{and_from, lt-ltb}
-use Rattle.std.proofs.lemmas.List.{length-map}
-use Rattle.std.proofs.lemmas.Option.{slice_get-map, get_or_from_slice_get}
-use Rattle.net_rules.specs.declared.rule.Rule.{Rule}
-use Rattle.net_rules.specs.declared.rule.Rule.TheVariants.{C01, C02, C03, C04, C05, C06, C07, C08, C09, C10, C11, C12, C13, C14, C15, C16}
-use Rattle.plan_values.specs.declared.plan.Plan.{Plan}
-use Rattle.plan_values.specs.declared.nodes.Node.{Node}
-use Rattle.plan_values.specs.declared.certificate.Certificate.{Certificate}
-use Rattle.plan_values.specs.declared.certificate.NodePlaces.{NodePlaces}
-use Rattle.plan_values.specs.declared.terminus.PlannedTerminus.{PlannedTerminus}
-use Rattle.plan_values.specs.CertificateValues.{certificate_value, level_value, places_value, node_ranks_value, range_value}
-use Rattle.plan_values.specs.CertificateValues.{IsAscending}
-use Rattle.plan_values.specs.CertificateValues.{are_known}
-use Rattle.plan_values.specs.NodeValues.{node_value, node_names}
-use Rattle.plan_values.specs.PlanValues.{plan_value}
-use Rattle.plan_values.specs.ShortText.{HasFewPlaces}
-use Rattle.plan_values.specs.WellFormed.{IsWellFormed}
-use Rattle.plan_values.specs.declared.nodes.Row.{Row}
-use Rattle.net_tables.specs.Routing.{Holds, HasRow, Covers, rows_of}
-use Rattle.net_rules.specs.Names.{HaveOneName, HasNewName}
-use Rattle.net_tables.specs.Ownership.{owner_of, IsOwnedBy, given_level, level}
-use Rattle.net_rules.specs.Owners.{IsBelowItsOwner}
-use Rattle.net_rules.specs.OwnerLoops.{IsLevel}
-use Rattle.net_tables.specs.Ranks.{rank, Falls}
-use Rattle.net_tables.specs.Repositories.{terminus_of, records_of, places_given}
-use Rattle.net_tables.specs.TwoPlans.{one_plan}
-use Rattle.net_rules.specs.Superfluous.{NeedsItsLevel, NeedsItsPlaces, NeedsWhatItIsGiven, NeedsItsRank}
-use Rattle.net_rules.specs.Rules.{CertificateDemands, Accepts}
-use Rattle.net_rules.specs.PlanFaults.{PlanMeetsAll}
-use Rattle.net_rules.specs.RoutingLoops.{IsRank}
-use Rattle.net_rules.specs.Certificates.{AreExactLevels, AreExactPlaces, AreExactRanks, IsExact, IsExactBy, IsOnlyExact, IsOnlyExactBy, IsMadeBefore}
-use Rattle.net_rules.proofs.Circling.{ends_once}
-use Rattle.net_tables.proofs.Elements.{element}
-use Rattle.net_rules.proofs.CertificateLaws.{rows_apart, exact_falls}
-use Rattle.net_rules.proofs.EidMoves.{rank_only}
-use Rattle.net_rules.proofs.RuleOrder.{all_below}
-use Rattle.net_rules.proofs.OneCertificate.{one_ranks}
-use Rattle.net_rules.proofs.OneOrder.{found_there, one_levels, one_places}
-use Rattle.net_rules.proofs.LevelLaws.{one_owner, exact_levels_fall}
+use Rattle.std.{proofs.Common.{◌≡◌, ◌≢◌, ℕ, zero, suc, ◌+◌, ◌<◌, ◌≤◌, List, length, map, get_or, slice_get, Option, Some, None, unwrap_or, refl, sym, ◌∙◌, ap, subst, arith, option_map, AllPairs, All, nat_lt, Bool, true, [], ◌∷◌, string_bytes}, specs.List.{list_all}, proofs.lemmas.Bool.{and_from, lt-ltb}, proofs.lemmas.List.{length-map}, proofs.lemmas.Option.{slice_get-map, get_or_from_slice_get}}
+use Rattle.net_rules.{specs.declared.rule.Rule.{Rule}, specs.declared.rule.Rule.TheVariants.{C01, C02, C03, C04, C05, C06, C07, C08, C09, C10, C11, C12, C13, C14, C15, C16}, specs.Names.{HaveOneName, HasNewName}, specs.Owners.{IsBelowItsOwner}, specs.OwnerLoops.{IsLevel}, specs.Superfluous.{NeedsItsLevel, NeedsItsPlaces, NeedsWhatItIsGiven, NeedsItsRank}, specs.Rules.{CertificateDemands, Accepts}, specs.PlanFaults.{PlanMeetsAll}, specs.RoutingLoops.{IsRank}, specs.Certificates.{AreExactLevels, AreExactPlaces, AreExactRanks, IsExact, IsExactBy, IsOnlyExact, IsOnlyExactBy, IsMadeBefore}, proofs.Circling.{ends_once}, proofs.CertificateLaws.{rows_apart, exact_falls}, proofs.EidMoves.{rank_only}, proofs.RuleOrder.{all_below}, proofs.OneCertificate.{one_ranks}, proofs.OneOrder.{found_there, one_levels, one_places}, proofs.LevelLaws.{one_owner, exact_levels_fall}}
+use Rattle.plan_values.{specs.declared.plan.Plan.{Plan}, specs.declared.nodes.Node.{Node}, specs.declared.certificate.Certificate.{Certificate}, specs.declared.certificate.NodePlaces.{NodePlaces}, specs.declared.terminus.PlannedTerminus.{PlannedTerminus}, specs.CertificateValues.{certificate_value, level_value, places_value, node_ranks_value, range_value, IsAscending, are_known}, specs.NodeValues.{node_value, node_names}, specs.PlanValues.{plan_value}, specs.ShortText.{HasFewPlaces}, specs.WellFormed.{IsWellFormed}, specs.declared.nodes.Row.{Row}}
+use Rattle.net_tables.{specs.Routing.{Holds, HasRow, Covers, rows_of}, specs.Ownership.{owner_of, IsOwnedBy, given_level, level}, specs.Ranks.{rank, Falls}, specs.Repositories.{terminus_of, records_of, places_given}, specs.TwoPlans.{one_plan}, proofs.Elements.{element}}
 
 -- ---- it is accepted
 

@@ -1,17 +1,8 @@
 -- Ranks that fall along a row, piece by piece, and along the rows of a node in whatever order.
-use Rattle.std.proofs.Common.{◌≡◌, ℕ, ◌+◌, ◌<◌, ◌≤◌, List, Option, Some, None, refl, sym, subst, arith, inl, inr}
-use Rattle.std.specs.Prelude.{All}
-use Rattle.std.specs.List.Sorted.{IsPermutation}
-use Rattle.std.proofs.lemmas.Bool.{cases_lt}
-use Rattle.std.proofs.lemmas.List.Sorted.{All-permutation, IsPermutation-sym}
-use Rattle.std.proofs.lemmas.Option.{slice_get_within, get_or_from_slice_get}
-use Rattle.plan_values.specs.declared.plan.Plan.{Plan}
-use Rattle.plan_values.specs.declared.nodes.Row.{Row}
-use Rattle.plan_values.specs.declared.certificate.Certificate.{Certificate}
-use Rattle.net_tables.specs.Routing.{Covers, Holds, OfItem, rows_of}
-use Rattle.net_tables.specs.Ranks.{rank, Falls}
-use Rattle.net_rules.specs.Rules.{AtRowEid}
-use Rattle.net_rules.specs.Stretches.{IsAlong}
+use Rattle.std.{proofs.Common.{◌≡◌, ℕ, ◌+◌, ◌<◌, ◌≤◌, List, Option, Some, None, refl, sym, subst, arith, inl, inr}, specs.Prelude.{All}, specs.List.Sorted.{IsPermutation}, proofs.lemmas.Bool.{cases_lt}, proofs.lemmas.List.Sorted.{All-permutation, IsPermutation-sym}, proofs.lemmas.Option.{slice_get_within, get_or_from_slice_get}}
+use Rattle.plan_values.{specs.declared.plan.Plan.{Plan}, specs.declared.nodes.Row.{Row}, specs.declared.certificate.Certificate.{Certificate}}
+use Rattle.net_tables.{specs.Routing.{Covers, Holds, OfItem, rows_of}, specs.Ranks.{rank, Falls}}
+use Rattle.net_rules.{specs.Rules.{AtRowEid}, specs.Stretches.{IsAlong}}
 
 -- along the row as far as e
 abbrev pub FallBelow : Plan → Certificate → ℕ → Row → ℕ → Type 0

@@ -1,19 +1,7 @@
 -- Lists of faults, made a run at a time.
-use Rattle.std.proofs.Common.{◌≡◌, ℕ, suc, ◌+◌, ◌<◌, ◌≤◌, List, [], ◌∷◌, ◌++◌, length, Option, Some, None, refl, sym, ◌∙◌, ap, subst, arith, inl, inr, ◌⊎◌}
-use Rattle.std.specs.Prelude.{IfSome}
-use Rattle.std.proofs.lemmas.Bool.{cases_lt}
-use Rattle.std.proofs.lemmas.List.Elements.{All-nil, All-push, Contains-append_left, Contains-append_right}
-use Rattle.std.proofs.lemmas.List.Quantifiers.{all_pairs_push}
-use Rattle.net_rules.specs.declared.rule.Rule.{Rule}
-use Rattle.net_rules.specs.declared.fault_run.EidSpan.{EidSpan}
-use Rattle.net_rules.specs.declared.fault_run.FaultRun.{FaultRun}
-use Rattle.plan_values.specs.declared.plan.Plan.{Plan}
-use Rattle.plan_values.specs.declared.certificate.Certificate.{Certificate}
-use Rattle.net_rules.specs.Rules.{PlanDemands, CertificateDemands}
-use Rattle.net_rules.specs.Faults.{FaultSite, order_of, order_of_number, LessByFirstDifference}
-use Rattle.net_rules.specs.FaultLists.{DemandsOf, IsMetBy, IsAmong, IsOf, IsBrokenRun, IsWholeRun, Precedes, AreFaults, key_of, IsBefore, AreFaultsBefore}
-use Rattle.net_rules.proofs.Beyond.{beyond, plan_beyond}
-use Rattle.net_rules.proofs.RuleOrder.{one_order, all_below}
+use Rattle.std.{proofs.Common.{◌≡◌, ℕ, suc, ◌+◌, ◌<◌, ◌≤◌, List, [], ◌∷◌, ◌++◌, length, Option, Some, None, refl, sym, ◌∙◌, ap, subst, arith, inl, inr, ◌⊎◌}, specs.Prelude.{IfSome}, proofs.lemmas.Bool.{cases_lt}, proofs.lemmas.List.Elements.{All-nil, All-push, Contains-append_left, Contains-append_right}, proofs.lemmas.List.Quantifiers.{all_pairs_push}}
+use Rattle.net_rules.{specs.declared.rule.Rule.{Rule}, specs.declared.fault_run.EidSpan.{EidSpan}, specs.declared.fault_run.FaultRun.{FaultRun}, specs.Rules.{PlanDemands, CertificateDemands}, specs.Faults.{FaultSite, order_of, order_of_number, LessByFirstDifference}, specs.FaultLists.{DemandsOf, IsMetBy, IsAmong, IsOf, IsBrokenRun, IsWholeRun, Precedes, AreFaults, key_of, IsBefore, AreFaultsBefore}, proofs.Beyond.{beyond, plan_beyond}, proofs.RuleOrder.{one_order, all_below}}
+use Rattle.plan_values.{specs.declared.plan.Plan.{Plan}, specs.declared.certificate.Certificate.{Certificate}}
 
 -- ---- numbers that come before others
 

@@ -1,13 +1,8 @@
 -- Handles in the order of the places, one record after another.
-use Rattle.std.proofs.Common.{◌≡◌, ◌≢◌, ◌⊎◌, ℕ, ◌+◌, ◌<◌, ◌≤◌, List, length, Option, Some, None, sym, ◌∙◌, ap, subst, inl, inr, arith, slice_set}
-use Rattle.std.specs.Prelude.{slice_get}
-use Rattle.std.proofs.lemmas.Bool.{cases_lt}
-use Rattle.std.proofs.lemmas.Option.{same_Some, none-some, slice_get_within}
-use Rattle.std.proofs.lemmas.List.{length-set}
+use Rattle.std.{proofs.Common.{◌≡◌, ◌≢◌, ◌⊎◌, ℕ, ◌+◌, ◌<◌, ◌≤◌, List, length, Option, Some, None, sym, ◌∙◌, ap, subst, inl, inr, arith, slice_set}, specs.Prelude.{slice_get}, proofs.lemmas.Bool.{cases_lt}, proofs.lemmas.Option.{same_Some, none-some, slice_get_within}, proofs.lemmas.List.{length-set}}
 use Rattle.plan_values.specs.declared.terminus.PlannedRecord.{PlannedRecord}
-use Rattle.net_tables.specs.Repositories.{IsChained}
+use Rattle.net_tables.{specs.Repositories.{IsChained}, proofs.Elements.{in_set}}
 use Rattle.net_rules.specs.Handles.{AreFiled}
-use Rattle.net_tables.proofs.Elements.{in_set}
 
 module _ (records : List PlannedRecord) (places : List ℕ) where
   -- the next record has a place that is free

@@ -1,8 +1,5 @@
 -- Searches and filters of lists.
-use Rattle.std.proofs.Common.{◌≡◌, ℕ, zero, suc, ◌<◌, List, [], ◌∷◌, Some, None, refl, sym, ◌∙◌, ap, arith, ◌⊎◌, inl, inr, Bool, true, false, filter}
-use Rattle.std.specs.Prelude.{slice_get, find}
-use Rattle.std.proofs.lemmas.Bool.{cases_Bool}
-use Rattle.std.proofs.lemmas.Option.{same_Some, none-some}
+use Rattle.std.{proofs.Common.{◌≡◌, ℕ, zero, suc, ◌<◌, List, [], ◌∷◌, Some, None, refl, sym, ◌∙◌, ap, arith, ◌⊎◌, inl, inr, Bool, true, false, filter}, specs.Prelude.{slice_get, find}, proofs.lemmas.Bool.{cases_Bool}, proofs.lemmas.Option.{same_Some, none-some}}
 
 -- what a search finds
 pub find_cases : {X : Type 0} (test : X → Bool) (xs : List X) → ((find test xs ≡ None) × ((i : ℕ) (x : X) → slice_get xs i ≡ Some x → test x ≡ false)) ⊎ ((i : ℕ) × (x : X) × (slice_get xs i ≡ Some x) × (test x ≡ true) × (find test xs ≡ Some x))

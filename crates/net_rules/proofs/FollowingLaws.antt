@@ -1,15 +1,6 @@
 -- What is found by halving among items that follow one another.
-use Rattle.std.proofs.Common.{◌≡◌, ℕ, ◌-◌, ◌<◌, ◌≤◌, List, length, get_or, Some, true, false, arith, inl, inr, subst}
-use Rattle.std.specs.List.{AllWithin}
-use Rattle.std.specs.List.Sorted.{IsNonDecreasingBy, IsPartitionedBy}
-use Rattle.std.proofs.Math.Dec.{leb}
-use Rattle.std.proofs.lemmas.Bool.{cases_lt}
-use Rattle.std.proofs.lemmas.Bool.Decides.{nat_tests}
-use Rattle.std.proofs.lemmas.List.Sorted.{IsPartitionedBy-leb}
-use Rattle.std.proofs.lemmas.Option.{slice_get_within, slice_get-get_or, get_or_from_slice_get}
-use Rattle.std.specs.Prelude.{slice_get}
-use Rattle.net_tables.specs.Routing.{OfItem}
-use Rattle.net_tables.proofs.Elements.{element}
+use Rattle.std.{proofs.Common.{◌≡◌, ℕ, ◌-◌, ◌<◌, ◌≤◌, List, length, get_or, Some, true, false, arith, inl, inr, subst}, specs.List.{AllWithin}, specs.List.Sorted.{IsNonDecreasingBy, IsPartitionedBy}, proofs.Math.Dec.{leb}, proofs.lemmas.Bool.{cases_lt}, proofs.lemmas.Bool.Decides.{nat_tests}, proofs.lemmas.List.Sorted.{IsPartitionedBy-leb}, proofs.lemmas.Option.{slice_get_within, slice_get-get_or, get_or_from_slice_get}, specs.Prelude.{slice_get}}
+use Rattle.net_tables.{specs.Routing.{OfItem}, proofs.Elements.{element}}
 use Rattle.net_rules.specs.Following.{Follow, EndedBy}
 
 low_test : (n e : ℕ) → leb n e ≡ true → n ≤ e

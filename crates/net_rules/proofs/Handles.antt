@@ -1,19 +1,6 @@
 -- Sets of handles and places, and what is found in them.
-use Rattle.std.proofs.Common.{◌≡◌, ◌≢◌, ◌⊎◌, ◌↔◌, ℕ, suc, zero, ◌+◌, ◌<◌, Bool, true, false, not, cond, List, [], ◌∷◌, length, ◌≤◌, map, Option, Some, None, IsTrue, sym, refl, ap, ◌∙◌, subst, inl, inr, arith}
-use Rattle.std.specs.Prelude.{slice_get, option_map}
-use Rattle.std.specs.declared.cmp.Ordering.{Ordering}
-use Rattle.std.specs.declared.cmp.Ordering.TheVariants.{Less, Equal, Greater}
-use Rattle.std.specs.Ordering.{nat_cmp, is_eq, ordering_then}
-use Rattle.std.specs.BTreeMap.{is_at}
-use Rattle.std.specs.BTreeSet.{BTreeSet, contains, IsFromIterResult}
-use Rattle.std.specs.Cmp.{IsTotalOrder}
-use Rattle.std.proofs.lemmas.Cmp.{nat_cmp_total, on_total, then_total, tied_itself}
-use Rattle.std.proofs.lemmas.Bool.{cases_lt}
-use Rattle.std.proofs.lemmas.Option.{same_Some, slice_get-map, slice_get-get_or, slice_get_within, slice_get_past, get_or_from_slice_get}
-use Rattle.std.proofs.lemmas.Map.Lookups.{CmpEqualImpliesEq, exact_unsigned}
-use Rattle.std.proofs.lemmas.Map.Views.{tells_apart, btree_set_contains_from_list}
-use Rattle.plan_values.specs.declared.terminus.PlannedRecord.{PlannedRecord}
-use Rattle.plan_values.specs.declared.certificate.RecordPlace.{RecordPlace}
+use Rattle.std.{proofs.Common.{◌≡◌, ◌≢◌, ◌⊎◌, ◌↔◌, ℕ, suc, zero, ◌+◌, ◌<◌, Bool, true, false, not, cond, List, [], ◌∷◌, length, ◌≤◌, map, Option, Some, None, IsTrue, sym, refl, ap, ◌∙◌, subst, inl, inr, arith}, specs.Prelude.{slice_get, option_map}, specs.declared.cmp.Ordering.{Ordering}, specs.declared.cmp.Ordering.TheVariants.{Less, Equal, Greater}, specs.Ordering.{nat_cmp, is_eq, ordering_then}, specs.BTreeMap.{is_at}, specs.BTreeSet.{BTreeSet, contains, IsFromIterResult}, specs.Cmp.{IsTotalOrder}, proofs.lemmas.Cmp.{nat_cmp_total, on_total, then_total, tied_itself}, proofs.lemmas.Bool.{cases_lt}, proofs.lemmas.Option.{same_Some, slice_get-map, slice_get-get_or, slice_get_within, slice_get_past, get_or_from_slice_get}, proofs.lemmas.Map.Lookups.{CmpEqualImpliesEq, exact_unsigned}, proofs.lemmas.Map.Views.{tells_apart, btree_set_contains_from_list}}
+use Rattle.plan_values.{specs.declared.terminus.PlannedRecord.{PlannedRecord}, specs.declared.certificate.RecordPlace.{RecordPlace}}
 use Rattle.net_tables.specs.Repositories.{HasNewHandle, IsHandleAt, IsChained}
 use Rattle.net_rules.specs.Handles.{by_place_and_handle, pairs}
 

@@ -1,16 +1,8 @@
 -- The first holders of endpoint IDs in their order: what is found among them, and one of them more.
-use Rattle.std.proofs.Common.{◌≡◌, ◌≢◌, ◌⊎◌, ℕ, ◌+◌, ◌-◌, ◌<◌, ◌≤◌, List, length, get_or, option_map, Option, Some, None, refl, sym, ◌∙◌, ap, subst, arith, inl, inr}
-use Rattle.std.specs.Prelude.{slice_get}
-use Rattle.std.specs.List.{insert}
-use Rattle.std.proofs.lemmas.Bool.{cases_lt, cases_eq}
-use Rattle.std.proofs.lemmas.List.Edits.{length-insert, get_or-insert_below, get_or-insert_at, get_or-insert_above}
-use Rattle.std.proofs.lemmas.Option.{same_Some, slice_get_within, slice_get-get_or, get_or_from_slice_get}
+use Rattle.std.{proofs.Common.{◌≡◌, ◌≢◌, ◌⊎◌, ℕ, ◌+◌, ◌-◌, ◌<◌, ◌≤◌, List, length, get_or, option_map, Option, Some, None, refl, sym, ◌∙◌, ap, subst, arith, inl, inr}, specs.Prelude.{slice_get}, specs.List.{insert}, proofs.lemmas.Bool.{cases_lt, cases_eq}, proofs.lemmas.List.Edits.{length-insert, get_or-insert_below, get_or-insert_at, get_or-insert_above}, proofs.lemmas.Option.{same_Some, slice_get_within, slice_get-get_or, get_or_from_slice_get}}
 use Rattle.plan_values.specs.declared.plan.Plan.{Plan}
-use Rattle.net_rules.specs.declared.holders.Holder.{Holder}
-use Rattle.net_tables.specs.Routing.{Holds}
-use Rattle.net_rules.specs.Following.{EndedBy}
-use Rattle.net_rules.specs.Holders.{IsFirstHolder, HoldersAscend, AreFirstHolders}
-use Rattle.net_tables.proofs.Elements.{element, holder_within}
+use Rattle.net_rules.{specs.declared.holders.Holder.{Holder}, specs.Following.{EndedBy}, specs.Holders.{IsFirstHolder, HoldersAscend, AreFirstHolders}}
+use Rattle.net_tables.{specs.Routing.{Holds}, proofs.Elements.{element, holder_within}}
 
 -- ---- a list with an element more
 module _ {X : Type 0} (xs : List X) (at : ℕ) (x : X) (within : at ≤ length xs) where

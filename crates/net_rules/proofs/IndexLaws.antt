@@ -1,10 +1,6 @@
 -- The first places of keys, as far as they were looked at.
-use Rattle.std.proofs.Common.{◌≡◌, ◌≢◌, ℕ, ◌+◌, ◌<◌, ◌≤◌, List, length, Option, Some, None, sym, ◌∙◌, ap, refl, arith, subst, inl, inr, MatchOption, Bool, true, not}
-use Rattle.std.specs.Prelude.{slice_get, is_some}
-use Rattle.std.proofs.lemmas.Bool.{cases_lt, cases_eq, true≢false}
-use Rattle.std.proofs.lemmas.Option.{same_Some, slice_get_within}
-use Rattle.net_rules.specs.declared.certifying.handle_index.HandleIndex.{HandleIndex}
-use Rattle.net_rules.specs.RecordChains.{IsFirstIndexOf, IsIndexOf, found_in}
+use Rattle.std.{proofs.Common.{◌≡◌, ◌≢◌, ℕ, ◌+◌, ◌<◌, ◌≤◌, List, length, Option, Some, None, sym, ◌∙◌, ap, refl, arith, subst, inl, inr, MatchOption, Bool, true, not}, specs.Prelude.{slice_get, is_some}, proofs.lemmas.Bool.{cases_lt, cases_eq, true≢false}, proofs.lemmas.Option.{same_Some, slice_get_within}}
+use Rattle.net_rules.{specs.declared.certifying.handle_index.HandleIndex.{HandleIndex}, specs.RecordChains.{IsFirstIndexOf, IsIndexOf, found_in}}
 
 -- what the index says of a key, after so many of them
 abbrev pub SaysBelow : List ℕ → ℕ → ℕ → Option ℕ → Type 0

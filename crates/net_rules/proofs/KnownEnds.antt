@@ -1,11 +1,6 @@
 -- How far the ends of moves by a table are, as it is noted place by place.
-use Rattle.std.proofs.Common.{◌≡◌, ℕ, zero, suc, ◌+◌, ◌-◌, ◌<◌, ◌≤◌, inl, inr, arith, refl, subst, sym, ◌∙◌, ap, List, length, Some, Option, get_or, slice_set, take, drop, ◌++◌}
-use Rattle.std.proofs.lemmas.Bool.{cases_lt}
-use Rattle.std.proofs.lemmas.List.{take_all, drop_all, append-nil}
-use Rattle.std.proofs.lemmas.Option.{same_Some, slice_get-get_or}
-use Rattle.net_rules.specs.Moves.{Leads}
-use Rattle.net_rules.specs.Circles.{EndsAfter, MovesBy, HasNoCircle, HasCircle, AreKnown, AreMovesToEnds}
-use Rattle.net_rules.proofs.Circling.{circle_in, shorter, both_ways, ends_once, circle_never_ends, table_only, table_within}
+use Rattle.std.{proofs.Common.{◌≡◌, ℕ, zero, suc, ◌+◌, ◌-◌, ◌<◌, ◌≤◌, inl, inr, arith, refl, subst, sym, ◌∙◌, ap, List, length, Some, Option, get_or, slice_set, take, drop, ◌++◌}, proofs.lemmas.Bool.{cases_lt}, proofs.lemmas.List.{take_all, drop_all, append-nil}, proofs.lemmas.Option.{same_Some, slice_get-get_or}}
+use Rattle.net_rules.{specs.Moves.{Leads}, specs.Circles.{EndsAfter, MovesBy, HasNoCircle, HasCircle, AreKnown, AreMovesToEnds}, proofs.Circling.{circle_in, shorter, both_ways, ends_once, circle_never_ends, table_only, table_within}}
 use Rattle.net_tables.proofs.Elements.{in_set}
 
 -- a way that is longer than the table goes round a circle

@@ -1,24 +1,8 @@
 -- Levels that fall, and loops of owners.
-use Rattle.std.proofs.Common.{◌≡◌, ℕ, zero, suc, ◌<◌, List, [], ◌∷◌, length, map, Option, Some, None, true, sym, ◌∙◌, ap, refl, arith, subst, vec_len, get_or, Result, Ok, Err, IfOk}
-use Rattle.std.specs.declared.alloc.AllocError.{AllocError}
-use Rattle.std.specs.Prelude.{slice_get, option_map, option_and_then, All}
-use Rattle.std.specs.List.{list_all}
-use Rattle.std.proofs.lemmas.Option.{same_Some, none-some, slice_get-map, slice_get-get_or, slice_get_within}
-use Rattle.std.proofs.lemmas.List.{length-map}
-use Rattle.plan_values.specs.declared.plan.Plan.{Plan}
-use Rattle.plan_values.specs.declared.nodes.Node.{Node}
-use Rattle.plan_values.specs.declared.certificate.Certificate.{Certificate}
-use Rattle.plan_values.specs.NodeValues.{node_value}
-use Rattle.plan_values.specs.Placed.{is_node_placed}
-use Rattle.net_tables.specs.Ownership.{owner_of, IsOwnedBy, level}
-use Rattle.net_rules.specs.Owners.{IsBelowItsOwner}
-use Rattle.net_rules.specs.OwnerLoops.{IsLevel, IsOwnerLoop, IsFirstOwnerLoop, AreLevels}
-use Rattle.net_rules.specs.Circles.{MovesBy, next_in, HasNoCircle, AreMovesToEnds, IsWalked}
-use Rattle.net_rules.specs.declared.certifying.walks.Walked.{Walked}
-use Rattle.net_rules.proofs.Circling.{no_circle_down, one_less, loop_circles}
-use Rattle.net_rules.proofs.SameMoves.{IsWalked-same}
-use Rattle.net_tables.proofs.Elements.{element}
-use Rattle.net_rules.proofs.Lines.{end_is_near}
+use Rattle.std.{proofs.Common.{◌≡◌, ℕ, zero, suc, ◌<◌, List, [], ◌∷◌, length, map, Option, Some, None, true, sym, ◌∙◌, ap, refl, arith, subst, vec_len, get_or, Result, Ok, Err, IfOk}, specs.declared.alloc.AllocError.{AllocError}, specs.Prelude.{slice_get, option_map, option_and_then, All}, specs.List.{list_all}, proofs.lemmas.Option.{same_Some, none-some, slice_get-map, slice_get-get_or, slice_get_within}, proofs.lemmas.List.{length-map}}
+use Rattle.plan_values.{specs.declared.plan.Plan.{Plan}, specs.declared.nodes.Node.{Node}, specs.declared.certificate.Certificate.{Certificate}, specs.NodeValues.{node_value}, specs.Placed.{is_node_placed}}
+use Rattle.net_tables.{specs.Ownership.{owner_of, IsOwnedBy, level}, proofs.Elements.{element}}
+use Rattle.net_rules.{specs.Owners.{IsBelowItsOwner}, specs.OwnerLoops.{IsLevel, IsOwnerLoop, IsFirstOwnerLoop, AreLevels}, specs.Circles.{MovesBy, next_in, HasNoCircle, AreMovesToEnds, IsWalked}, specs.declared.certifying.walks.Walked.{Walked}, proofs.Circling.{no_circle_down, one_less, loop_circles}, proofs.SameMoves.{IsWalked-same}, proofs.Lines.{end_is_near}}
 
 -- at most one node owns each
 pub one_owner : (plan : Plan) (n p q : ℕ) → IsOwnedBy plan n p → IsOwnedBy plan n q → p ≡ q

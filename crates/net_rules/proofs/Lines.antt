@@ -1,10 +1,6 @@
 -- Moves that make one line: at most one move into each place, and one end.
-use Rattle.std.proofs.Common.{◌≡◌, ℕ, zero, suc, ◌+◌, ◌-◌, ◌<◌, ◌≤◌, ◌⊎◌, inl, inr, arith, refl, subst, sym, ◌∙◌}
-use Rattle.std.proofs.lemmas.Bool.{cases_lt}
-use Rattle.net_rules.specs.Moves.{Leads, IsEnd}
-use Rattle.net_rules.specs.Circles.{EndsAfter, IsOnCircle}
-use Rattle.net_rules.proofs.Pigeons.{pigeons}
-use Rattle.net_rules.proofs.Circling.{spot, spot_parts, spot_between, circle_never_ends, one_more}
+use Rattle.std.{proofs.Common.{◌≡◌, ℕ, zero, suc, ◌+◌, ◌-◌, ◌<◌, ◌≤◌, ◌⊎◌, inl, inr, arith, refl, subst, sym, ◌∙◌}, proofs.lemmas.Bool.{cases_lt}}
+use Rattle.net_rules.{specs.Moves.{Leads, IsEnd}, specs.Circles.{EndsAfter, IsOnCircle}, proofs.Pigeons.{pigeons}, proofs.Circling.{spot, spot_parts, spot_between, circle_never_ends, one_more}}
 
 -- Every move stays among so many places.
 module _ (Move : ℕ → ℕ → Type 0) (places : ℕ) (into : (n p : ℕ) → Move n p → p < places) where

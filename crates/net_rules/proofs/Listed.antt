@@ -1,25 +1,9 @@
 -- Lists that give something to nodes, one after another.
-use Rattle.std.proofs.Common.{◌≡◌, ◌≢◌, ℕ, ◌+◌, ◌<◌, ◌≤◌, List, [], ◌∷◌, ◌++◌, length, map, Option, Some, None, option_map, unwrap_or, refl, sym, ◌∙◌, ap, subst, arith, inl, inr, true}
-use Rattle.std.specs.Prelude.{slice_get, find, ◌==◌}
-use Rattle.std.proofs.lemmas.Bool.{cases_lt, cases_Bool, eqb-true, eq-eqb}
-use Rattle.std.proofs.lemmas.List.{length-map, nil_from_length}
-use Rattle.std.proofs.lemmas.Option.{same_Some, none-some, slice_get_within}
-use Rattle.plan_values.specs.declared.plan.Plan.{Plan}
-use Rattle.plan_values.specs.declared.certificate.NodeLevel.{NodeLevel}
-use Rattle.plan_values.specs.declared.certificate.NodePlaces.{NodePlaces}
-use Rattle.plan_values.specs.declared.certificate.RecordPlace.{RecordPlace}
-use Rattle.plan_values.specs.declared.terminus.PlannedRecord.{PlannedRecord}
+use Rattle.std.{proofs.Common.{◌≡◌, ◌≢◌, ℕ, ◌+◌, ◌<◌, ◌≤◌, List, [], ◌∷◌, ◌++◌, length, map, Option, Some, None, option_map, unwrap_or, refl, sym, ◌∙◌, ap, subst, arith, inl, inr, true}, specs.Prelude.{slice_get, find, ◌==◌}, proofs.lemmas.Bool.{cases_lt, cases_Bool, eqb-true, eq-eqb}, proofs.lemmas.List.{length-map, nil_from_length}, proofs.lemmas.Option.{same_Some, none-some, slice_get_within}}
+use Rattle.plan_values.{specs.declared.plan.Plan.{Plan}, specs.declared.certificate.NodeLevel.{NodeLevel}, specs.declared.certificate.NodePlaces.{NodePlaces}, specs.declared.certificate.RecordPlace.{RecordPlace}, specs.declared.terminus.PlannedRecord.{PlannedRecord}}
+use Rattle.net_rules.{specs.declared.certifying.chains.ChainFault.{ChainFault}, specs.OwnerLoops.{IsLevel, AreLevels}, specs.RecordChains.{ArePlaces, IsBadChain}, specs.Certificates.{AreLevelsBefore, AreExactLevels, ArePlacesBefore, AreExactPlaces, NamesBadChain}, proofs.Beyond.{no_owner, no_records}, proofs.Filters.{find_cases}, proofs.OneOrder.{places_in}}
+use Rattle.net_tables.{specs.Ownership.{level_given}, specs.Repositories.{records_of, places_given}, proofs.Elements.{in_push, element}}
 use Rattle.net_rules.specs.declared.certify_error.CertifyError.TheVariants as error
-use Rattle.net_rules.specs.declared.certifying.chains.ChainFault.{ChainFault}
-use Rattle.net_tables.specs.Ownership.{level_given}
-use Rattle.net_rules.specs.OwnerLoops.{IsLevel, AreLevels}
-use Rattle.net_tables.specs.Repositories.{records_of, places_given}
-use Rattle.net_rules.specs.RecordChains.{ArePlaces, IsBadChain}
-use Rattle.net_rules.specs.Certificates.{AreLevelsBefore, AreExactLevels, ArePlacesBefore, AreExactPlaces, NamesBadChain}
-use Rattle.net_rules.proofs.Beyond.{no_owner, no_records}
-use Rattle.net_tables.proofs.Elements.{in_push, element}
-use Rattle.net_rules.proofs.Filters.{find_cases}
-use Rattle.net_rules.proofs.OneOrder.{places_in}
 
 module _ {X : Type 0} (key : X → ℕ) where
   abbrev found_at : List X → ℕ → Option X

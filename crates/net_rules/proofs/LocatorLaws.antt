@@ -1,9 +1,8 @@
 -- What a record locates, by the one locator that its bytes are.
-use Rattle.std.proofs.Common.{◌≡◌, ℕ, List, [], ◌∷◌, subst}
-use Rattle.std.specs.Prelude.{◌↔◌}
+use Rattle.std.{proofs.Common.{◌≡◌, ℕ, List, [], ◌∷◌, subst}, specs.Prelude.{◌↔◌}}
 use Rattle.plan_values.specs.declared.plan.Plan.{Plan}
-use Rattle.plan_values.specs.declared.terminus.PlannedRecord as listed
 use Rattle.net_rules.specs.Locators.{IsEidLocator, IsHeldByTerminus, LocatesTerminus}
+use Rattle.plan_values.specs.declared.terminus.PlannedRecord as listed
 
 module _ (plan : Plan) (r : listed.PlannedRecord) (e : ℕ) where
   pub by_value : (tid : ℕ) (value : List ℕ) → IsEidLocator r.bytes.items tid value → ((t : ℕ) (v : List ℕ) → IsEidLocator r.bytes.items t v → (tid ≡ t) × (value ≡ v))

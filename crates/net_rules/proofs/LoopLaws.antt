@@ -1,18 +1,6 @@
 -- Marks of places, and the first loop by two tables.
-use Rattle.std.proofs.Common.{◌≡◌, ℕ, zero, suc, ◌+◌, ◌-◌, ◌<◌, ◌≤◌, List, [], ◌∷◌, ◌++◌, length, Option, Some, None, Bool, true, false, ◌||◌, refl, sym, ◌∙◌, ap, subst, arith, inl, inr, unwrap_or, add-one, Vec}
-use Rattle.std.specs.Prelude.{slice_get}
-use Rattle.std.proofs.lemmas.Bool.{cases_lt, false≢true, or_cases, or_left}
-use Rattle.std.proofs.Math.Bool.{or-true}
-use Rattle.std.proofs.lemmas.List.{length_push}
-use Rattle.std.proofs.lemmas.Option.{slice_get_past, slice_get_within, same_Some, none-some}
-use Rattle.net_rules.specs.declared.mixed_loop.Side.{Side}
-use Rattle.net_rules.specs.declared.mixed_loop.Side.TheVariants.{Old, New}
-use Rattle.net_rules.specs.Moves.{Leads}
-use Rattle.net_rules.specs.Circles.{IsOnCircle, IsLeastOnCircle, next_in}
-use Rattle.net_rules.specs.LongestWays.{MovesByEither}
-use Rattle.net_rules.specs.MixedLoops.{EitherOf, MovesOn, IsMixedLoop, is_marked, leads_to_mark, AreMarked, AreWaysBack, IsFirstReturn}
-use Rattle.net_rules.proofs.Circling.{one_more, both_ways, short_return}
-use Rattle.net_rules.proofs.WayLaws.{either_within}
+use Rattle.std.{proofs.Common.{◌≡◌, ℕ, zero, suc, ◌+◌, ◌-◌, ◌<◌, ◌≤◌, List, [], ◌∷◌, ◌++◌, length, Option, Some, None, Bool, true, false, ◌||◌, refl, sym, ◌∙◌, ap, subst, arith, inl, inr, unwrap_or, add-one, Vec}, specs.Prelude.{slice_get}, proofs.lemmas.Bool.{cases_lt, false≢true, or_cases, or_left}, proofs.Math.Bool.{or-true}, proofs.lemmas.List.{length_push}, proofs.lemmas.Option.{slice_get_past, slice_get_within, same_Some, none-some}}
+use Rattle.net_rules.{specs.declared.mixed_loop.Side.{Side}, specs.declared.mixed_loop.Side.TheVariants.{Old, New}, specs.Moves.{Leads}, specs.Circles.{IsOnCircle, IsLeastOnCircle, next_in}, specs.LongestWays.{MovesByEither}, specs.MixedLoops.{EitherOf, MovesOn, IsMixedLoop, is_marked, leads_to_mark, AreMarked, AreWaysBack, IsFirstReturn}, proofs.Circling.{one_more, both_ways, short_return}, proofs.WayLaws.{either_within}}
 use Rattle.net_tables.proofs.Elements.{element, in_push, push_left, push_last}
 
 -- ---- marks by a test

@@ -1,44 +1,11 @@
 -- The certificate of a move: what it meets, and what rules each certificate out.
-use Rattle.std.proofs.Common.{◌≡◌, ◌≢◌, ℕ, ◌<◌, length, Option, Some, None, refl, sym, ap, subst, arith, inl, inr, [], ◌∷◌, zero, suc}
-use Rattle.std.specs.Prelude.{slice_get}
-use Rattle.std.proofs.lemmas.Bool.{cases_eq}
-use Rattle.net_rules.specs.declared.rule.Rule.{Rule}
-use Rattle.net_rules.specs.declared.rule.Rule.TheVariants.{C01, C02, C03, C04, C05, C06, C07, C08, C09, C10, C11, C12, C13, C14, C15, C16}
-use Rattle.net_rules.specs.declared.fault.Fault.{Fault}
-use Rattle.net_rules.specs.declared.move_fault.MoveRule.{MoveRule}
-use Rattle.net_rules.specs.declared.move_fault.MoveRule.TheVariants.{OfPlan, M02, M03}
-use Rattle.net_rules.specs.declared.move_fault.MoveFault.{MoveFault}
-use Rattle.net_rules.specs.declared.move_error.MoveError.{MoveError}
+use Rattle.std.{proofs.Common.{◌≡◌, ◌≢◌, ℕ, ◌<◌, length, Option, Some, None, refl, sym, ap, subst, arith, inl, inr, [], ◌∷◌, zero, suc}, specs.Prelude.{slice_get}, proofs.lemmas.Bool.{cases_eq}}
+use Rattle.net_rules.{specs.declared.rule.Rule.{Rule}, specs.declared.rule.Rule.TheVariants.{C01, C02, C03, C04, C05, C06, C07, C08, C09, C10, C11, C12, C13, C14, C15, C16}, specs.declared.fault.Fault.{Fault}, specs.declared.move_fault.MoveRule.{MoveRule}, specs.declared.move_fault.MoveRule.TheVariants.{OfPlan, M02, M03}, specs.declared.move_fault.MoveFault.{MoveFault}, specs.declared.move_error.MoveError.{MoveError}, specs.declared.certify_error.CertifyError.{CertifyError}, specs.declared.move_obstacle.MoveObstacle.{MoveObstacle}, specs.Superfluous.{NeedsItsRank}, specs.Rules.{AtRowEid, Accepts}, specs.Faults.{order_of, order_of_number, LessByFirstDifference}, specs.PlanFaults.{PlanMeetsAll}, specs.MoveSearch.{IsFirstByRules}, specs.MoveRules.{Requirement, SameFrame, SameNode, Before, After, WayOnBefore, WayOnAfter, Given, DemandsBefore, DemandsAfter, MoveDemands, AcceptsMove}, specs.MoveFaults.{MoveFaultSite, MoveComesBefore, IsMoveMet, IsFirstFaultOf, NamesFirstMoveFault, order_of_requirement, order_of_its_rule, required_before, required_after, required_of_both}, specs.Certificates.{AreExactLevels, AreExactPlaces, AreRanksOf, IsExact}, specs.MoveRanks.{MayMoveTo, IsMoveRank}, specs.MoveObstacles.{IsExactForMove, DifferInRowsAlone, RowsMeetBefore, IsSureFaultOf, NamesDifference, NamesSureFault, NamesMoveObstacle, RulesOutMoveCertificates, NamesMixedLoop, obstacle_of_error, obstacle_of_old}, proofs.Circling.{no_circle_down}, proofs.RuleOrder.{one_order}, proofs.Ends.{falls_by_rule}, proofs.ExactCertificates.{demands_met, needs_given}, proofs.MoveOrder.{MeetsBelow, frames_hold, old_holds, new_breaks, nothing_before}, proofs.MoveRankLaws.{move_rank_falls}, proofs.Obstacles.{before_of, ruled_out_before}, proofs.SameHolders.{hold_the_same}}
+use Rattle.plan_values.{specs.declared.plan.Plan.{Plan}, specs.declared.nodes.Row.{Row}, specs.declared.certificate.Certificate.{Certificate}}
+use Rattle.net_tables.{specs.Routing.{Holds, Covers, rows_of, eid_number}, specs.TwoPlans.{moving, HasRowEver}, specs.Ranks.{rank, Falls}, specs.Rows.{RowsAreApart, RowsAreInRange}}
 use Rattle.net_rules.specs.declared.move_error.MoveError.TheVariants as error
-use Rattle.net_rules.specs.declared.certify_error.CertifyError.{CertifyError}
 use Rattle.net_rules.specs.declared.certify_error.CertifyError.TheVariants as alone
-use Rattle.net_rules.specs.declared.move_obstacle.MoveObstacle.{MoveObstacle}
 use Rattle.net_rules.specs.declared.move_obstacle.MoveObstacle.TheVariants as obstacle
-use Rattle.plan_values.specs.declared.plan.Plan.{Plan}
-use Rattle.plan_values.specs.declared.nodes.Row.{Row}
-use Rattle.plan_values.specs.declared.certificate.Certificate.{Certificate}
-use Rattle.net_tables.specs.Routing.{Holds, Covers, rows_of, eid_number}
-use Rattle.net_tables.specs.TwoPlans.{moving, HasRowEver}
-use Rattle.net_tables.specs.Ranks.{rank, Falls}
-use Rattle.net_tables.specs.Rows.{RowsAreApart, RowsAreInRange}
-use Rattle.net_rules.specs.Superfluous.{NeedsItsRank}
-use Rattle.net_rules.specs.Rules.{AtRowEid, Accepts}
-use Rattle.net_rules.specs.Faults.{order_of, order_of_number, LessByFirstDifference}
-use Rattle.net_rules.specs.PlanFaults.{PlanMeetsAll}
-use Rattle.net_rules.specs.MoveSearch.{IsFirstByRules}
-use Rattle.net_rules.specs.MoveRules.{Requirement, SameFrame, SameNode, Before, After, WayOnBefore, WayOnAfter, Given, DemandsBefore, DemandsAfter, MoveDemands, AcceptsMove}
-use Rattle.net_rules.specs.MoveFaults.{MoveFaultSite, MoveComesBefore, IsMoveMet, IsFirstFaultOf, NamesFirstMoveFault, order_of_requirement, order_of_its_rule, required_before, required_after, required_of_both}
-use Rattle.net_rules.specs.Certificates.{AreExactLevels, AreExactPlaces, AreRanksOf, IsExact}
-use Rattle.net_rules.specs.MoveRanks.{MayMoveTo, IsMoveRank}
-use Rattle.net_rules.specs.MoveObstacles.{IsExactForMove, DifferInRowsAlone, RowsMeetBefore, IsSureFaultOf, NamesDifference, NamesSureFault, NamesMoveObstacle, RulesOutMoveCertificates, NamesMixedLoop, obstacle_of_error, obstacle_of_old}
-use Rattle.net_rules.proofs.Circling.{no_circle_down}
-use Rattle.net_rules.proofs.RuleOrder.{one_order}
-use Rattle.net_rules.proofs.Ends.{falls_by_rule}
-use Rattle.net_rules.proofs.ExactCertificates.{demands_met, needs_given}
-use Rattle.net_rules.proofs.MoveOrder.{MeetsBelow, frames_hold, old_holds, new_breaks, nothing_before}
-use Rattle.net_rules.proofs.MoveRankLaws.{move_rank_falls}
-use Rattle.net_rules.proofs.Obstacles.{before_of, ruled_out_before}
-use Rattle.net_rules.proofs.SameHolders.{hold_the_same}
 
 -- what is demanded of rows is demanded whatever the certificate, but for ranks
 after_whatever : (plan : Plan) (cert other : Certificate) (rule : Rule) (n : ℕ) (entry eid : Option ℕ) → rule ≢ C10 → DemandsAfter plan cert rule n entry eid → DemandsAfter plan other rule n entry eid

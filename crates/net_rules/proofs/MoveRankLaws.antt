@@ -1,26 +1,8 @@
 -- Ranks along the rows of two plans: they are the longest ways, and fall along each row.
-use Rattle.std.proofs.Common.{◌≡◌, ◌⊎◌, ℕ, zero, suc, ◌+◌, ◌<◌, ◌≤◌, List, length, Option, Some, refl, sym, subst, arith, inl, inr, filter, Result, Ok, Err, IfOk}
-use Rattle.std.specs.Prelude.{slice_get}
-use Rattle.std.proofs.lemmas.Bool.{cases_lt}
-use Rattle.std.specs.declared.alloc.AllocError.{AllocError}
-use Rattle.plan_values.specs.declared.plan.Plan.{Plan}
-use Rattle.plan_values.specs.declared.certificate.NodeRanks.{NodeRanks}
-use Rattle.net_tables.specs.Routing.{MovesTo, eid_of}
-use Rattle.net_tables.specs.Rows.{RowsAreApart, RowsAreInRange}
-use Rattle.net_tables.proofs.RowSearches.{is_or_not}
-use Rattle.net_rules.specs.declared.certifying.longest_ways.Longest.{Longest}
-use Rattle.net_rules.specs.Moves.{Leads, IsEnd}
-use Rattle.net_rules.specs.Circles.{HasNoCircle, MovesBy}
-use Rattle.net_rules.specs.LongestWays.{IsLongest, AreLongest, IsLongestOrLoop}
-use Rattle.net_rules.specs.MovingAlike.{MoveAlike}
-use Rattle.net_rules.specs.RoutingLoops.{AreNexts}
-use Rattle.net_rules.specs.RankRuns.{AreNone, AreGrown}
-use Rattle.net_rules.specs.Certificates.{AreRanksOf, AreRankedBelow, has_ranges}
-use Rattle.net_rules.specs.MoveRanks.{MayMoveTo, WayEndsInBoth, IsMoveRank, HoldTheSame}
-use Rattle.net_rules.proofs.Circling.{circle_in}
-use Rattle.net_rules.proofs.EidMoves.{moves_within, unmoved, table_to, table_from}
-use Rattle.net_rules.proofs.SameMoves.{no_circle_either, IsLongest-same, IsLongestOrLoop-same}
-use Rattle.net_rules.proofs.RankLaws.{ranked_start, ranked_step, ranked_all}
+use Rattle.std.{proofs.Common.{◌≡◌, ◌⊎◌, ℕ, zero, suc, ◌+◌, ◌<◌, ◌≤◌, List, length, Option, Some, refl, sym, subst, arith, inl, inr, filter, Result, Ok, Err, IfOk}, specs.Prelude.{slice_get}, proofs.lemmas.Bool.{cases_lt}, specs.declared.alloc.AllocError.{AllocError}}
+use Rattle.plan_values.{specs.declared.plan.Plan.{Plan}, specs.declared.certificate.NodeRanks.{NodeRanks}}
+use Rattle.net_tables.{specs.Routing.{MovesTo, eid_of}, specs.Rows.{RowsAreApart, RowsAreInRange}, proofs.RowSearches.{is_or_not}}
+use Rattle.net_rules.{specs.declared.certifying.longest_ways.Longest.{Longest}, specs.Moves.{Leads, IsEnd}, specs.Circles.{HasNoCircle, MovesBy}, specs.LongestWays.{IsLongest, AreLongest, IsLongestOrLoop}, specs.MovingAlike.{MoveAlike}, specs.RoutingLoops.{AreNexts}, specs.RankRuns.{AreNone, AreGrown}, specs.Certificates.{AreRanksOf, AreRankedBelow, has_ranges}, specs.MoveRanks.{MayMoveTo, WayEndsInBoth, IsMoveRank, HoldTheSame}, proofs.Circling.{circle_in}, proofs.EidMoves.{moves_within, unmoved, table_to, table_from}, proofs.SameMoves.{no_circle_either, IsLongest-same, IsLongestOrLoop-same}, proofs.RankLaws.{ranked_start, ranked_step, ranked_all}}
 
 -- a rank falls along each row
 pub move_rank_falls : (before after : Plan) (e n m k l : ℕ) → MayMoveTo before after e n m → IsMoveRank before after n e k → IsMoveRank before after m e l → l < k

@@ -1,23 +1,8 @@
 -- What the searches for a fault find.
-use Rattle.std.proofs.Common.{◌≡◌, ℕ, ◌<◌, ◌≤◌, length, Bool, true, false, Option, Some, None, refl, sym, subst, inl, inr, Result, Ok, Err}
-use Rattle.std.specs.Prelude.{IfOk, ⊤}
-use Rattle.net_rules.specs.declared.rule.Rule.{Rule}
-use Rattle.net_rules.specs.declared.rule.Rule.TheVariants.{C01, C02, C03, C04, C05, C06, C07, C08, C09, C10, C11, C12, C13, C14, C15, C16}
-use Rattle.net_rules.specs.declared.fault.Fault.{Fault}
-use Rattle.net_rules.specs.declared.spot.Spot.{Spot}
-use Rattle.net_rules.specs.declared.move_fault.MoveRule.{MoveRule}
-use Rattle.plan_values.specs.declared.plan.Plan.{Plan}
-use Rattle.plan_values.specs.declared.certificate.Certificate.{Certificate}
-use Rattle.net_rules.specs.Rules.{AtNodeOrEid, Demands}
-use Rattle.net_tables.specs.Routing.{eid_number}
-use Rattle.net_rules.specs.Superfluous.{NeedsWhatItIsGiven, NeedsItsRank}
-use Rattle.net_tables.specs.TwoPlans.{Tables}
-use Rattle.net_rules.specs.declared.asked.Asked.{Asked}
-use Rattle.net_rules.specs.declared.asked.Asked.TheVariants.{Alone, Before, After}
-use Rattle.net_rules.specs.Asked.{is_asked, DemandsAsked}
-use Rattle.net_rules.specs.Search.{IsFirstSpot, IsFirstOfAll}
-use Rattle.net_rules.specs.MoveSearch.{IsFirstByRule, IsFirstByRules, IsFirstByNode, NodeComesBefore}
-use Rattle.net_rules.proofs.Beyond.{at_node_or_eid, needs_given, needs_rank}
+use Rattle.std.{proofs.Common.{◌≡◌, ℕ, ◌<◌, ◌≤◌, length, Bool, true, false, Option, Some, None, refl, sym, subst, inl, inr, Result, Ok, Err}, specs.Prelude.{IfOk, ⊤}}
+use Rattle.net_rules.{specs.declared.rule.Rule.{Rule}, specs.declared.rule.Rule.TheVariants.{C01, C02, C03, C04, C05, C06, C07, C08, C09, C10, C11, C12, C13, C14, C15, C16}, specs.declared.fault.Fault.{Fault}, specs.declared.spot.Spot.{Spot}, specs.declared.move_fault.MoveRule.{MoveRule}, specs.Rules.{AtNodeOrEid, Demands}, specs.Superfluous.{NeedsWhatItIsGiven, NeedsItsRank}, specs.declared.asked.Asked.{Asked}, specs.declared.asked.Asked.TheVariants.{Alone, Before, After}, specs.Asked.{is_asked, DemandsAsked}, specs.Search.{IsFirstSpot, IsFirstOfAll}, specs.MoveSearch.{IsFirstByRule, IsFirstByRules, IsFirstByNode, NodeComesBefore}, proofs.Beyond.{at_node_or_eid, needs_given, needs_rank}}
+use Rattle.plan_values.{specs.declared.plan.Plan.{Plan}, specs.declared.certificate.Certificate.{Certificate}}
+use Rattle.net_tables.{specs.Routing.{eid_number}, specs.TwoPlans.{Tables}}
 
 -- a rule's first fault, where something else demands the same
 by_rule : (D E : Rule → ℕ → Option ℕ → Option ℕ → Type 0) (rule : Rule) (found : Option Fault)

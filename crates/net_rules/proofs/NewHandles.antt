@@ -1,14 +1,9 @@
 -- Handles that are apart from one another and from 0, or that are ticked off, and new handles.
-use Rattle.std.proofs.Common.{Bool, true, false, ◌≡◌, ◌≢◌, ℕ, zero, suc, ◌+◌, ◌<◌, List, length, Some, sym, ◌∙◌, ap, subst, inl, inr, arith, get_or, slice_set}
-use Rattle.std.specs.Prelude.{slice_get}
-use Rattle.std.proofs.lemmas.Bool.{cases_lt}
-use Rattle.std.proofs.lemmas.Option.{same_Some, slice_get_within, slice_get-get_or, get_or_from_slice_get}
+use Rattle.std.{proofs.Common.{Bool, true, false, ◌≡◌, ◌≢◌, ℕ, zero, suc, ◌+◌, ◌<◌, List, length, Some, sym, ◌∙◌, ap, subst, inl, inr, arith, get_or, slice_set}, specs.Prelude.{slice_get}, proofs.lemmas.Bool.{cases_lt}, proofs.lemmas.Option.{same_Some, slice_get_within, slice_get-get_or, get_or_from_slice_get}}
 use Rattle.plan_values.specs.declared.terminus.PlannedRecord.{PlannedRecord}
-use Rattle.net_rules.specs.RecordChains.{HaveNewHandles}
-use Rattle.net_tables.specs.Repositories.{HasNewHandle}
+use Rattle.net_rules.{specs.RecordChains.{HaveNewHandles}, proofs.Handles.{handles_of, handle_of_record, record_of_handle}}
+use Rattle.net_tables.{specs.Repositories.{HasNewHandle}, proofs.Elements.{set_there, set_other}}
 use Rattle.pdr_repository.proofs.Ascending.{AreApart}
-use Rattle.net_tables.proofs.Elements.{set_there, set_other}
-use Rattle.net_rules.proofs.Handles.{handles_of, handle_of_record, record_of_handle}
 
 module _ (records : List PlannedRecord) where
   pub apart_new : AreApart (handles_of records) → HaveNewHandles records

@@ -1,30 +1,9 @@
 -- What is made of a certificate on the way, and what rules certificates out.
-use Rattle.std.proofs.Common.{◌≡◌, ◌≢◌, ℕ, ◌+◌, ◌<◌, Option, Some, None, refl, sym, ◌∙◌, ap, subst, arith, inl, inr, Result, Ok, Err}
-use Rattle.std.specs.Prelude.{IfErr}
-use Rattle.std.proofs.lemmas.Bool.{cases_lt}
-use Rattle.net_rules.specs.declared.certify_error.CertifyError.{CertifyError}
+use Rattle.std.{proofs.Common.{◌≡◌, ◌≢◌, ℕ, ◌+◌, ◌<◌, Option, Some, None, refl, sym, ◌∙◌, ap, subst, arith, inl, inr, Result, Ok, Err}, specs.Prelude.{IfErr}, proofs.lemmas.Bool.{cases_lt}}
+use Rattle.net_rules.{specs.declared.certify_error.CertifyError.{CertifyError}, specs.declared.fault.Fault.{Fault}, specs.declared.rule.Rule.{Rule}, specs.declared.rule.Rule.TheVariants.{C01, C02, C03, C04, C05, C06, C07, C08, C09, C10, C11, C12, C13, C14, C15, C16}, specs.RecordChains.{HaveNewHandles}, specs.Faults.{FaultSite, site_of, order_of, ComesBefore}, specs.Rules.{PlanDemands, Demands}, specs.MoveRules.{DemandsBefore}, specs.PlanFaults.{PlanMeets, IsMetByPlan, IsFirstOfPlanRule}, specs.Certificates.{AreExactLevels, AreExactPlaces, AreExactRanks, IsMadeBefore, CanBeMetBefore, NamesOwnerLoop, NamesRoutingLoop, NamesBadChain, NamesObstacle, RulesOutCertificates}, proofs.RuleOrder.{one_order, below_more}, proofs.Circling.{circle_never_ends}, proofs.EidMoves.{moves_only, ends_from_rank}, proofs.LevelLaws.{one_owner, first_loop_breaks_levels}, proofs.ChainLaws.{bad_chain_breaks_places}, proofs.CertificateLaws.{loop_breaks_ranks}}
+use Rattle.plan_values.{specs.declared.plan.Plan.{Plan}, specs.declared.certificate.Certificate.{Certificate}}
+use Rattle.net_tables.{specs.Routing.{MovesTo}, specs.Ownership.{IsOwnedBy}, specs.Repositories.{records_of, places_given, places_of, HasRecords}, specs.Rows.{RowsAreApart, RowsAreInRange}}
 use Rattle.net_rules.specs.declared.certify_error.CertifyError.TheVariants as error
-use Rattle.net_rules.specs.declared.fault.Fault.{Fault}
-use Rattle.net_rules.specs.declared.rule.Rule.{Rule}
-use Rattle.net_rules.specs.declared.rule.Rule.TheVariants.{C01, C02, C03, C04, C05, C06, C07, C08, C09, C10, C11, C12, C13, C14, C15, C16}
-use Rattle.plan_values.specs.declared.plan.Plan.{Plan}
-use Rattle.plan_values.specs.declared.certificate.Certificate.{Certificate}
-use Rattle.net_tables.specs.Routing.{MovesTo}
-use Rattle.net_tables.specs.Ownership.{IsOwnedBy}
-use Rattle.net_tables.specs.Repositories.{records_of, places_given, places_of, HasRecords}
-use Rattle.net_rules.specs.RecordChains.{HaveNewHandles}
-use Rattle.net_rules.specs.Faults.{FaultSite, site_of, order_of, ComesBefore}
-use Rattle.net_rules.specs.Rules.{PlanDemands, Demands}
-use Rattle.net_rules.specs.MoveRules.{DemandsBefore}
-use Rattle.net_rules.specs.PlanFaults.{PlanMeets, IsMetByPlan, IsFirstOfPlanRule}
-use Rattle.net_tables.specs.Rows.{RowsAreApart, RowsAreInRange}
-use Rattle.net_rules.specs.Certificates.{AreExactLevels, AreExactPlaces, AreExactRanks, IsMadeBefore, CanBeMetBefore, NamesOwnerLoop, NamesRoutingLoop, NamesBadChain, NamesObstacle, RulesOutCertificates}
-use Rattle.net_rules.proofs.RuleOrder.{one_order, below_more}
-use Rattle.net_rules.proofs.Circling.{circle_never_ends}
-use Rattle.net_rules.proofs.EidMoves.{moves_only, ends_from_rank}
-use Rattle.net_rules.proofs.LevelLaws.{one_owner, first_loop_breaks_levels}
-use Rattle.net_rules.proofs.ChainLaws.{bad_chain_breaks_places}
-use Rattle.net_rules.proofs.CertificateLaws.{loop_breaks_ranks}
 
 -- ---- what is made on the way
 

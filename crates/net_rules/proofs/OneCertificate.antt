@@ -1,18 +1,8 @@
 -- Ranks of which each node and EID has one at most are those of one certificate.
-use Rattle.std.proofs.Common.{◌≡◌, ℕ, zero, suc, ◌+◌, ◌-◌, ◌<◌, List, [], ◌∷◌, map, Some, refl, sym, ◌∙◌, ap, subst, arith, inl, inr}
-use Rattle.std.specs.Prelude.{slice_get, ◌==◌}
-use Rattle.std.proofs.lemmas.Bool.{cases_lt, cases_order, eqb-true}
-use Rattle.std.proofs.lemmas.Option.{same_Some, none-some}
-use Rattle.plan_values.specs.declared.certificate.RankRange.{RankRange}
-use Rattle.plan_values.specs.declared.certificate.NodeRanks.{NodeRanks}
-use Rattle.plan_values.specs.declared.certificate.Certificate.{Certificate}
-use Rattle.plan_values.specs.CertificateValues.{RangeValue, range_value, NodeRanksValue, node_ranks_value}
-use Rattle.net_tables.specs.Ranks.{rank}
-use Rattle.net_rules.specs.RankRuns.{AreLongestRuns}
-use Rattle.net_rules.specs.Certificates.{AreRanksOf}
-use Rattle.net_tables.proofs.Elements.{element}
-use Rattle.net_rules.proofs.Filters.{find_cases}
-use Rattle.net_rules.proofs.RankRunLaws.{runs_same}
+use Rattle.std.{proofs.Common.{◌≡◌, ℕ, zero, suc, ◌+◌, ◌-◌, ◌<◌, List, [], ◌∷◌, map, Some, refl, sym, ◌∙◌, ap, subst, arith, inl, inr}, specs.Prelude.{slice_get, ◌==◌}, proofs.lemmas.Bool.{cases_lt, cases_order, eqb-true}, proofs.lemmas.Option.{same_Some, none-some}}
+use Rattle.plan_values.{specs.declared.certificate.RankRange.{RankRange}, specs.declared.certificate.NodeRanks.{NodeRanks}, specs.declared.certificate.Certificate.{Certificate}, specs.CertificateValues.{RangeValue, range_value, NodeRanksValue, node_ranks_value}}
+use Rattle.net_tables.{specs.Ranks.{rank}, proofs.Elements.{element}}
+use Rattle.net_rules.{specs.RankRuns.{AreLongestRuns}, specs.Certificates.{AreRanksOf}, proofs.Filters.{find_cases}, proofs.RankRunLaws.{runs_same}}
 
 -- ---- two lists that ascend by a key and have the same members, as they are seen, are seen as one list
 

@@ -1,29 +1,8 @@
 -- The exact levels and places of a plan are those of one certificate.
-use Rattle.std.proofs.Common.{◌≡◌, ℕ, zero, suc, ◌+◌, ◌<◌, List, [], ◌∷◌, length, map, Option, Some, None, option_map, unwrap_or, refl, sym, ◌∙◌, ap, arith, inl, inr}
-use Rattle.std.specs.Prelude.{slice_get, find, ◌==◌}
-use Rattle.std.proofs.lemmas.Bool.{cases_order, eqb-true, eq-eqb, false≢true}
-use Rattle.std.proofs.lemmas.List.{length-map}
-use Rattle.std.proofs.lemmas.Option.{same_Some, slice_get_within}
-use Rattle.plan_values.specs.declared.plan.Plan.{Plan}
-use Rattle.plan_values.specs.declared.certificate.Certificate.{Certificate}
-use Rattle.plan_values.specs.declared.certificate.NodeLevel.{NodeLevel}
-use Rattle.plan_values.specs.declared.certificate.NodePlaces.{NodePlaces}
-use Rattle.plan_values.specs.declared.certificate.RecordPlace.{RecordPlace}
-use Rattle.plan_values.specs.declared.terminus.PlannedRecord.{PlannedRecord}
-use Rattle.plan_values.specs.CertificateValues.{LevelValue, level_value, PlacesValue, places_value}
-use Rattle.net_rules.specs.declared.rule.Rule.TheVariants.{C12}
-use Rattle.net_tables.specs.Ownership.{IsOwnedBy, level_given}
-use Rattle.net_tables.specs.Repositories.{records_of, places_given}
-use Rattle.net_rules.specs.RecordChains.{HaveNewHandles, IsFollowedBy, AreChained, ArePlaces}
-use Rattle.net_rules.specs.Circles.{EndsAfter}
-use Rattle.net_rules.specs.PlanFaults.{PlanMeetsAll}
-use Rattle.net_rules.specs.Certificates.{AreExactLevels, AreExactPlaces}
-use Rattle.net_rules.proofs.Circling.{ends_once}
-use Rattle.net_rules.proofs.ChainLaws.{one_follows, zero_ends}
-use Rattle.net_tables.proofs.Elements.{element}
-use Rattle.net_rules.proofs.Filters.{find_cases}
-use Rattle.net_rules.proofs.LevelLaws.{one_owner}
-use Rattle.net_rules.proofs.OneCertificate.{one_list}
+use Rattle.std.{proofs.Common.{◌≡◌, ℕ, zero, suc, ◌+◌, ◌<◌, List, [], ◌∷◌, length, map, Option, Some, None, option_map, unwrap_or, refl, sym, ◌∙◌, ap, arith, inl, inr}, specs.Prelude.{slice_get, find, ◌==◌}, proofs.lemmas.Bool.{cases_order, eqb-true, eq-eqb, false≢true}, proofs.lemmas.List.{length-map}, proofs.lemmas.Option.{same_Some, slice_get_within}}
+use Rattle.plan_values.{specs.declared.plan.Plan.{Plan}, specs.declared.certificate.Certificate.{Certificate}, specs.declared.certificate.NodeLevel.{NodeLevel}, specs.declared.certificate.NodePlaces.{NodePlaces}, specs.declared.certificate.RecordPlace.{RecordPlace}, specs.declared.terminus.PlannedRecord.{PlannedRecord}, specs.CertificateValues.{LevelValue, level_value, PlacesValue, places_value}}
+use Rattle.net_rules.{specs.declared.rule.Rule.TheVariants.{C12}, specs.RecordChains.{HaveNewHandles, IsFollowedBy, AreChained, ArePlaces}, specs.Circles.{EndsAfter}, specs.PlanFaults.{PlanMeetsAll}, specs.Certificates.{AreExactLevels, AreExactPlaces}, proofs.Circling.{ends_once}, proofs.ChainLaws.{one_follows, zero_ends}, proofs.Filters.{find_cases}, proofs.LevelLaws.{one_owner}, proofs.OneCertificate.{one_list}}
+use Rattle.net_tables.{specs.Ownership.{IsOwnedBy, level_given}, specs.Repositories.{records_of, places_given}, proofs.Elements.{element}}
 
 -- what stands in a list that ascends by a key is found by its key
 module _ {X : Type 0} (key : X → ℕ) (xs : List X) (up : (i j : ℕ) (x y : X) → i < j → slice_get xs i ≡ Some x → slice_get xs j ≡ Some y → key x < key y) where

@@ -1,19 +1,9 @@
 -- From the loops of the searches, and what they ask of a node or a record, to the rules' sentences.
-use Rattle.std.proofs.Common.{◌≡◌, ℕ, ◌<◌, ◌≤◌, List, [], ◌∷◌, length, get_or, Option, Some, None, refl, subst, arith}
-use Rattle.std.specs.Prelude.{slice_get, option_map}
-use Rattle.std.proofs.lemmas.Option.{same_Some, slice_get_read, slice_get_within}
-use Rattle.plan_values.specs.declared.plan.Plan.{Plan}
-use Rattle.plan_values.specs.declared.nodes.Node.{Node}
-use Rattle.plan_values.specs.declared.terminus.PlannedTerminus.{PlannedTerminus}
+use Rattle.std.{proofs.Common.{◌≡◌, ℕ, ◌<◌, ◌≤◌, List, [], ◌∷◌, length, get_or, Option, Some, None, refl, subst, arith}, specs.Prelude.{slice_get, option_map}, proofs.lemmas.Option.{same_Some, slice_get_read, slice_get_within}}
+use Rattle.plan_values.{specs.declared.plan.Plan.{Plan}, specs.declared.nodes.Node.{Node}, specs.declared.terminus.PlannedTerminus.{PlannedTerminus}}
+use Rattle.net_rules.{specs.declared.spot.Spot.{Spot}, specs.Locators.{IsEidLocator, HasOneByteAsEid, IsHeldByTerminus, LocatesTerminus}, specs.Rules.{AtNodeOrEid, AtItemOrEid}, specs.Search.{IsFirstSpot}, proofs.OtherSpots.{node_and_eids_meet, items_and_eids_meet, item_or_eid_fails}}
+use Rattle.net_tables.{specs.Routing.{Holds, OfItem}, specs.Repositories.{terminus_of}, proofs.RowSearches.{of_all_items}}
 use Rattle.plan_values.specs.declared.terminus.PlannedRecord as listed
-use Rattle.net_rules.specs.declared.spot.Spot.{Spot}
-use Rattle.net_tables.specs.Routing.{Holds, OfItem}
-use Rattle.net_tables.specs.Repositories.{terminus_of}
-use Rattle.net_rules.specs.Locators.{IsEidLocator, HasOneByteAsEid, IsHeldByTerminus, LocatesTerminus}
-use Rattle.net_rules.specs.Rules.{AtNodeOrEid, AtItemOrEid}
-use Rattle.net_rules.specs.Search.{IsFirstSpot}
-use Rattle.net_rules.proofs.OtherSpots.{node_and_eids_meet, items_and_eids_meet, item_or_eid_fails}
-use Rattle.net_tables.proofs.RowSearches.{of_all_items}
 
 -- what a number was told of
 some_of_map : {A : Type 0} (f : A → ℕ) (o : Option A) (e : ℕ) → option_map f o ≡ Some e → (a : A) × (o ≡ Some a)

@@ -1,11 +1,7 @@
 -- From the first failure of a search to the first spot of a rule that speaks alone and at endpoint IDs.
-use Rattle.std.proofs.Common.{◌≡◌, ℕ, ◌<◌, List, Option, Some, None, sym, ◌∙◌, subst, refl, inl, inr, arith}
-use Rattle.std.specs.Prelude.{slice_get}
-use Rattle.std.proofs.lemmas.Option.{same_Some}
-use Rattle.net_rules.specs.declared.spot.Spot.{Spot}
+use Rattle.std.{proofs.Common.{◌≡◌, ℕ, ◌<◌, List, Option, Some, None, sym, ◌∙◌, subst, refl, inl, inr, arith}, specs.Prelude.{slice_get}, proofs.lemmas.Option.{same_Some}}
+use Rattle.net_rules.{specs.declared.spot.Spot.{Spot}, specs.Rules.{AtNodeOrEid, AtItemOrEid}, specs.Search.{IsFirstSpot, SpotComesBefore}}
 use Rattle.net_tables.specs.Routing.{OfItem, eid_number}
-use Rattle.net_rules.specs.Rules.{AtNodeOrEid, AtItemOrEid}
-use Rattle.net_rules.specs.Search.{IsFirstSpot, SpotComesBefore}
 
 -- at the node alone, or at each EID
 pub node_and_eids_meet : (P : Type 0) (Q : ℕ → Type 0) → P → ((e : ℕ) → Q e) → IsFirstSpot (AtNodeOrEid P Q) None

@@ -1,18 +1,7 @@
 -- Rows of which no two share an endpoint ID, in another order.
-use Rattle.std.proofs.Common.{◌≡◌, ◌≢◌, ℕ, ◌<◌, List, length, get_or, cond, Some, refl, ap, ◌∙◌, subst, inl, inr, arith, take}
-use Rattle.std.specs.Prelude.{slice_get}
-use Rattle.std.proofs.Math.Dec.{eqb}
-use Rattle.std.proofs.lemmas.Bool.Decides.{nat_tests, eqb_tells}
-use Rattle.std.proofs.lemmas.Bool.{cases_lt}
-use Rattle.std.specs.List.{swap}
-use Rattle.std.specs.List.Sorted.{IsPermutation}
-use Rattle.std.proofs.lemmas.List.{get_or-take, length-take-le}
-use Rattle.std.proofs.lemmas.List.Edits.{swapped_from_swap, length-swap}
-use Rattle.std.proofs.lemmas.List.Sorted.{IsPermutation-keeps}
-use Rattle.std.proofs.lemmas.Option.{slice_get_within, slice_get-get_or, get_or_from_slice_get}
+use Rattle.std.{proofs.Common.{◌≡◌, ◌≢◌, ℕ, ◌<◌, List, length, get_or, cond, Some, refl, ap, ◌∙◌, subst, inl, inr, arith, take}, specs.Prelude.{slice_get}, proofs.Math.Dec.{eqb}, proofs.lemmas.Bool.Decides.{nat_tests, eqb_tells}, proofs.lemmas.Bool.{cases_lt}, specs.List.{swap}, specs.List.Sorted.{IsPermutation}, proofs.lemmas.List.{get_or-take, length-take-le}, proofs.lemmas.List.Edits.{swapped_from_swap, length-swap}, proofs.lemmas.List.Sorted.{IsPermutation-keeps}, proofs.lemmas.Option.{slice_get_within, slice_get-get_or, get_or_from_slice_get}}
 use Rattle.plan_values.specs.declared.nodes.Row.{Row}
-use Rattle.net_tables.specs.Routing.{OfItem}
-use Rattle.net_tables.specs.Rows.{AreApart, IsApartFromEarlier}
+use Rattle.net_tables.{specs.Routing.{OfItem}, specs.Rows.{AreApart, IsApartFromEarlier}}
 use Rattle.net_rules.specs.Spans.{PairsApart}
 
 -- the index in the list before a and b changed places

@@ -1,26 +1,8 @@
 -- From one stretch of EIDs to the next, and from all of them to the certificate.
-use Rattle.std.proofs.Common.{◌≡◌, ℕ, ◌+◌, ◌<◌, ◌≤◌, List, [], length, Some, refl, sym, ◌∙◌, ap, subst, arith, inl, inr, ◌⊎◌, true, filter, nat_le, nat_lt}
-use Rattle.std.specs.Prelude.{slice_get, ◌==◌}
-use Rattle.std.proofs.lemmas.Bool.{cases_lt, cases_eq, and_parts, ltb-true, ltb-false, leb-true, eqb-true, eq-eqb, lt-ltb, le-leb, and_from, false≢true, cases_Bool}
-use Rattle.std.proofs.lemmas.Option.{slice_get_within, same_Some, none-some}
-use Rattle.std.proofs.lemmas.List.{nil_from_length}
-use Rattle.plan_values.specs.declared.plan.Plan.{Plan}
-use Rattle.plan_values.specs.declared.certificate.RankRange.{RankRange}
-use Rattle.plan_values.specs.declared.certificate.NodeRanks.{NodeRanks}
-use Rattle.net_tables.specs.Routing.{MovesTo}
-use Rattle.net_tables.specs.Ranks.{rank_given, rank_in, is_in_range}
-use Rattle.net_rules.specs.Circles.{EndsAfter, HasNoCircle, AreMovesToEnds}
-use Rattle.net_rules.specs.RoutingLoops.{IsRank}
-use Rattle.net_tables.specs.Rows.{RowsAreApart, RowsAreInRange}
-use Rattle.net_rules.specs.RankRuns.{AreLongestRuns, below, AreNone, AreGrown}
-use Rattle.net_rules.specs.MovingAlike.{MoveAlike}
-use Rattle.net_rules.specs.Certificates.{AreRanksOf, AreRankedBelow, AreRoutedBelow, AreExactRanks, has_ranges}
-use Rattle.net_rules.proofs.Circling.{circle_in}
-use Rattle.net_rules.proofs.SameMoves.{EndsAfter-same, HasNoCircle-same}
-use Rattle.net_tables.proofs.Elements.{element}
-use Rattle.net_rules.proofs.Filters.{find_cases, in_filter, to_filter, filter_pairs}
-use Rattle.net_rules.proofs.RankRunLaws.{below_here, below_past, runs_same}
-use Rattle.net_rules.proofs.EidMoves.{moves_within, unmoved_rank, unmoved_circle, rank_only, rank_from_ends}
+use Rattle.std.{proofs.Common.{◌≡◌, ℕ, ◌+◌, ◌<◌, ◌≤◌, List, [], length, Some, refl, sym, ◌∙◌, ap, subst, arith, inl, inr, ◌⊎◌, true, filter, nat_le, nat_lt}, specs.Prelude.{slice_get, ◌==◌}, proofs.lemmas.Bool.{cases_lt, cases_eq, and_parts, ltb-true, ltb-false, leb-true, eqb-true, eq-eqb, lt-ltb, le-leb, and_from, false≢true, cases_Bool}, proofs.lemmas.Option.{slice_get_within, same_Some, none-some}, proofs.lemmas.List.{nil_from_length}}
+use Rattle.plan_values.{specs.declared.plan.Plan.{Plan}, specs.declared.certificate.RankRange.{RankRange}, specs.declared.certificate.NodeRanks.{NodeRanks}}
+use Rattle.net_tables.{specs.Routing.{MovesTo}, specs.Ranks.{rank_given, rank_in, is_in_range}, specs.Rows.{RowsAreApart, RowsAreInRange}, proofs.Elements.{element}}
+use Rattle.net_rules.{specs.Circles.{EndsAfter, HasNoCircle, AreMovesToEnds}, specs.RoutingLoops.{IsRank}, specs.RankRuns.{AreLongestRuns, below, AreNone, AreGrown}, specs.MovingAlike.{MoveAlike}, specs.Certificates.{AreRanksOf, AreRankedBelow, AreRoutedBelow, AreExactRanks, has_ranges}, proofs.Circling.{circle_in}, proofs.SameMoves.{EndsAfter-same, HasNoCircle-same}, proofs.Filters.{find_cases, in_filter, to_filter, filter_pairs}, proofs.RankRunLaws.{below_here, below_past, runs_same}, proofs.EidMoves.{moves_within, unmoved_rank, unmoved_circle, rank_only, rank_from_ends}}
 
 -- no ranges are the longest runs where nothing has a rank
 none_longest : (ranks : ℕ → ℕ) → ((e : ℕ) → ranks e ≡ 0) → AreLongestRuns ranks []

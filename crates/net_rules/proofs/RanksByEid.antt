@@ -1,16 +1,8 @@
 -- The rank that ranges give an endpoint ID, where they follow one another.
-use Rattle.std.proofs.Common.{◌≡◌, ◌≢◌, ℕ, ◌<◌, ◌≤◌, List, true, false, Option, None, Some, refl, sym, ◌∙◌, ap, subst, arith, inl, inr}
-use Rattle.std.specs.Prelude.{slice_get, find, option_map, unwrap_or}
-use Rattle.std.proofs.lemmas.Bool.{cases_lt}
-use Rattle.std.proofs.lemmas.Bool.Decides.{nat_tests}
-use Rattle.std.proofs.lemmas.Option.{same_Some, none-some, slice_get_within}
+use Rattle.std.{proofs.Common.{◌≡◌, ◌≢◌, ℕ, ◌<◌, ◌≤◌, List, true, false, Option, None, Some, refl, sym, ◌∙◌, ap, subst, arith, inl, inr}, specs.Prelude.{slice_get, find, option_map, unwrap_or}, proofs.lemmas.Bool.{cases_lt}, proofs.lemmas.Bool.Decides.{nat_tests}, proofs.lemmas.Option.{same_Some, none-some, slice_get_within}}
 use Rattle.plan_values.specs.declared.certificate.RankRange.{RankRange}
-use Rattle.net_tables.specs.Ranks.{rank_in, is_in_range}
-use Rattle.net_tables.proofs.Elements.{element}
-use Rattle.net_rules.specs.Following.{EndedBy}
-use Rattle.net_rules.specs.Stretches.{IsAlong}
-use Rattle.net_rules.specs.RanksByEid.{range_past, RangesFollow}
-use Rattle.net_rules.proofs.Filters.{find_cases}
+use Rattle.net_tables.{specs.Ranks.{rank_in, is_in_range}, proofs.Elements.{element}}
+use Rattle.net_rules.{specs.Following.{EndedBy}, specs.Stretches.{IsAlong}, specs.RanksByEid.{range_past, RangesFollow}, proofs.Filters.{find_cases}}
 
 abbrev pub Has : RankRange → ℕ → Type 0
 Has range e = (range.first.value ≤ e) × (e < range_past range)

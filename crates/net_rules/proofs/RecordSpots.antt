@@ -1,11 +1,7 @@
 -- From the first failure of a search among the records of a node to the first spot of a rule.
-use Rattle.std.proofs.Common.{◌≡◌, ℕ, ◌<◌, List, Option, Some, None, sym, subst, inl, inr, arith}
-use Rattle.std.specs.Prelude.{option_map}
-use Rattle.net_rules.specs.declared.spot.Spot.{Spot}
+use Rattle.std.{proofs.Common.{◌≡◌, ℕ, ◌<◌, List, Option, Some, None, sym, subst, inl, inr, arith}, specs.Prelude.{option_map}}
+use Rattle.net_rules.{specs.declared.spot.Spot.{Spot}, specs.Rules.{AtItem, AtNodeOrItem}, specs.Search.{IsFirstSpot, SpotComesBefore, IsFirstItem}, proofs.Spots.{item_spot}}
 use Rattle.plan_values.specs.declared.terminus.PlannedRecord.{PlannedRecord}
-use Rattle.net_rules.specs.Rules.{AtItem, AtNodeOrItem}
-use Rattle.net_rules.specs.Search.{IsFirstSpot, SpotComesBefore, IsFirstItem}
-use Rattle.net_rules.proofs.Spots.{item_spot}
 
 -- at the node
 pub node_or_items_fail : {A : Type 0} (P : Type 0) (items : List A) (Q : ℕ → A → Type 0) → ¬ P → IsFirstSpot (AtNodeOrItem P items Q) (Some (record { entry = None; eid = None }))

@@ -1,19 +1,9 @@
 -- The stretches of what is asked of the rows in force, whichever plan each node goes by.
-use Rattle.std.proofs.Common.{◌≡◌, ℕ, ◌<◌, ◌≤◌, List, length, Option, Some, None, sym, ◌∙◌, arith, inl, inr}
-use Rattle.std.specs.Prelude.{◌↔◌, MatchOption}
+use Rattle.std.{proofs.Common.{◌≡◌, ℕ, ◌<◌, ◌≤◌, List, length, Option, Some, None, sym, ◌∙◌, arith, inl, inr}, specs.Prelude.{◌↔◌, MatchOption}, proofs.lemmas.Option.{slice_get_within}}
 use Rattle.mctp_transport.specs.declared.address.Eid.{Eid}
-use Rattle.plan_values.specs.declared.certificate.RankRange.{RankRange}
-use Rattle.plan_values.specs.declared.certificate.Certificate.{Certificate}
-use Rattle.plan_values.specs.declared.plan.Plan.{Plan}
-use Rattle.net_tables.specs.Routing.{Holds, HasRow, IsBridge, OfItem, eid_number}
-use Rattle.net_tables.specs.TwoPlans.{Tables, moving, HasRowAlways, HasRowEver}
-use Rattle.net_rules.specs.HeldEids.{IsLedOn}
-use Rattle.net_rules.specs.Superfluous.{NeedsItsRank, NeedsRankBy}
-use Rattle.net_rules.specs.Stretches.{IsStretch, IsAlong, IsLeastFailure}
-use Rattle.net_tables.specs.Ranks.{ranges_of, rank_in, rank}
-use Rattle.net_rules.proofs.StretchLaws.{shorter, rank_of_ranges}
-use Rattle.net_rules.proofs.RanksByEid.{Has, ranked_by}
-use Rattle.std.proofs.lemmas.Option.{slice_get_within}
+use Rattle.plan_values.{specs.declared.certificate.RankRange.{RankRange}, specs.declared.certificate.Certificate.{Certificate}, specs.declared.plan.Plan.{Plan}}
+use Rattle.net_tables.{specs.Routing.{Holds, HasRow, IsBridge, OfItem, eid_number}, specs.TwoPlans.{Tables, moving, HasRowAlways, HasRowEver}, specs.Ranks.{ranges_of, rank_in, rank}}
+use Rattle.net_rules.{specs.HeldEids.{IsLedOn}, specs.Superfluous.{NeedsItsRank, NeedsRankBy}, specs.Stretches.{IsStretch, IsAlong, IsLeastFailure}, proofs.StretchLaws.{shorter, rank_of_ranges}, proofs.RanksByEid.{Has, ranked_by}}
 
 pub both_alike : (before after : Plan) (n at a b less : ℕ) → IsStretch (HasRow before n) at a → IsStretch (HasRow after n) at b → at < less → less ≤ a → less ≤ b
     → IsStretch (HasRowAlways (moving before after) n) at less

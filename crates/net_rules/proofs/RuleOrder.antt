@@ -1,16 +1,7 @@
 -- The order of the rules.
-use Rattle.std.proofs.Common.{zero-add, ◌≡◌, ℕ, zero, ◌+◌, ◌<◌, List, [], ◌∷◌, get_or, Some, refl, sym, ◌∙◌, ap, subst, arith, inl, inr, Option}
-use Rattle.std.specs.Prelude.{slice_get}
-use Rattle.std.proofs.lemmas.Bool.{cases_lt}
-use Rattle.std.proofs.lemmas.List.{get_or-map}
-use Rattle.std.proofs.lemmas.List.FromFn.{get_or-range_with_len}
-use Rattle.std.proofs.lemmas.Option.{same_Some, slice_get_within}
-use Rattle.net_rules.specs.declared.fault.Fault.{Fault}
-use Rattle.net_rules.specs.declared.rule.Rule.{Rule}
-use Rattle.net_rules.specs.declared.rule.Rule.TheVariants.{C01, C02, C03, C04, C05, C06, C07, C08, C09, C10, C11, C12, C13, C14, C15, C16}
-use Rattle.net_rules.specs.Faults.{FaultSite, site_of, order_of, ComesBefore}
+use Rattle.std.{proofs.Common.{zero-add, ◌≡◌, ℕ, zero, ◌+◌, ◌<◌, List, [], ◌∷◌, get_or, Some, refl, sym, ◌∙◌, ap, subst, arith, inl, inr, Option}, specs.Prelude.{slice_get}, proofs.lemmas.Bool.{cases_lt}, proofs.lemmas.List.{get_or-map}, proofs.lemmas.List.FromFn.{get_or-range_with_len}, proofs.lemmas.Option.{same_Some, slice_get_within}}
+use Rattle.net_rules.{specs.declared.fault.Fault.{Fault}, specs.declared.rule.Rule.{Rule}, specs.declared.rule.Rule.TheVariants.{C01, C02, C03, C04, C05, C06, C07, C08, C09, C10, C11, C12, C13, C14, C15, C16}, specs.Faults.{FaultSite, site_of, order_of, ComesBefore}, specs.MoveSearch.{IsFirstByRule, IsFirstByRules}}
 use Rattle.net_tables.specs.Routing.{eid_number}
-use Rattle.net_rules.specs.MoveSearch.{IsFirstByRule, IsFirstByRules}
 
 abbrev in_order : List Rule
 in_order = C01 ∷ C02 ∷ C03 ∷ C04 ∷ C05 ∷ C06 ∷ C07 ∷ C08 ∷ C09 ∷ C10 ∷ C11 ∷ C12 ∷ C13 ∷ C14 ∷ C15 ∷ C16 ∷ []

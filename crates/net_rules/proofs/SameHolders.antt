@@ -1,13 +1,8 @@
 -- Two plans that differ in rows alone have the same holders.
-use Rattle.std.proofs.Common.{◌≡◌, ℕ, Option, Some, None, refl, sym, ◌∙◌, ap}
-use Rattle.std.specs.Prelude.{option_map}
-use Rattle.plan_values.specs.declared.plan.Plan.{Plan}
-use Rattle.plan_values.specs.declared.nodes.Node.{Node}
-use Rattle.plan_values.specs.NodeValues.{NodeValue}
+use Rattle.std.{proofs.Common.{◌≡◌, ℕ, Option, Some, None, refl, sym, ◌∙◌, ap}, specs.Prelude.{option_map}}
+use Rattle.plan_values.{specs.declared.plan.Plan.{Plan}, specs.declared.nodes.Node.{Node}, specs.NodeValues.{NodeValue, but_rows}}
 use Rattle.net_tables.specs.Routing.{node_at, eid_of}
-use Rattle.plan_values.specs.NodeValues.{but_rows}
-use Rattle.net_rules.specs.MoveRules.{IsSameNode}
-use Rattle.net_rules.specs.MoveRanks.{HoldTheSame}
+use Rattle.net_rules.{specs.MoveRules.{IsSameNode}, specs.MoveRanks.{HoldTheSame}}
 
 pub same_eid : (before after : Plan) (n : ℕ) → IsSameNode before after n → eid_of before n ≡ eid_of after n
 unfolding IsSameNode

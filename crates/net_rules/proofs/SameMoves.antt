@@ -1,15 +1,7 @@
 -- What is said of moves holds of every relation that is the same.
 use Rattle.std.proofs.Common.{ℕ, zero, suc, ◌+◌, ◌-◌, List, length, inl, inr}
-use Rattle.net_rules.specs.Moves.{Leads}
-use Rattle.net_rules.specs.Circles.{EndsAfter, HasNoCircle, IsLoop, IsLeastLoop, IsWalked}
-use Rattle.net_rules.specs.LongestWays.{IsLongest, IsLongestOrLoop}
-use Rattle.net_rules.specs.MixedLoops.{EitherOf, MovesOn, IsMixedLoop}
-use Rattle.net_rules.specs.declared.mixed_loop.Side.{Side}
-use Rattle.net_rules.specs.declared.mixed_loop.Side.TheVariants.{Old, New}
-use Rattle.net_rules.specs.declared.certifying.longest_ways.Longest.{Longest}
+use Rattle.net_rules.{specs.Moves.{Leads}, specs.Circles.{EndsAfter, HasNoCircle, IsLoop, IsLeastLoop, IsWalked}, specs.LongestWays.{IsLongest, IsLongestOrLoop}, specs.MixedLoops.{EitherOf, MovesOn, IsMixedLoop}, specs.declared.mixed_loop.Side.{Side}, specs.declared.mixed_loop.Side.TheVariants.{Old, New}, specs.declared.certifying.longest_ways.Longest.{Longest}, specs.declared.certifying.walks.Walked.{Walked}, specs.declared.certifying.walks.Walked.TheVariants.{Ended, Circled}}
 use Rattle.net_rules.specs.declared.certifying.longest_ways.Longest.TheVariants as longest
-use Rattle.net_rules.specs.declared.certifying.walks.Walked.{Walked}
-use Rattle.net_rules.specs.declared.certifying.walks.Walked.TheVariants.{Ended, Circled}
 
 pub Leads-same : (Move Other : ℕ → ℕ → Type 0) → ((n m : ℕ) → Move n m → Other n m) → (n k m : ℕ) → Leads Move n k m → Leads Other n k m
 Leads-same Move Other to n zero m way = way

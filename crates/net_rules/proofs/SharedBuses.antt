@@ -1,11 +1,6 @@
 -- Two nodes share a bus exactly where one of the ports of the one is on a bus of the other.
-use Rattle.std.proofs.Common.{◌≡◌, ℕ, Bool, true, ◌||◌, List, [], ◌∷◌, IsTrue, refl, sym, ◌∙◌, subst, inl, inr, ◌⊎◌}
-use Rattle.std.specs.Prelude.{◌==◌, ◌↔◌}
-use Rattle.std.specs.List.{list_any}
-use Rattle.std.proofs.lemmas.Bool.{false≢true, or_left, or_right}
-use Rattle.std.proofs.lemmas.Bool.Decides.{Decides-or, Decides-eqb}
-use Rattle.plan_values.specs.declared.plan.Plan.{Plan}
-use Rattle.plan_values.specs.declared.nodes.Port.{Port}
+use Rattle.std.{proofs.Common.{◌≡◌, ℕ, Bool, true, ◌||◌, List, [], ◌∷◌, IsTrue, refl, sym, ◌∙◌, subst, inl, inr, ◌⊎◌}, specs.Prelude.{◌==◌, ◌↔◌}, specs.List.{list_any}, proofs.lemmas.Bool.{false≢true, or_left, or_right}, proofs.lemmas.Bool.Decides.{Decides-or, Decides-eqb}}
+use Rattle.plan_values.{specs.declared.plan.Plan.{Plan}, specs.declared.nodes.Port.{Port}}
 use Rattle.net_tables.specs.Routing.{ports_of}
 use Rattle.net_rules.specs.Owners.{ShareBus}
 

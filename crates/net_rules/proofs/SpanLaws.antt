@@ -1,21 +1,8 @@
 -- Rows joined to spans, one after the other, and what is looked up in spans.
-use Rattle.std.proofs.Common.{◌≡◌, ◌⊎◌, ℕ, ◌+◌, ◌<◌, ◌≤◌, List, [], ◌∷◌, ◌++◌, length, get_or, Bool, Some, None, refl, sym, ◌∙◌, ap, subst, arith, inl, inr}
-use Rattle.std.specs.Prelude.{◌↔◌, IsTrue, slice_get}
-use Rattle.std.proofs.lemmas.Bool.{cases_lt}
-use Rattle.std.specs.List.Sorted.{IsPermutation, IsNonDecreasingBy}
-use Rattle.std.proofs.lemmas.List.Sorted.{IsPermutation-sym, Contains-permutation}
-use Rattle.std.proofs.lemmas.Option.{same_Some, none-some, slice_get_within, slice_get-get_or, get_or_from_slice_get}
+use Rattle.std.{proofs.Common.{◌≡◌, ◌⊎◌, ℕ, ◌+◌, ◌<◌, ◌≤◌, List, [], ◌∷◌, ◌++◌, length, get_or, Bool, Some, None, refl, sym, ◌∙◌, ap, subst, arith, inl, inr}, specs.Prelude.{◌↔◌, IsTrue, slice_get}, proofs.lemmas.Bool.{cases_lt}, specs.List.Sorted.{IsPermutation, IsNonDecreasingBy}, proofs.lemmas.List.Sorted.{IsPermutation-sym, Contains-permutation}, proofs.lemmas.Option.{same_Some, none-some, slice_get_within, slice_get-get_or, get_or_from_slice_get}}
 use Rattle.plan_values.specs.declared.nodes.Row.{Row}
-use Rattle.net_tables.specs.Routing.{Covers, OfItem}
-use Rattle.net_tables.specs.Rows.{AreApart}
-use Rattle.net_tables.proofs.Elements.{element, push_left, push_last, in_push}
-use Rattle.net_rules.specs.declared.span.Span.{Span}
-use Rattle.net_rules.specs.declared.spans.Joined.{Joined}
-use Rattle.net_rules.specs.Following.{EndedBy}
-use Rattle.net_rules.specs.Stretches.{IsStretch}
-use Rattle.net_rules.specs.Spans.{IsCovered, IsInSpan, IsInSpans, SpansFollow, HasTurn, IsJoined, IsKept, IsAdded}
-use Rattle.net_rules.proofs.PairsMoved.{pairs_moved}
-use Rattle.net_rules.proofs.CoveredLaws.{IsCoveredBefore, one_row_more, all_rows}
+use Rattle.net_tables.{specs.Routing.{Covers, OfItem}, specs.Rows.{AreApart}, proofs.Elements.{element, push_left, push_last, in_push}}
+use Rattle.net_rules.{specs.declared.span.Span.{Span}, specs.declared.spans.Joined.{Joined}, specs.Following.{EndedBy}, specs.Stretches.{IsStretch}, specs.Spans.{IsCovered, IsInSpan, IsInSpans, SpansFollow, HasTurn, IsJoined, IsKept, IsAdded}, proofs.PairsMoved.{pairs_moved}, proofs.CoveredLaws.{IsCoveredBefore, one_row_more, all_rows}}
 
 abbrev pub EndBy : List Span → ℕ → Type 0
 EndBy spans n = (k : ℕ) → OfItem spans k (λ span. span.end ≤ n)

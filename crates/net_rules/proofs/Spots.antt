@@ -1,9 +1,7 @@
 -- From the first failure of a search to the first spot of a rule.
-use Rattle.std.proofs.Common.{ℕ, ◌<◌, List, Option, Some, None, inl, inr, arith}
-use Rattle.std.specs.Prelude.{option_map}
+use Rattle.std.{proofs.Common.{ℕ, ◌<◌, List, Option, Some, None, inl, inr, arith}, specs.Prelude.{option_map}}
 use Rattle.net_tables.specs.Routing.{OfItem}
-use Rattle.net_rules.specs.Rules.{AtItem}
-use Rattle.net_rules.specs.Search.{IsFirstSpot, SpotComesBefore, IsFirstItem}
+use Rattle.net_rules.{specs.Rules.{AtItem}, specs.Search.{IsFirstSpot, SpotComesBefore, IsFirstItem}}
 
 -- at each item of a list
 pub items_meet : {A : Type 0} (items : List A) (P : ℕ → A → Type 0) → IsFirstItem items P None → IsFirstSpot (AtItem items P) None

@@ -1,9 +1,6 @@
 -- Stretches of endpoint IDs, and the ranks of a certificate by its ranges.
-use Rattle.std.proofs.Common.{◌≡◌, ◌==◌, ℕ, ◌+◌, ◌<◌, ◌≤◌, List, [], Some, refl, ◌∙◌, ap, subst, arith, Option, None}
-use Rattle.std.specs.Prelude.{find, option_map, unwrap_or}
-use Rattle.plan_values.specs.declared.certificate.Certificate.{Certificate}
-use Rattle.plan_values.specs.declared.certificate.RankRange.{RankRange}
-use Rattle.plan_values.specs.declared.certificate.NodeRanks.{NodeRanks}
+use Rattle.std.{proofs.Common.{◌≡◌, ◌==◌, ℕ, ◌+◌, ◌<◌, ◌≤◌, List, [], Some, refl, ◌∙◌, ap, subst, arith, Option, None}, specs.Prelude.{find, option_map, unwrap_or}}
+use Rattle.plan_values.{specs.declared.certificate.Certificate.{Certificate}, specs.declared.certificate.RankRange.{RankRange}, specs.declared.certificate.NodeRanks.{NodeRanks}}
 use Rattle.net_tables.specs.Ranks.{rank_in, rank, ranges_of}
 use Rattle.net_rules.specs.Stretches.{IsStretch}
 

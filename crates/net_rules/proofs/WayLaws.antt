@@ -1,13 +1,6 @@
 -- The longest ways of moves, round by round.
-use Rattle.std.proofs.Common.{◌≡◌, ℕ, zero, suc, ◌+◌, ◌-◌, ◌<◌, ◌≤◌, List, length, Option, Some, None, refl, sym, ◌∙◌, ap, subst, arith, inl, inr, replicate, get_or, unwrap_or}
-use Rattle.std.specs.Prelude.{slice_get, max}
-use Rattle.std.proofs.lemmas.Bool.{cases_lt}
-use Rattle.std.proofs.lemmas.List.{length-replicate, get_or-replicate}
-use Rattle.std.proofs.lemmas.Option.{slice_get_past, slice_get_within, get_or_from_slice_get}
-use Rattle.net_rules.specs.Moves.{Leads, IsEnd}
-use Rattle.net_rules.specs.Circles.{EndsAfter, HasCircle, HasNoCircle, next_in}
-use Rattle.net_rules.specs.LongestWays.{IsLongest, AreLongest, AreLongestWithin, HasWayOf, MovesByEither, one_before}
-use Rattle.net_rules.proofs.Circling.{one_more, spot, spot_parts, circle_in, no_circle_down, table_within}
+use Rattle.std.{proofs.Common.{◌≡◌, ℕ, zero, suc, ◌+◌, ◌-◌, ◌<◌, ◌≤◌, List, length, Option, Some, None, refl, sym, ◌∙◌, ap, subst, arith, inl, inr, replicate, get_or, unwrap_or}, specs.Prelude.{slice_get, max}, proofs.lemmas.Bool.{cases_lt}, proofs.lemmas.List.{length-replicate, get_or-replicate}, proofs.lemmas.Option.{slice_get_past, slice_get_within, get_or_from_slice_get}}
+use Rattle.net_rules.{specs.Moves.{Leads, IsEnd}, specs.Circles.{EndsAfter, HasCircle, HasNoCircle, next_in}, specs.LongestWays.{IsLongest, AreLongest, AreLongestWithin, HasWayOf, MovesByEither, one_before}, proofs.Circling.{one_more, spot, spot_parts, circle_in, no_circle_down, table_within}}
 use Rattle.net_tables.proofs.Elements.{element}
 
 -- the count at an index; 0 beyond the list

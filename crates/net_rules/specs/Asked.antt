@@ -1,13 +1,7 @@
 -- Which rules are asked of a plan, and what they demand of it where they are.
 use Rattle.std.specs.Prelude.{ℕ, Bool, true, false, Option}
-use Rattle.net_rules.specs.declared.rule.Rule.{Rule}
-use Rattle.net_rules.specs.declared.rule.Rule.TheVariants.{C04, C05, C06, C10, C11, C16}
-use Rattle.net_rules.specs.declared.asked.Asked.{Asked}
-use Rattle.net_rules.specs.declared.asked.Asked.TheVariants.{Alone, Before, After}
-use Rattle.plan_values.specs.declared.plan.Plan.{Plan}
-use Rattle.plan_values.specs.declared.certificate.Certificate.{Certificate}
-use Rattle.net_rules.specs.Rules.{Demands}
-use Rattle.net_rules.specs.MoveRules.{DemandsBefore, DemandsAfter}
+use Rattle.net_rules.{specs.declared.rule.Rule.{Rule}, specs.declared.rule.Rule.TheVariants.{C04, C05, C06, C10, C11, C16}, specs.declared.asked.Asked.{Asked}, specs.declared.asked.Asked.TheVariants.{Alone, Before, After}, specs.Rules.{Demands}, specs.MoveRules.{DemandsBefore, DemandsAfter}}
+use Rattle.plan_values.{specs.declared.plan.Plan.{Plan}, specs.declared.certificate.Certificate.{Certificate}}
 
 -- all rules; all but the last; the rules that speak of rows
 abbrev pub is_asked : Asked → Rule → Bool

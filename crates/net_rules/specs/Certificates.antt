@@ -1,28 +1,9 @@
 -- The certificate of a plan, and why there is none.
 use Rattle.std.specs.Prelude.{◌≡◌, ◌≢◌, ℕ, ◌<◌, List, length, slice_get, Some, Bool, nat_lt}
-use Rattle.net_rules.specs.declared.certify_error.CertifyError.{CertifyError}
+use Rattle.net_rules.{specs.declared.certify_error.CertifyError.{CertifyError}, specs.declared.rule.Rule.{Rule}, specs.declared.rule.Rule.TheVariants.{C07, C10, C14}, specs.OwnerLoops.{IsLevel, IsFirstOwnerLoop}, specs.RecordChains.{ArePlaces, IsBadChain}, specs.Rules.{Accepts}, specs.Faults.{order_of, site_of}, specs.PlanFaults.{PlanMeets, IsFirstPlanFault}, specs.Circles.{HasNoCircle}, specs.RoutingLoops.{IsRank, IsFirstRoutingLoop}, specs.RankRuns.{AreLongestRuns, below}}
+use Rattle.plan_values.{specs.declared.plan.Plan.{Plan}, specs.declared.certificate.Certificate.{Certificate}, specs.declared.certificate.NodeRanks.{NodeRanks}, specs.declared.certificate.NodeLevel.{NodeLevel}, specs.declared.certificate.NodePlaces.{NodePlaces}, specs.declared.terminus.PlannedRecord.{PlannedRecord}, specs.CertificateValues.{certificate_value}}
+use Rattle.net_tables.{specs.Routing.{MovesTo}, specs.Ownership.{IsOwnedBy, level_given}, specs.Ranks.{rank_given}, specs.Repositories.{records_of, places_given}}
 use Rattle.net_rules.specs.declared.certify_error.CertifyError.TheVariants as error
-use Rattle.plan_values.specs.declared.plan.Plan.{Plan}
-use Rattle.plan_values.specs.declared.certificate.Certificate.{Certificate}
-use Rattle.plan_values.specs.declared.certificate.NodeRanks.{NodeRanks}
-use Rattle.plan_values.specs.declared.certificate.NodeLevel.{NodeLevel}
-use Rattle.plan_values.specs.declared.certificate.NodePlaces.{NodePlaces}
-use Rattle.plan_values.specs.declared.terminus.PlannedRecord.{PlannedRecord}
-use Rattle.net_rules.specs.declared.rule.Rule.{Rule}
-use Rattle.net_rules.specs.declared.rule.Rule.TheVariants.{C07, C10, C14}
-use Rattle.plan_values.specs.CertificateValues.{certificate_value}
-use Rattle.net_tables.specs.Routing.{MovesTo}
-use Rattle.net_tables.specs.Ownership.{IsOwnedBy, level_given}
-use Rattle.net_rules.specs.OwnerLoops.{IsLevel, IsFirstOwnerLoop}
-use Rattle.net_tables.specs.Ranks.{rank_given}
-use Rattle.net_tables.specs.Repositories.{records_of, places_given}
-use Rattle.net_rules.specs.RecordChains.{ArePlaces, IsBadChain}
-use Rattle.net_rules.specs.Rules.{Accepts}
-use Rattle.net_rules.specs.Faults.{order_of, site_of}
-use Rattle.net_rules.specs.PlanFaults.{PlanMeets, IsFirstPlanFault}
-use Rattle.net_rules.specs.Circles.{HasNoCircle}
-use Rattle.net_rules.specs.RoutingLoops.{IsRank, IsFirstRoutingLoop}
-use Rattle.net_rules.specs.RankRuns.{AreLongestRuns, below}
 
 -- For each node and EID the rank that it is to have, as the longest runs of neighboring EIDs of equal rank above 0,
 -- so many nodes in their order, and those with nothing to give left out.

@@ -1,9 +1,6 @@
 -- Where moves from index to index lead: to an end, or round a circle.
-use Rattle.std.specs.Prelude.{◌≡◌, ◌≢◌, ℕ, suc, ◌+◌, ◌-◌, ◌<◌, ◌≤◌, List}
-use Rattle.std.specs.Prelude.{length, slice_get, Option, Some, option_and_then}
-use Rattle.net_rules.specs.declared.certifying.walks.Walked.{Walked}
-use Rattle.net_rules.specs.declared.certifying.walks.Walked.TheVariants.{Ended, Circled}
-use Rattle.net_rules.specs.Moves.{Leads, IsEnd}
+use Rattle.std.specs.Prelude.{◌≡◌, ◌≢◌, ℕ, suc, ◌+◌, ◌-◌, ◌<◌, ◌≤◌, List, length, slice_get, Option, Some, option_and_then}
+use Rattle.net_rules.{specs.declared.certifying.walks.Walked.{Walked}, specs.declared.certifying.walks.Walked.TheVariants.{Ended, Circled}, specs.Moves.{Leads, IsEnd}}
 
 -- so many moves lead from n to an index that no move leaves
 abbrev pub EndsAfter : (ℕ → ℕ → Type 0) → ℕ → ℕ → Type 0

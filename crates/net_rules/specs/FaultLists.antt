@@ -1,13 +1,7 @@
 -- The list of all faults, in which neighbouring EIDs of one rule, node and entry are one run.
-use Rattle.std.specs.Prelude.{◌≡◌, ℕ, ◌+◌, ◌<◌, ◌≤◌, ◌⊎◌, List, [], ◌∷◌, Option, Some, None, ⊤}
-use Rattle.std.specs.Prelude.{All, AllPairs, Contains, IfSome}
-use Rattle.net_rules.specs.declared.rule.Rule.{Rule}
-use Rattle.net_rules.specs.declared.fault_run.EidSpan.{EidSpan}
-use Rattle.net_rules.specs.declared.fault_run.FaultRun.{FaultRun}
-use Rattle.plan_values.specs.declared.plan.Plan.{Plan}
-use Rattle.plan_values.specs.declared.certificate.Certificate.{Certificate}
-use Rattle.net_rules.specs.Rules.{PlanDemands, Demands}
-use Rattle.net_rules.specs.Faults.{FaultSite, order_of, order_of_number, LessByFirstDifference, ComesBefore}
+use Rattle.std.specs.Prelude.{◌≡◌, ℕ, ◌+◌, ◌<◌, ◌≤◌, ◌⊎◌, List, [], ◌∷◌, Option, Some, None, ⊤, All, AllPairs, Contains, IfSome}
+use Rattle.net_rules.{specs.declared.rule.Rule.{Rule}, specs.declared.fault_run.EidSpan.{EidSpan}, specs.declared.fault_run.FaultRun.{FaultRun}, specs.Rules.{PlanDemands, Demands}, specs.Faults.{FaultSite, order_of, order_of_number, LessByFirstDifference, ComesBefore}}
+use Rattle.plan_values.{specs.declared.plan.Plan.{Plan}, specs.declared.certificate.Certificate.{Certificate}}
 
 -- what a rule demands at a node, an entry and an EID: of the plan alone, or of it and a certificate
 abbrev pub DemandsOf : Plan → Option Certificate → Rule → ℕ → Option ℕ → Option ℕ → Type 0

@@ -1,6 +1,5 @@
 -- Items that follow one another along the endpoint IDs.
-use Rattle.std.specs.Prelude.{◌≡◌, ℕ, ◌<◌, ◌≤◌, List, length, slice_get}
-use Rattle.std.specs.Prelude.{Some}
+use Rattle.std.specs.Prelude.{◌≡◌, ℕ, ◌<◌, ◌≤◌, List, length, slice_get, Some}
 use Rattle.net_tables.specs.Routing.{OfItem}
 
 -- each item ends before any later one begins

@@ -1,10 +1,6 @@
 -- The handles of a list of records, each with the place that its record is given.
-use Rattle.std.specs.Prelude.{◌≡◌, ◌≢◌, ℕ, ◌<◌, List, length, map, slice_get, Option, Some, None}
-use Rattle.std.specs.declared.cmp.Ordering.{Ordering}
-use Rattle.std.specs.List.{zip}
-use Rattle.std.specs.Ordering.{nat_cmp, ordering_then}
-use Rattle.plan_values.specs.declared.terminus.PlannedRecord.{PlannedRecord}
-use Rattle.plan_values.specs.declared.certificate.RecordPlace.{RecordPlace}
+use Rattle.std.{specs.Prelude.{◌≡◌, ◌≢◌, ℕ, ◌<◌, List, length, map, slice_get, Option, Some, None}, specs.declared.cmp.Ordering.{Ordering}, specs.List.{zip}, specs.Ordering.{nat_cmp, ordering_then}}
+use Rattle.plan_values.{specs.declared.terminus.PlannedRecord.{PlannedRecord}, specs.declared.certificate.RecordPlace.{RecordPlace}}
 use Rattle.net_tables.specs.Repositories.{IsHandleAt}
 
 -- the order of pairs of a place and a handle: by place, then by handle

@@ -1,8 +1,7 @@
 -- Rows lead on what is held elsewhere.
 use Rattle.std.specs.Prelude.{◌≢◌, ◌⊎◌, ℕ}
 use Rattle.plan_values.specs.declared.plan.Plan.{Plan}
-use Rattle.net_tables.specs.Routing.{Holds, Routes, IsBridge}
-use Rattle.net_tables.specs.TwoPlans.{Tables, one_plan, HasRowAlways}
+use Rattle.net_tables.{specs.Routing.{Holds, Routes, IsBridge}, specs.TwoPlans.{Tables, one_plan, HasRowAlways}}
 
 -- where a node other than n holds e, m holds it too or is a bridge that always routes it
 unfoldable pub IsLedOn : Tables → ℕ → ℕ → ℕ → Type 0

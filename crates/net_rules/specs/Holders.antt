@@ -1,9 +1,8 @@
 -- The first holders of EIDs.
 use Rattle.std.specs.Prelude.{◌≡◌, ℕ, ◌+◌, ◌<◌, List, Option, Some, None, slice_get}
 use Rattle.plan_values.specs.declared.plan.Plan.{Plan}
-use Rattle.net_rules.specs.declared.holders.Holder.{Holder}
+use Rattle.net_rules.{specs.declared.holders.Holder.{Holder}, specs.Following.{Follow}}
 use Rattle.net_tables.specs.Routing.{Holds, OfItem}
-use Rattle.net_rules.specs.Following.{Follow}
 
 -- the first node of the plan that holds e, if any does
 abbrev pub IsFirstHolder : Plan → ℕ → Option ℕ → Type 0

@@ -1,12 +1,9 @@
 -- Terminus locators: records that tell under which EID a terminus is found.
 use Rattle.std.specs.Prelude.{◌≡◌, ℕ, List, [], ◌∷◌, length, Some}
-use Rattle.plan_values.specs.declared.plan.Plan.{Plan}
-use Rattle.plan_values.specs.declared.terminus.PlannedTerminus.{PlannedTerminus}
+use Rattle.plan_values.{specs.declared.plan.Plan.{Plan}, specs.declared.terminus.PlannedTerminus.{PlannedTerminus}}
+use Rattle.pdr_record.{specs.Layouts.{TerminusValue}, specs.Records.{RecordValue, BodyValue, Spelled}}
+use Rattle.net_tables.{specs.Routing.{Holds}, specs.Repositories.{terminus_of}}
 use Rattle.plan_values.specs.declared.terminus.PlannedRecord as plan
-use Rattle.pdr_record.specs.Layouts.{TerminusValue}
-use Rattle.pdr_record.specs.Records.{RecordValue, BodyValue, Spelled}
-use Rattle.net_tables.specs.Routing.{Holds}
-use Rattle.net_tables.specs.Repositories.{terminus_of}
 
 -- The bytes are those of a terminus locator that is valid and names an MCTP endpoint ID: the locator's TID and value.
 pub record IsEidLocator (bytes : List ℕ) (tid : ℕ) (value : List ℕ) : Type 0 where

@@ -1,10 +1,6 @@
 -- The longest ways of moves, each by one of two relations.
 use Rattle.std.specs.Prelude.{◌≡◌, ℕ, ◌≤◌, List, length, slice_get, Option, Some, unwrap_or, option_map, suc}
-use Rattle.net_rules.specs.declared.certifying.longest_ways.Longest.{Longest}
-use Rattle.net_rules.specs.declared.certifying.longest_ways.Longest.TheVariants.{Ended, Circled}
-use Rattle.net_rules.specs.Moves.{Leads}
-use Rattle.net_rules.specs.Circles.{EndsAfter, HasNoCircle, MovesBy}
-use Rattle.net_rules.specs.MixedLoops.{EitherOf, IsMixedLoop}
+use Rattle.net_rules.{specs.declared.certifying.longest_ways.Longest.{Longest}, specs.declared.certifying.longest_ways.Longest.TheVariants.{Ended, Circled}, specs.Moves.{Leads}, specs.Circles.{EndsAfter, HasNoCircle, MovesBy}, specs.MixedLoops.{EitherOf, IsMixedLoop}}
 
 -- so many moves lead from n to an index that no move leaves, and no way to such an index has more
 pub record IsLongest (Move : ℕ → ℕ → Type 0) (n k : ℕ) : Type 0 where

@@ -1,10 +1,6 @@
 -- Loops of moves, each by one of two relations.
-use Rattle.std.specs.Prelude.{◌≡◌, ◌≢◌, ◌⊎◌, ◌↔◌, ℕ, suc, ◌+◌, ◌-◌, ◌<◌, ◌≤◌, List, length, slice_get, Vec}
-use Rattle.std.specs.Prelude.{Option, Some, Bool, true, false, unwrap_or, option_map}
-use Rattle.net_rules.specs.declared.mixed_loop.Side.{Side}
-use Rattle.net_rules.specs.declared.mixed_loop.Side.TheVariants.{Old, New}
-use Rattle.net_rules.specs.Moves.{Leads}
-use Rattle.net_rules.specs.Circles.{IsLeastOnCircle}
+use Rattle.std.specs.Prelude.{◌≡◌, ◌≢◌, ◌⊎◌, ◌↔◌, ℕ, suc, ◌+◌, ◌-◌, ◌<◌, ◌≤◌, List, length, slice_get, Vec, Option, Some, Bool, true, false, unwrap_or, option_map}
+use Rattle.net_rules.{specs.declared.mixed_loop.Side.{Side}, specs.declared.mixed_loop.Side.TheVariants.{Old, New}, specs.Moves.{Leads}, specs.Circles.{IsLeastOnCircle}}
 
 -- a move by either of the two
 abbrev pub EitherOf : (ℕ → ℕ → Type 0) → (ℕ → ℕ → Type 0) → ℕ → ℕ → Type 0

@@ -1,17 +1,9 @@
 -- Where a move breaks what is required, which of the sites is the first, and what the errors of check_move say.
 use Rattle.std.specs.Prelude.{ℕ, List, [], ◌∷◌, Option, Some, None, codes}
-use Rattle.plan_values.specs.declared.plan.Plan.{Plan}
-use Rattle.plan_values.specs.declared.certificate.Certificate.{Certificate}
-use Rattle.net_rules.specs.declared.move_fault.MoveRule.{MoveRule}
-use Rattle.net_rules.specs.declared.move_fault.MoveRule.TheVariants.{OfPlan, M02, M03}
-use Rattle.net_rules.specs.declared.move_fault.MoveFault.{MoveFault}
-use Rattle.net_rules.specs.declared.move_error.MoveError.{MoveError}
-use Rattle.net_rules.specs.declared.move_error.MoveError.TheVariants as error
-use Rattle.net_rules.specs.Rules.{code_of}
-use Rattle.net_rules.specs.Faults.{order_of, order_of_number, LessByFirstDifference}
+use Rattle.plan_values.{specs.declared.plan.Plan.{Plan}, specs.declared.certificate.Certificate.{Certificate}}
+use Rattle.net_rules.{specs.declared.move_fault.MoveRule.{MoveRule}, specs.declared.move_fault.MoveRule.TheVariants.{OfPlan, M02, M03}, specs.declared.move_fault.MoveFault.{MoveFault}, specs.declared.move_error.MoveError.{MoveError}, specs.Rules.{code_of}, specs.Faults.{order_of, order_of_number, LessByFirstDifference}, specs.MoveRules.{Requirement, SameFrame, SameNode, Before, After, WayOnBefore, WayOnAfter, Given, MoveDemands}}
 use Rattle.net_tables.specs.Routing.{eid_number}
-use Rattle.net_rules.specs.MoveRules.{Requirement, SameFrame, SameNode, Before, After}
-use Rattle.net_rules.specs.MoveRules.{WayOnBefore, WayOnAfter, Given, MoveDemands}
+use Rattle.net_rules.specs.declared.move_error.MoveError.TheVariants as error
 
 -- the code that users see
 abbrev pub code_of_move : MoveRule → List ℕ

@@ -1,23 +1,10 @@
 -- The certificate of a move, and why there is none.
 use Rattle.std.specs.Prelude.{◌≡◌, ◌≢◌, ℕ, ◌<◌, None, Some, Option}
-use Rattle.net_rules.specs.declared.rule.Rule.{Rule}
-use Rattle.net_rules.specs.declared.rule.Rule.TheVariants.{C10}
-use Rattle.net_rules.specs.declared.move_fault.MoveFault.{MoveFault}
-use Rattle.net_rules.specs.declared.move_fault.MoveRule.TheVariants.{M02}
-use Rattle.net_rules.specs.declared.move_error.MoveError.{MoveError}
+use Rattle.net_rules.{specs.declared.rule.Rule.{Rule}, specs.declared.rule.Rule.TheVariants.{C10}, specs.declared.move_fault.MoveFault.{MoveFault}, specs.declared.move_fault.MoveRule.TheVariants.{M02}, specs.declared.move_error.MoveError.{MoveError}, specs.declared.certify_error.CertifyError.{CertifyError}, specs.declared.move_obstacle.MoveObstacle.{MoveObstacle}, specs.Faults.{order_of}, specs.MoveRules.{Requirement, After, WayOnBefore, HaveSameFrame, IsSameNode, DemandsAfter, AcceptsMove}, specs.MoveFaults.{MoveFaultSite, MoveComesBefore, IsMoveMet, move_site, required_after}, specs.Certificates.{IsExactBy, IsOnlyExactBy, NamesObstacle}, specs.MoveRanks.{IsMoveRank, IsFirstMixedLoop}}
+use Rattle.plan_values.{specs.declared.plan.Plan.{Plan}, specs.declared.certificate.Certificate.{Certificate}}
 use Rattle.net_rules.specs.declared.move_error.MoveError.TheVariants as error
-use Rattle.net_rules.specs.declared.certify_error.CertifyError.{CertifyError}
 use Rattle.net_rules.specs.declared.certify_error.CertifyError.TheVariants as alone
-use Rattle.net_rules.specs.declared.move_obstacle.MoveObstacle.{MoveObstacle}
 use Rattle.net_rules.specs.declared.move_obstacle.MoveObstacle.TheVariants as obstacle
-use Rattle.plan_values.specs.declared.plan.Plan.{Plan}
-use Rattle.plan_values.specs.declared.certificate.Certificate.{Certificate}
-use Rattle.net_rules.specs.Faults.{order_of}
-use Rattle.net_rules.specs.MoveRules.{Requirement, After, WayOnBefore, HaveSameFrame, IsSameNode}
-use Rattle.net_rules.specs.MoveRules.{DemandsAfter, AcceptsMove}
-use Rattle.net_rules.specs.MoveFaults.{MoveFaultSite, MoveComesBefore, IsMoveMet, move_site, required_after}
-use Rattle.net_rules.specs.Certificates.{IsExactBy, IsOnlyExactBy, NamesObstacle}
-use Rattle.net_rules.specs.MoveRanks.{IsMoveRank, IsFirstMixedLoop}
 
 -- The certificate gives each level and each place as the plan before has them, each rank as the rows of both plans have
 -- it, and nothing else.

@@ -1,12 +1,8 @@
 -- Where rows of either of two plans lead what is for an EID, while nodes move from one plan to the other.
 use Rattle.std.specs.Prelude.{◌⊎◌, ◌↔◌, ℕ, ◌<◌, ◌≤◌}
-use Rattle.net_rules.specs.declared.mixed_loop.MixedLoop.{MixedLoop}
+use Rattle.net_rules.{specs.declared.mixed_loop.MixedLoop.{MixedLoop}, specs.Moves.{Leads}, specs.Circles.{HasNoCircle}, specs.MixedLoops.{EitherOf, IsMixedLoop}}
 use Rattle.plan_values.specs.declared.plan.Plan.{Plan}
-use Rattle.net_tables.specs.Routing.{Holds, MovesTo}
-use Rattle.net_tables.specs.TwoPlans.{moving, HasRowEver}
-use Rattle.net_rules.specs.Moves.{Leads}
-use Rattle.net_rules.specs.Circles.{HasNoCircle}
-use Rattle.net_rules.specs.MixedLoops.{EitherOf, IsMixedLoop}
+use Rattle.net_tables.{specs.Routing.{Holds, MovesTo}, specs.TwoPlans.{moving, HasRowEver}}
 
 -- what is for e may move on from n to m: along a row of one of the plans
 abbrev pub MayMoveTo : Plan → Plan → ℕ → ℕ → ℕ → Type 0

@@ -1,15 +1,8 @@
 -- The rules of a move: two plans that differ in rows alone, and one certificate for both.
 use Rattle.std.specs.Prelude.{◌≡◌, ℕ, map, length, Option, option_map, ⊤}
-use Rattle.net_rules.specs.declared.rule.Rule.{Rule}
-use Rattle.net_rules.specs.declared.rule.Rule.TheVariants.{C04, C05, C06, C10, C11, C16}
-use Rattle.plan_values.specs.declared.plan.Plan.{Plan}
-use Rattle.plan_values.specs.declared.certificate.Certificate.{Certificate}
-use Rattle.plan_values.specs.NodeValues.{bus_value, but_rows}
-use Rattle.net_tables.specs.Routing.{node_at}
-use Rattle.net_tables.specs.TwoPlans.{moving}
-use Rattle.net_rules.specs.HeldEids.{IsLedOn}
-use Rattle.net_rules.specs.Superfluous.{NeedsWhatItIsGiven, NeedsItsRank}
-use Rattle.net_rules.specs.Rules.{AtNode, AtNodeOrEid, AtRowEid, Demands}
+use Rattle.net_rules.{specs.declared.rule.Rule.{Rule}, specs.declared.rule.Rule.TheVariants.{C04, C05, C06, C10, C11, C16}, specs.HeldEids.{IsLedOn}, specs.Superfluous.{NeedsWhatItIsGiven, NeedsItsRank}, specs.Rules.{AtNode, AtNodeOrEid, AtRowEid, Demands}}
+use Rattle.plan_values.{specs.declared.plan.Plan.{Plan}, specs.declared.certificate.Certificate.{Certificate}, specs.NodeValues.{bus_value, but_rows}}
+use Rattle.net_tables.{specs.Routing.{node_at}, specs.TwoPlans.{moving}}
 
 -- n is the same in both plans, but for its rows
 unfoldable pub IsSameNode : Plan → Plan → ℕ → Type 0

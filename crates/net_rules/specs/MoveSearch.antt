@@ -1,13 +1,8 @@
 -- What the searches for a fault of a move answer.
 use Rattle.std.specs.Prelude.{◌≡◌, ℕ, ◌<◌, [], ◌∷◌, Option, Some, None}
-use Rattle.net_rules.specs.declared.rule.Rule.{Rule}
-use Rattle.net_rules.specs.declared.fault.Fault.{Fault}
-use Rattle.net_rules.specs.declared.move_fault.MoveRule.{MoveRule}
-use Rattle.net_rules.specs.declared.move_fault.MoveFault.{MoveFault}
+use Rattle.net_rules.{specs.declared.rule.Rule.{Rule}, specs.declared.fault.Fault.{Fault}, specs.declared.move_fault.MoveRule.{MoveRule}, specs.declared.move_fault.MoveFault.{MoveFault}, specs.Faults.{FaultSite, site_of, order_of_number, LessByFirstDifference, ComesBefore}, specs.MoveRules.{IsSameNode}}
 use Rattle.plan_values.specs.declared.plan.Plan.{Plan}
-use Rattle.net_rules.specs.Faults.{FaultSite, site_of, order_of_number, LessByFirstDifference, ComesBefore}
 use Rattle.net_tables.specs.Routing.{eid_number}
-use Rattle.net_rules.specs.MoveRules.{IsSameNode}
 
 -- the first node that is not the same, if any
 abbrev pub IsFirstUnlike : Plan → Plan → Option ℕ → Type 0

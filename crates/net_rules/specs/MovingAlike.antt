@@ -1,8 +1,6 @@
 -- Stretches of neighboring EIDs that the nodes of a plan send on alike.
 use Rattle.std.specs.Prelude.{◌≡◌, ◌⊎◌, ◌↔◌, ℕ, ◌+◌, ◌≤◌, List, Option, Some, Any, slice_get}
-use Rattle.mctp_routing.specs.declared.row.Hop.{Hop}
-use Rattle.mctp_routing.specs.declared.row.TableRow.{TableRow}
-use Rattle.mctp_routing.specs.Rows.{IsNext}
+use Rattle.mctp_routing.{specs.declared.row.Hop.{Hop}, specs.declared.row.TableRow.{TableRow}, specs.Rows.{IsNext}}
 use Rattle.plan_values.specs.declared.plan.Plan.{Plan}
 use Rattle.net_tables.specs.Routing.{Holds, MovesTo}
 

@@ -1,10 +1,7 @@
 -- The owners of nodes, and the levels that a certificate gives.
 use Rattle.std.specs.Prelude.{ℕ, ◌<◌}
-use Rattle.plan_values.specs.declared.plan.Plan.{Plan}
-use Rattle.plan_values.specs.declared.certificate.Certificate.{Certificate}
-use Rattle.net_tables.specs.Routing.{IsBridge}
-use Rattle.net_tables.specs.Rows.{IsOnBus}
-use Rattle.net_tables.specs.Ownership.{IsOwnedBy, level}
+use Rattle.plan_values.{specs.declared.plan.Plan.{Plan}, specs.declared.certificate.Certificate.{Certificate}}
+use Rattle.net_tables.{specs.Routing.{IsBridge}, specs.Rows.{IsOnBus}, specs.Ownership.{IsOwnedBy, level}}
 
 -- each of the two has a port on one bus
 unfoldable pub ShareBus : Plan → ℕ → ℕ → Type 0

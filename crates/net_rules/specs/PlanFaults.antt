@@ -1,10 +1,7 @@
 -- Where a plan itself breaks a rule, whatever the certificate.
 use Rattle.std.specs.Prelude.{◌≡◌, ℕ, Option, Some, None}
-use Rattle.net_rules.specs.declared.rule.Rule.{Rule}
-use Rattle.net_rules.specs.declared.fault.Fault.{Fault}
+use Rattle.net_rules.{specs.declared.rule.Rule.{Rule}, specs.declared.fault.Fault.{Fault}, specs.Rules.{PlanDemands}, specs.Faults.{FaultSite, site_of, ComesBefore}}
 use Rattle.plan_values.specs.declared.plan.Plan.{Plan}
-use Rattle.net_rules.specs.Rules.{PlanDemands}
-use Rattle.net_rules.specs.Faults.{FaultSite, site_of, ComesBefore}
 
 -- the plan meets the rule everywhere, as far as the rule speaks of the plan alone
 abbrev pub PlanMeets : Plan → Rule → Type 0

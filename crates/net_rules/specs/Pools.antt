@@ -1,9 +1,7 @@
 -- The pools of endpoint IDs: who may have one, and which of the nodes' EIDs lie in it.
 use Rattle.std.specs.Prelude.{◌≡◌, ℕ, ◌+◌, ◌<◌, ◌≤◌, Some}
-use Rattle.plan_values.specs.declared.plan.Plan.{Plan}
-use Rattle.plan_values.specs.declared.nodes.Pool.{Pool}
-use Rattle.net_tables.specs.Routing.{IsBridge}
-use Rattle.net_tables.specs.Ownership.{owner_of, IsOwnedBy, IsInPool, IsInPoolOf, pool_of}
+use Rattle.plan_values.{specs.declared.plan.Plan.{Plan}, specs.declared.nodes.Pool.{Pool}}
+use Rattle.net_tables.{specs.Routing.{IsBridge}, specs.Ownership.{owner_of, IsOwnedBy, IsInPool, IsInPoolOf, pool_of}}
 
 -- e lies in the pool of n's owner, if n has an owner
 unfoldable pub IsInOwnersPool : Plan → ℕ → ℕ → Type 0

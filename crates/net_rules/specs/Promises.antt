@@ -1,9 +1,7 @@
 -- What accepted ranks promise of following rows.
 use Rattle.std.specs.Prelude.{◌⊎◌, ℕ, ◌+◌, ◌≤◌}
-use Rattle.plan_values.specs.declared.plan.Plan.{Plan}
-use Rattle.plan_values.specs.declared.certificate.Certificate.{Certificate}
-use Rattle.net_tables.specs.Routing.{Holds, HasRow, MovesTo}
-use Rattle.net_tables.specs.Ranks.{rank}
+use Rattle.plan_values.{specs.declared.plan.Plan.{Plan}, specs.declared.certificate.Certificate.{Certificate}}
+use Rattle.net_tables.{specs.Routing.{Holds, HasRow, MovesTo}, specs.Ranks.{rank}}
 use Rattle.net_rules.specs.Moves.{Leads, IsEnd}
 
 -- the way for e ends at n: n holds e, or has no row for it

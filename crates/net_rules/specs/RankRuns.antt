@@ -1,7 +1,6 @@
 -- Ranks as ranges: the longest runs of neighboring EIDs of one rank.
 use Rattle.std.specs.Prelude.{◌≡◌, ◌≢◌, ℕ, ◌+◌, ◌-◌, ◌<◌, ◌≤◌, List, [], length, slice_get, Some, nat_lt, if◌then◌else◌}
-use Rattle.plan_values.specs.declared.certificate.RankRange.{RankRange}
-use Rattle.plan_values.specs.declared.certificate.NodeRanks.{NodeRanks}
+use Rattle.plan_values.{specs.declared.certificate.RankRange.{RankRange}, specs.declared.certificate.NodeRanks.{NodeRanks}}
 
 abbrev pub LiesIn : RankRange → ℕ → Type 0
 LiesIn range e = (range.first.value ≤ e) × (e < range.first.value + range.size)

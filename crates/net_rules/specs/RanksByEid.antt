@@ -1,9 +1,7 @@
 -- The ranges that give ranks, in order, and by node.
 use Rattle.std.specs.Prelude.{◌≡◌, ℕ, ◌+◌, List}
-use Rattle.plan_values.specs.declared.certificate.RankRange.{RankRange}
-use Rattle.plan_values.specs.declared.certificate.Certificate.{Certificate}
-use Rattle.net_tables.specs.Routing.{OfItem}
-use Rattle.net_tables.specs.Ranks.{ranges_of}
+use Rattle.plan_values.{specs.declared.certificate.RankRange.{RankRange}, specs.declared.certificate.Certificate.{Certificate}}
+use Rattle.net_tables.{specs.Routing.{OfItem}, specs.Ranks.{ranges_of}}
 use Rattle.net_rules.specs.Following.{Follow}
 
 -- the number after that of the range's last EID

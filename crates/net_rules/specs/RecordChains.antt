@@ -1,17 +1,8 @@
 -- The chain that the next handles of records make.
-use Rattle.std.specs.Prelude.{codes, ◌≡◌, ◌≢◌, ◌⊎◌, ℕ, ◌+◌, ◌<◌, List, length}
-use Rattle.std.specs.Prelude.{map, slice_get, Option, Some, None, MatchOption, unwrap_or}
-use Rattle.std.specs.Ordering.{nat_cmp}
-use Rattle.std.specs.BTreeMap.{get}
+use Rattle.std.{specs.Prelude.{codes, ◌≡◌, ◌≢◌, ◌⊎◌, ℕ, ◌+◌, ◌<◌, List, length, map, slice_get, Option, Some, None, MatchOption, unwrap_or}, specs.Ordering.{nat_cmp}, specs.BTreeMap.{get}}
 use Rattle.plan_values.specs.declared.terminus.PlannedRecord.{PlannedRecord}
-use Rattle.net_rules.specs.declared.certifying.handle_index.HandleIndex.{HandleIndex}
-use Rattle.net_rules.specs.declared.certifying.chains.Chained.{Chained}
-use Rattle.net_rules.specs.declared.certifying.chains.Chained.TheVariants.{Places, Bad}
-use Rattle.net_rules.specs.declared.certifying.chains.ChainFault.{ChainFault}
-use Rattle.net_rules.specs.declared.certifying.chains.ChainFault.TheVariants.{Missing, Doubled, Circle}
-use Rattle.net_rules.specs.Circles.{EndsAfter, IsLeastOnCircle}
+use Rattle.net_rules.{specs.declared.certifying.handle_index.HandleIndex.{HandleIndex}, specs.declared.certifying.chains.Chained.{Chained}, specs.declared.certifying.chains.Chained.TheVariants.{Places, Bad}, specs.declared.certifying.chains.ChainFault.{ChainFault}, specs.declared.certifying.chains.ChainFault.TheVariants.{Missing, Doubled, Circle}, specs.Circles.{EndsAfter, IsLeastOnCircle}, specs.Search.{IsFirstItem}}
 use Rattle.net_tables.specs.Repositories.{HasNewHandle, IsChained}
-use Rattle.net_rules.specs.Search.{IsFirstItem}
 
 -- the handle is a record's
 abbrev pub IsHandleOf : List PlannedRecord → ℕ → Type 0

@@ -2,9 +2,7 @@
 use Rattle.std.specs.Prelude.{◌≡◌, ℕ, ◌<◌, List, length, slice_get, Option, Some, MatchOption}
 use Rattle.plan_values.specs.declared.plan.Plan.{Plan}
 use Rattle.net_tables.specs.Routing.{MovesTo}
-use Rattle.net_rules.specs.Moves.{Leads}
-use Rattle.net_rules.specs.Circles.{IsLeastLoop, HasNoCircle}
-use Rattle.net_rules.specs.Promises.{WayEnds}
+use Rattle.net_rules.{specs.Moves.{Leads}, specs.Circles.{IsLeastLoop, HasNoCircle}, specs.Promises.{WayEnds}}
 
 -- so many moves along rows lead what is for e from n to a holder of e, or to a node without a row for e
 abbrev pub IsRank : Plan → ℕ → ℕ → ℕ → Type 0

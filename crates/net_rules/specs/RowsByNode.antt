@@ -1,7 +1,6 @@
 -- The rows of a plan's nodes.
 use Rattle.std.specs.Prelude.{◌≡◌, ℕ, List}
-use Rattle.plan_values.specs.declared.plan.Plan.{Plan}
-use Rattle.plan_values.specs.declared.nodes.Row.{Row}
+use Rattle.plan_values.{specs.declared.plan.Plan.{Plan}, specs.declared.nodes.Row.{Row}}
 use Rattle.net_tables.specs.Routing.{OfItem, rows_of}
 
 -- lists of rows by the index of a node, each as the plan has it of that node

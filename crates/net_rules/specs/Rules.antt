@@ -1,25 +1,10 @@
 -- The rules of a plan and its certificate: what each demands, and where.
 use Rattle.std.specs.Prelude.{ℕ, List, Option, Some, None, ⊤, codes}
 use Rattle.mctp_transport.specs.PacketValues.{IsAssignable}
-use Rattle.net_rules.specs.declared.rule.Rule.{Rule}
-use Rattle.net_rules.specs.declared.rule.Rule.TheVariants.{C01, C02, C03, C04, C05, C06, C07, C08}
-use Rattle.net_rules.specs.declared.rule.Rule.TheVariants.{C09, C10, C11, C12, C13, C14, C15, C16}
-use Rattle.plan_values.specs.declared.plan.Plan.{Plan}
-use Rattle.plan_values.specs.declared.nodes.Row.{Row}
-use Rattle.plan_values.specs.declared.certificate.Certificate.{Certificate}
-use Rattle.net_tables.specs.Routing.{rows_of, Holds, Covers, OfItem}
-use Rattle.net_tables.specs.TwoPlans.{one_plan}
-use Rattle.net_rules.specs.Names.{HasNewName}
-use Rattle.net_rules.specs.Eids.{IsNewlyHeld}
-use Rattle.net_tables.specs.Rows.{IsInRange, IsApartFromEarlier, NamesNeighbor}
-use Rattle.net_rules.specs.Owners.{HasBridgeAsOwner, IsBelowItsOwner}
-use Rattle.net_rules.specs.Pools.{IsInItsPool, HasLawfulPool}
-use Rattle.net_tables.specs.Ranks.{Falls}
-use Rattle.net_rules.specs.HeldEids.{IsLedOn}
+use Rattle.net_rules.{specs.declared.rule.Rule.{Rule}, specs.declared.rule.Rule.TheVariants.{C01, C02, C03, C04, C05, C06, C07, C08, C09, C10, C11, C12, C13, C14, C15, C16}, specs.Names.{HasNewName}, specs.Eids.{IsNewlyHeld}, specs.Owners.{HasBridgeAsOwner, IsBelowItsOwner}, specs.Pools.{IsInItsPool, HasLawfulPool}, specs.HeldEids.{IsLedOn}, specs.Locators.{HasOneByteAsEid, LocatesTerminus}, specs.Superfluous.{NeedsWhatItIsGiven, NeedsItsRank}}
+use Rattle.plan_values.{specs.declared.plan.Plan.{Plan}, specs.declared.nodes.Row.{Row}, specs.declared.certificate.Certificate.{Certificate}}
+use Rattle.net_tables.{specs.Routing.{rows_of, Holds, Covers, OfItem}, specs.TwoPlans.{one_plan}, specs.Rows.{IsInRange, IsApartFromEarlier, NamesNeighbor}, specs.Ranks.{Falls}, specs.Repositories.{records_of, places_of, HasRecords, HasNewHandle, IsChained}}
 use Rattle.pdr_repository.specs.Records.{IsRecordOf}
-use Rattle.net_tables.specs.Repositories.{records_of, places_of, HasRecords, HasNewHandle, IsChained}
-use Rattle.net_rules.specs.Locators.{HasOneByteAsEid, LocatesTerminus}
-use Rattle.net_rules.specs.Superfluous.{NeedsWhatItIsGiven, NeedsItsRank}
 
 -- the code that users see
 abbrev pub code_of : Rule → List ℕ

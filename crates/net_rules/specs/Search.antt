@@ -1,14 +1,8 @@
 -- What the searches for a fault answer.
 use Rattle.std.specs.Prelude.{ℕ, ◌<◌, List, [], ◌∷◌, Option, Some, None}
-use Rattle.net_rules.specs.declared.fault.Fault.{Fault}
-use Rattle.net_rules.specs.declared.spot.Spot.{Spot}
-use Rattle.plan_values.specs.declared.plan.Plan.{Plan}
-use Rattle.plan_values.specs.declared.nodes.Row.{Row}
-use Rattle.plan_values.specs.declared.certificate.Certificate.{Certificate}
+use Rattle.net_rules.{specs.declared.fault.Fault.{Fault}, specs.declared.spot.Spot.{Spot}, specs.Rules.{Accepts}, specs.Faults.{site_of, order_of_number, LessByFirstDifference, IsFirstFault}}
+use Rattle.plan_values.{specs.declared.plan.Plan.{Plan}, specs.declared.nodes.Row.{Row}, specs.declared.certificate.Certificate.{Certificate}}
 use Rattle.net_tables.specs.Routing.{OfItem, Covers, eid_number}
-use Rattle.net_rules.specs.Rules.{Accepts}
-use Rattle.net_rules.specs.Faults.{site_of, order_of_number}
-use Rattle.net_rules.specs.Faults.{LessByFirstDifference, IsFirstFault}
 
 -- the first item of the list of which the fact fails, if any
 abbrev pub IsFirstItem : {A : Type 0} → List A → (ℕ → A → Type 0) → Option ℕ → Type 0

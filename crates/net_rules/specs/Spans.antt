@@ -1,11 +1,8 @@
 -- Endpoint IDs that rows cover, as spans.
 use Rattle.std.specs.Prelude.{◌≡◌, ◌⊎◌, ◌↔◌, ℕ, ◌<◌, ◌≤◌, List, Option, Some, None, slice_get, IsTrue}
 use Rattle.plan_values.specs.declared.nodes.Row.{Row}
-use Rattle.net_tables.specs.Routing.{Covers, OfItem}
-use Rattle.net_tables.specs.Rows.{AreApart}
-use Rattle.net_rules.specs.declared.span.Span.{Span}
-use Rattle.net_rules.specs.declared.spans.Joined.{Joined}
-use Rattle.net_rules.specs.Following.{Follow}
+use Rattle.net_tables.{specs.Routing.{Covers, OfItem}, specs.Rows.{AreApart}}
+use Rattle.net_rules.{specs.declared.span.Span.{Span}, specs.declared.spans.Joined.{Joined}, specs.Following.{Follow}}
 
 -- one of the rows covers e
 abbrev pub IsCovered : List Row → ℕ → Type 0

@@ -1,13 +1,7 @@
 -- What a certificate gives that the plan has no use for.
 use Rattle.std.specs.Prelude.{◌≡◌, ◌≢◌, ℕ, ◌<◌, ◌≤◌, List, length, None}
-use Rattle.plan_values.specs.declared.plan.Plan.{Plan}
-use Rattle.plan_values.specs.declared.certificate.Certificate.{Certificate}
-use Rattle.net_tables.specs.Routing.{Holds}
-use Rattle.net_tables.specs.TwoPlans.{Tables, HasRowEver}
-use Rattle.plan_values.specs.declared.certificate.RankRange.{RankRange}
-use Rattle.net_tables.specs.Ranks.{rank, rank_in}
-use Rattle.net_tables.specs.Ownership.{owner_of, given_level}
-use Rattle.net_tables.specs.Repositories.{records_of, places_of}
+use Rattle.plan_values.{specs.declared.plan.Plan.{Plan}, specs.declared.certificate.Certificate.{Certificate}, specs.declared.certificate.RankRange.{RankRange}}
+use Rattle.net_tables.{specs.Routing.{Holds}, specs.TwoPlans.{Tables, HasRowEver}, specs.Ranks.{rank, rank_in}, specs.Ownership.{owner_of, given_level}, specs.Repositories.{records_of, places_of}}
 
 -- a node without an owner is given no level
 unfoldable pub NeedsItsLevel : Plan → Certificate → ℕ → Type 0

@@ -1,7 +1,6 @@
 //! `faults`: every fault of a plan, or of a plan and its certificate.
 ghost use Rattle.std.specs.Prelude.{◌≡◌, ◌+◌, ◌<◌, ◌≤◌, ◌∷◌, [], ℕ, Some, IfOk, OnOk, length, option_map};
-ghost use Rattle.net_rules.specs.Faults.{order_of, order_of_number};
-ghost use Rattle.net_rules.specs.FaultLists.{DemandsOf, AreFaults, AreFaultsBefore};
+ghost use Rattle.net_rules.{specs.Faults.{order_of, order_of_number}, specs.FaultLists.{DemandsOf, AreFaults, AreFaultsBefore}};
 
 mod bounds;
 mod by_certificate;

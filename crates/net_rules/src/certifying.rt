@@ -1,14 +1,7 @@
 //! `certify`: the certificate of a plan, or why there is none.
 ghost use Rattle.std.specs.Prelude.{◌≡◌, ◌+◌, IfOk, IfErr, OnOk};
-ghost use Rattle.plan_values.specs.CertificateValues.{certificate_value};
-ghost use Rattle.plan_values.specs.PlanValues.{plan_value};
-ghost use Rattle.plan_values.specs.ShortText.{HasFewPlaces};
-ghost use Rattle.plan_values.specs.WellFormed.{IsWellFormed};
-ghost use Rattle.net_rules.specs.Rules.{Accepts};
-ghost use Rattle.net_rules.specs.Faults.{order_of};
-ghost use Rattle.net_rules.specs.declared.rule.Rule.TheVariants.{C07, C10, C14};
-ghost use Rattle.net_rules.specs.PlanFaults.{PlanMeets};
-ghost use Rattle.net_rules.specs.Certificates.{IsExact, IsOnlyExact, IsMadeBefore, NamesObstacle, RulesOutCertificates};
+ghost use Rattle.plan_values.{specs.CertificateValues.{certificate_value}, specs.PlanValues.{plan_value}, specs.ShortText.{HasFewPlaces}, specs.WellFormed.{IsWellFormed}};
+ghost use Rattle.net_rules.{specs.Rules.{Accepts}, specs.Faults.{order_of}, specs.declared.rule.Rule.TheVariants.{C07, C10, C14}, specs.PlanFaults.{PlanMeets}, specs.Certificates.{IsExact, IsOnlyExact, IsMadeBefore, NamesObstacle, RulesOutCertificates}};
 
 pub mod chains;
 mod exact_levels;

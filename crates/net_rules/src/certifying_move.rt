@@ -1,15 +1,7 @@
 //! `certify_move`: the certificate of a move, or why there is none.
 ghost use Rattle.std.specs.Prelude.{◌≡◌, ◌<◌, ◌↔◌, IsTrue, IfOk, IfErr, OnOk};
-ghost use Rattle.plan_values.specs.CertificateValues.{certificate_value};
-ghost use Rattle.plan_values.specs.PlanValues.{plan_value};
-ghost use Rattle.plan_values.specs.ShortText.{HasFewPlaces};
-ghost use Rattle.plan_values.specs.WellFormed.{IsWellFormed};
-ghost use Rattle.net_rules.specs.declared.rule.Rule.TheVariants.{C10};
-ghost use Rattle.net_rules.specs.Faults.{order_of};
-ghost use Rattle.net_rules.specs.Rules.{Accepts};
-ghost use Rattle.net_rules.specs.MoveRules.{AcceptsMove};
-ghost use Rattle.net_rules.specs.Certificates.{IsExact};
-ghost use Rattle.net_rules.specs.MoveObstacles.{DifferInRowsAlone, RowsMeetBefore, IsExactForMove, IsOnlyExactForMove, NamesMoveObstacle, RulesOutMoveCertificates, obstacle_of_old};
+ghost use Rattle.plan_values.{specs.CertificateValues.{certificate_value}, specs.PlanValues.{plan_value}, specs.ShortText.{HasFewPlaces}, specs.WellFormed.{IsWellFormed}};
+ghost use Rattle.net_rules.{specs.declared.rule.Rule.TheVariants.{C10}, specs.Faults.{order_of}, specs.Rules.{Accepts}, specs.MoveRules.{AcceptsMove}, specs.Certificates.{IsExact}, specs.MoveObstacles.{DifferInRowsAlone, RowsMeetBefore, IsExactForMove, IsOnlyExactForMove, NamesMoveObstacle, RulesOutMoveCertificates, obstacle_of_old}};
 
 use crate::asked::Asked;
 use crate::certify_error::CertifyError;

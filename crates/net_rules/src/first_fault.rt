@@ -1,9 +1,6 @@
 //! The search for the first fault of a plan and a certificate.
 ghost use Rattle.std.specs.Prelude.{◌≡◌, ◌<◌, length, IfOk};
-ghost use Rattle.net_rules.specs.Rules.{Demands};
-ghost use Rattle.net_rules.specs.Asked.{DemandsAsked};
-ghost use Rattle.net_rules.specs.Search.{IsFirstSpot, IsFirstOfAll};
-ghost use Rattle.net_rules.specs.MoveSearch.{IsFirstByRule, IsFirstByRules};
+ghost use Rattle.net_rules.{specs.Rules.{Demands}, specs.Asked.{DemandsAsked}, specs.Search.{IsFirstSpot, IsFirstOfAll}, specs.MoveSearch.{IsFirstByRule, IsFirstByRules}};
 
 use crate::asked::Asked;
 use crate::certified_ranks::CertifiedRanks;

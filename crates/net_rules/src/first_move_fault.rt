@@ -1,13 +1,7 @@
 //! The search for the first fault of a move.
 ghost use Rattle.std.specs.Prelude.{◌≡◌, OnOk, IfErr};
 ghost use Rattle.net_tables.specs.TwoPlans.{moving};
-ghost use Rattle.net_rules.specs.Rules.{AtRowEid, AtNodeOrEid};
-ghost use Rattle.net_rules.specs.HeldEids.{IsLedOn};
-ghost use Rattle.net_rules.specs.Superfluous.{NeedsWhatItIsGiven, NeedsItsRank};
-ghost use Rattle.net_rules.specs.MoveRules.{AcceptsMove};
-ghost use Rattle.net_rules.specs.MoveFaults.{NamesFirstMoveFault};
-ghost use Rattle.net_rules.specs.MoveSearch.{IsFirstByNode};
-ghost use Rattle.net_rules.specs.MoveObstacles.{DifferInRowsAlone, NamesDifference};
+ghost use Rattle.net_rules.{specs.Rules.{AtRowEid, AtNodeOrEid}, specs.HeldEids.{IsLedOn}, specs.Superfluous.{NeedsWhatItIsGiven, NeedsItsRank}, specs.MoveRules.{AcceptsMove}, specs.MoveFaults.{NamesFirstMoveFault}, specs.MoveSearch.{IsFirstByNode}, specs.MoveObstacles.{DifferInRowsAlone, NamesDifference}};
 
 use crate::asked::Asked;
 use crate::fault::Fault;

@@ -1,9 +1,7 @@
 //! The first holder of each endpoint ID, ready for look-ups.
 ghost use Rattle.std.specs.Prelude.{◌≡◌, ◌+◌, ◌<◌, ◌↔◌, ℕ, Some, IfOk, OnOk, IsTrue, length, option_map, slice_get};
 ghost use Rattle.net_tables.specs.Routing.{Holds};
-ghost use Rattle.net_rules.specs.Stretches.{IsStretch};
-ghost use Rattle.net_rules.specs.Following.{EndedBy};
-ghost use Rattle.net_rules.specs.Holders.{IsFirstHolder, HoldersAscend, AreFirstHolders};
+ghost use Rattle.net_rules.{specs.Stretches.{IsStretch}, specs.Following.{EndedBy}, specs.Holders.{IsFirstHolder, HoldersAscend, AreFirstHolders}};
 
 use mctp_transport::Eid;
 use plan_values::Plan;

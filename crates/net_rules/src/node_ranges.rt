@@ -1,10 +1,7 @@
 //! The ranges that give a node its ranks, ready for look-ups.
 ghost use Rattle.std.specs.Prelude.{◌≡◌, ◌+◌, ◌^◌, ◌<◌, ◌≤◌, ◌↔◌, IsTrue};
-ghost use Rattle.net_tables.specs.Routing.{OfItem};
-ghost use Rattle.net_tables.specs.Ranks.{rank_in};
-ghost use Rattle.net_rules.specs.Following.{EndedBy};
-ghost use Rattle.net_rules.specs.Stretches.{IsAlong};
-ghost use Rattle.net_rules.specs.RanksByEid.{RangesFollow, range_past};
+ghost use Rattle.net_tables.{specs.Routing.{OfItem}, specs.Ranks.{rank_in}};
+ghost use Rattle.net_rules.{specs.Following.{EndedBy}, specs.Stretches.{IsAlong}, specs.RanksByEid.{RangesFollow, range_past}};
 
 use mctp_transport::Eid;
 use net_tables::lookup::{range_end, rank_in_ranges};

@@ -1,8 +1,6 @@
 //! The rows of a node, ready for look-ups.
-ghost use Rattle.std.specs.Prelude.{◌≡◌, ◌↔◌, ℕ, IfOk, IsTrue};
-ghost use Rattle.std.specs.List.Sorted.{IsPermutation, IsNonDecreasingBy};
-ghost use Rattle.net_rules.specs.Stretches.{IsStretch};
-ghost use Rattle.net_rules.specs.Spans.{IsCovered, IsInSpan, IsJoined, PairsApart};
+ghost use Rattle.std.{specs.Prelude.{◌≡◌, ◌↔◌, ℕ, IfOk, IsTrue}, specs.List.Sorted.{IsPermutation, IsNonDecreasingBy}};
+ghost use Rattle.net_rules.{specs.Stretches.{IsStretch}, specs.Spans.{IsCovered, IsInSpan, IsJoined, PairsApart}};
 
 use crate::span::Span;
 use crate::spans::{Joined, is_in_spans, join, span_border, span_from};
@@ -21,8 +19,7 @@ pub struct NodeRows<'a> {
 }
 
 impl<'a> Model for NodeRows<'a> {
-    ghost use Rattle.std.specs.Prelude.{List, IfSome};
-    ghost use Rattle.std.specs.List.Sorted.{IsPermutation};
+    ghost use Rattle.std.{specs.Prelude.{List, IfSome}, specs.List.Sorted.{IsPermutation}};
     ghost use Rattle.plan_values.specs.declared.nodes.Row.{Row};
     ghost use Rattle.net_rules.specs.Spans.{IsJoined};
 

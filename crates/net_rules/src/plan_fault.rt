@@ -1,8 +1,6 @@
 //! The search for the first fault of a plan alone, whatever the certificate.
 ghost use Rattle.std.specs.Prelude.{◌≡◌, ◌<◌, length, IfOk};
-ghost use Rattle.net_rules.specs.Rules.{PlanDemands};
-ghost use Rattle.net_rules.specs.Search.{IsFirstSpot};
-ghost use Rattle.net_rules.specs.PlanFaults.{IsFirstOfPlanRule};
+ghost use Rattle.net_rules.{specs.Rules.{PlanDemands}, specs.Search.{IsFirstSpot}, specs.PlanFaults.{IsFirstOfPlanRule}};
 
 use crate::fault::Fault;
 use crate::plan_index::PlanIndex;

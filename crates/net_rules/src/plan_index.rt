@@ -1,10 +1,7 @@
 //! A plan with what is looked up often.
-ghost use Rattle.std.specs.Prelude.{◌≡◌, ◌↔◌, ℕ, IfOk, IsTrue};
-ghost use Rattle.std.specs.List.Sorted.{IsPermutation};
+ghost use Rattle.std.{specs.Prelude.{◌≡◌, ◌↔◌, ℕ, IfOk, IsTrue}, specs.List.Sorted.{IsPermutation}};
 ghost use Rattle.net_tables.specs.Routing.{HasRow, rows_of};
-ghost use Rattle.net_rules.specs.RowsByNode.{AreRowsByNode};
-ghost use Rattle.net_rules.specs.Stretches.{IsStretch};
-ghost use Rattle.net_rules.specs.Spans.{IsInSpan, PairsApart};
+ghost use Rattle.net_rules.{specs.RowsByNode.{AreRowsByNode}, specs.Stretches.{IsStretch}, specs.Spans.{IsInSpan, PairsApart}};
 
 use crate::holders::Holders;
 use crate::node_rows::NodeRows;

@@ -1,9 +1,7 @@
 //! The rows that nodes go by: those of one plan, or of two while they move from one to the other.
 ghost use Rattle.std.specs.Prelude.{◌↔◌, ℕ, IsTrue};
-ghost use Rattle.net_rules.specs.PlanTables.{plans_value};
+ghost use Rattle.net_rules.{specs.PlanTables.{plans_value}, specs.Stretches.{IsStretch}, specs.Spans.{IsInSpan}};
 ghost use Rattle.net_tables.specs.TwoPlans.{HasRowAlways, HasRowEver};
-ghost use Rattle.net_rules.specs.Stretches.{IsStretch};
-ghost use Rattle.net_rules.specs.Spans.{IsInSpan};
 
 use crate::plan_index::PlanIndex;
 use crate::span::Span;

@@ -1,9 +1,7 @@
 //! What rows cover, as spans of endpoint IDs that ascend.
 ghost use Rattle.std.specs.Prelude.{◌↔◌, ◌≤◌, ℕ, IfOk, OnOk, IsTrue};
 ghost use Rattle.net_tables.specs.Routing.{OfItem};
-ghost use Rattle.net_rules.specs.Following.{EndedBy};
-ghost use Rattle.net_rules.specs.Stretches.{IsStretch};
-ghost use Rattle.net_rules.specs.Spans.{IsInSpan, IsInSpans, SpansFollow, IsKept, IsAdded, AreJoined};
+ghost use Rattle.net_rules.{specs.Following.{EndedBy}, specs.Stretches.{IsStretch}, specs.Spans.{IsInSpan, IsInSpans, SpansFollow, IsKept, IsAdded, AreJoined}};
 
 use crate::span::Span;
 use mctp_transport::Eid;

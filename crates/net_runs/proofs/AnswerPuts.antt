@@ -1,21 +1,10 @@
 -- What a step puts in: the packet of a put, or packets of a terminus's answer to its oldest message.
-use Rattle.std.proofs.Common.{◌≡◌, ◌⊎◌, ℕ, ◌+◌, ◌≤◌, List, [], ◌∷◌, length, Some, None, refl, sym, ◌∙◌, ap, subst, inl, inr, arith}
-use Rattle.std.specs.List.{AllByRecursion}
-use Rattle.std.proofs.lemmas.Bool.Decides.{eqb_tells}
-use Rattle.std.proofs.lemmas.Option.{same_Some}
-use Rattle.mctp_transport.specs.PacketValues.{PacketValue, Spelled}
-use Rattle.mctp_transport.specs.Sending.{IsPacketOf}
-use Rattle.mctp_transport.proofs.InOrder.{all_from}
+use Rattle.std.{proofs.Common.{◌≡◌, ◌⊎◌, ℕ, ◌+◌, ◌≤◌, List, [], ◌∷◌, length, Some, None, refl, sym, ◌∙◌, ap, subst, inl, inr, arith}, specs.List.{AllByRecursion}, proofs.lemmas.Bool.Decides.{eqb_tells}, proofs.lemmas.Option.{same_Some}}
+use Rattle.mctp_transport.{specs.PacketValues.{PacketValue, Spelled}, specs.Sending.{IsPacketOf}, proofs.InOrder.{all_from}}
 use Rattle.plan_values.specs.declared.plan.Plan.{Plan}
-use Rattle.net_tables.specs.TwoPlans.{Tables}
+use Rattle.net_tables.{specs.TwoPlans.{Tables}, specs.Routing.{Holds}}
 use Rattle.pdr_repository.specs.Answers.{Answers}
-use Rattle.net_tables.specs.Routing.{Holds}
-use Rattle.net_runs.specs.Termini.{TerminusState, WaitingMessage}
-use Rattle.net_runs.specs.States.{NetworkState, Flight, with_packet, with_packets, with_terminus, unit_of}
-use Rattle.net_runs.specs.Events.{EventValue, Put, AnswerAt, OutcomeValue, PutIn, Answered}
-use Rattle.net_runs.specs.Networks.{Step, answer_key}
-use Rattle.net_runs.specs.Runs.{IsPutOf}
-use Rattle.net_runs.proofs.Nexts.{new_flight, older_stays}
+use Rattle.net_runs.{specs.Termini.{TerminusState, WaitingMessage}, specs.States.{NetworkState, Flight, with_packet, with_packets, with_terminus, unit_of}, specs.Events.{EventValue, Put, AnswerAt, OutcomeValue, PutIn, Answered}, specs.Networks.{Step, answer_key}, specs.Runs.{IsPutOf}, proofs.Nexts.{new_flight, older_stays}}
 
 -- the flights that are made for packets hold these packets
 pub made_hold : (P : PacketValue → Type 0) (w : NetworkState) (node : ℕ) (ps : List PacketValue) (k : ℕ) (f : Flight) → AllByRecursion P ps

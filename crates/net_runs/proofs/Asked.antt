@@ -1,33 +1,10 @@
 -- A request that comes at a terminus is answered.
-use Rattle.std.proofs.Common.{◌≡◌, ℕ, ◌+◌, ◌<◌, ◌≤◌, true, List, [], ◌∷◌, length, Option, Some, None, sym, refl, ap, ◌∙◌, subst, inl, inr, arith}
-use Rattle.std.specs.Prelude.{All}
-use Rattle.std.proofs.lemmas.Bool.Decides.{eqb_tells}
-use Rattle.std.proofs.lemmas.Option.{none-some}
-use Rattle.mctp_transport.specs.PacketValues.{PacketValue, KeyValue}
-use Rattle.mctp_transport.specs.Cutting.{ArePacketsOf}
-use Rattle.mctp_transport.specs.Histories.{Arrived, after, Comes}
-use Rattle.mctp_transport.specs.Hearing.{Whole}
-use Rattle.mctp_transport.proofs.PacketLists.{packets_join}
-use Rattle.mctp_transport.proofs.InOrder.{comes_in_order}
-use Rattle.mctp_transport.proofs.Sending.{few_packets, many_packets}
-use Rattle.plan_values.specs.declared.plan.Plan.{Plan}
-use Rattle.plan_values.specs.declared.certificate.Certificate.{Certificate}
-use Rattle.plan_values.specs.declared.terminus.PlannedTerminus.{PlannedTerminus}
-use Rattle.pdr_repository.specs.Answers.{IsAsked, Answers}
-use Rattle.net_tables.specs.Routing.{Holds}
-use Rattle.net_tables.specs.Repositories.{terminus_of, records_by_place}
-use Rattle.net_runs.specs.Termini.{TerminusState, WaitingMessage, AreBytes, with_waiting}
-use Rattle.net_runs.specs.States.{NetworkState, at_start, with_terminus, with_packets, with_input, without_flight, with_packet, with_received, unit_of, slots, limit}
-use Rattle.net_tables.specs.TwoPlans.{one_plan}
-use Rattle.net_runs.specs.Events.{AnswerAt, Refusal, N01, N02, N03, N04, N05, N06, N07, Answered, IsRefused, most_flights}
-use Rattle.net_runs.specs.Networks.{Step, answer_key}
-use Rattle.net_runs.specs.Runs.{Turn}
-use Rattle.net_runs.specs.ExactMessages.{Epoch, FitsKey}
-use Rattle.net_runs.specs.Requests.{IsAnsweredRun, RequestsCanBeAnswered}
-use Rattle.pdr_repository.proofs.SomeAnswers.{SomeAnswer, some_answering}
-use Rattle.net_runs.proofs.Sends.{HasHeard, IsSendable, put_turn, moved_turn, puts, moves, has_heard}
-use Rattle.net_runs.proofs.Sent.{message_packets, packets_some, sendable}
-use Rattle.net_runs.proofs.Steps.{some_packets}
+use Rattle.std.{proofs.Common.{◌≡◌, ℕ, ◌+◌, ◌<◌, ◌≤◌, true, List, [], ◌∷◌, length, Option, Some, None, sym, refl, ap, ◌∙◌, subst, inl, inr, arith}, specs.Prelude.{All}, proofs.lemmas.Bool.Decides.{eqb_tells}, proofs.lemmas.Option.{none-some}}
+use Rattle.mctp_transport.{specs.PacketValues.{PacketValue, KeyValue}, specs.Cutting.{ArePacketsOf}, specs.Histories.{Arrived, after, Comes}, specs.Hearing.{Whole}, proofs.PacketLists.{packets_join}, proofs.InOrder.{comes_in_order}, proofs.Sending.{few_packets, many_packets}}
+use Rattle.plan_values.{specs.declared.plan.Plan.{Plan}, specs.declared.certificate.Certificate.{Certificate}, specs.declared.terminus.PlannedTerminus.{PlannedTerminus}}
+use Rattle.pdr_repository.{specs.Answers.{IsAsked, Answers}, proofs.SomeAnswers.{SomeAnswer, some_answering}}
+use Rattle.net_tables.{specs.Routing.{Holds}, specs.Repositories.{terminus_of, records_by_place}, specs.TwoPlans.{one_plan}}
+use Rattle.net_runs.{specs.Termini.{TerminusState, WaitingMessage, AreBytes, with_waiting}, specs.States.{NetworkState, at_start, with_terminus, with_packets, with_input, without_flight, with_packet, with_received, unit_of, slots, limit}, specs.Events.{AnswerAt, Refusal, N01, N02, N03, N04, N05, N06, N07, Answered, IsRefused, most_flights}, specs.Networks.{Step, answer_key}, specs.Runs.{Turn}, specs.ExactMessages.{Epoch, FitsKey}, specs.Requests.{IsAnsweredRun, RequestsCanBeAnswered}, proofs.Sends.{HasHeard, IsSendable, put_turn, moved_turn, puts, moves, has_heard}, proofs.Sent.{message_packets, packets_some, sendable}, proofs.Steps.{some_packets}}
 
 -- a request has an answer, which isn't empty
 some_answer : (tid : ℕ) (records : List _) (request : List ℕ) (answer : Option (List ℕ)) (tid_after : ℕ) → IsAsked request → Answers tid records request answer tid_after

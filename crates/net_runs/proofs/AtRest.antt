@@ -1,20 +1,9 @@
 -- A network at rest: nothing is on its way, no key is open, and nothing waits.
-use Rattle.std.proofs.Common.{◌≡◌, ◌≢◌, ◌⊎◌, ℕ, zero, suc, ◌+◌, ◌<◌, ◌≤◌, List, [], ◌∷◌, length, slice_get, Option, Some, None, refl, sym, ap, ◌∙◌, subst, inl, inr, arith}
-use Rattle.std.specs.Prelude.{All}
-use Rattle.std.proofs.lemmas.List.Elements.{All-nil}
-use Rattle.std.proofs.lemmas.Bool.Decides.{eqb_tells}
-use Rattle.std.proofs.lemmas.Option.{none-some, same_Some}
+use Rattle.std.{proofs.Common.{◌≡◌, ◌≢◌, ◌⊎◌, ℕ, zero, suc, ◌+◌, ◌<◌, ◌≤◌, List, [], ◌∷◌, length, slice_get, Option, Some, None, refl, sym, ap, ◌∙◌, subst, inl, inr, arith}, specs.Prelude.{All}, proofs.lemmas.List.Elements.{All-nil}, proofs.lemmas.Bool.Decides.{eqb_tells}, proofs.lemmas.Option.{none-some, same_Some}}
 use Rattle.mctp_transport.specs.PacketValues.{PacketValue, KeyValue}
-use Rattle.plan_values.specs.declared.plan.Plan.{Plan}
-use Rattle.plan_values.specs.declared.certificate.Certificate.{Certificate}
-use Rattle.plan_values.specs.declared.terminus.PlannedTerminus.{PlannedTerminus}
+use Rattle.plan_values.{specs.declared.plan.Plan.{Plan}, specs.declared.certificate.Certificate.{Certificate}, specs.declared.terminus.PlannedTerminus.{PlannedTerminus}}
 use Rattle.net_tables.specs.Repositories.{terminus_of, records_by_place}
-use Rattle.net_runs.specs.Termini.{TerminusState, WaitingMessage}
-use Rattle.net_runs.specs.States.{NetworkState, at_start, with_packet, with_packets}
-use Rattle.net_runs.specs.ExactMessages.{IsSettled}
-use Rattle.net_runs.proofs.FirstAsks.{at_rest}
-use Rattle.net_runs.proofs.Nexts.{new_flight, older_stays}
-use Rattle.net_runs.proofs.Ordered.{IsClosed}
+use Rattle.net_runs.{specs.Termini.{TerminusState, WaitingMessage}, specs.States.{NetworkState, at_start, with_packet, with_packets}, specs.ExactMessages.{IsSettled}, proofs.FirstAsks.{at_rest}, proofs.Nexts.{new_flight, older_stays}, proofs.Ordered.{IsClosed}}
 
 pub record IsAtRest (plan : Plan) (cert : Certificate) (n : ℕ) (w : NetworkState) : Type 0 where
   pub none : (k : ℕ) → w.flight k ≡ None

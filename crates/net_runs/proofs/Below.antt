@@ -1,25 +1,9 @@
 -- Below each run with walkers there is a run of the network, turn by turn.
-use Rattle.std.proofs.Common.{◌≡◌, ◌≢◌, ◌⊎◌, ℕ, ◌+◌, zero, suc, Bool, true, false, not, ◌&&◌, List, [], ◌∷◌, ◌++◌, length, if◌then◌else◌, Option, Some, None, refl, sym, ap, ◌∙◌, subst, inl, inr}
-use Rattle.std.specs.Prelude.{slice_get}
-use Rattle.std.specs.List.{AllByRecursion}
-use Rattle.std.proofs.lemmas.Bool.Decides.{eqb_tells}
-use Rattle.std.proofs.lemmas.Option.{same_Some, none-some}
-use Rattle.mctp_transport.specs.PacketValues.{PacketValue, KeyValue, Spelled}
-use Rattle.mctp_transport.specs.PacketValueLaws.{one_packet_value}
-use Rattle.mctp_transport.specs.Hearing.{Answer}
-use Rattle.net_tables.specs.Routing.{Holds}
-use Rattle.net_runs.specs.States.{NetworkState, Flight, with_packet, unit_of}
-use Rattle.net_tables.specs.TwoPlans.{Tables}
-use Rattle.net_runs.specs.Events.{EventValue, Put, OutcomeValue, PutIn, Entered, Lost, Brings}
+use Rattle.std.{proofs.Common.{◌≡◌, ◌≢◌, ◌⊎◌, ℕ, ◌+◌, zero, suc, Bool, true, false, not, ◌&&◌, List, [], ◌∷◌, ◌++◌, length, if◌then◌else◌, Option, Some, None, refl, sym, ap, ◌∙◌, subst, inl, inr}, specs.Prelude.{slice_get}, specs.List.{AllByRecursion}, proofs.lemmas.Bool.Decides.{eqb_tells}, proofs.lemmas.Option.{same_Some, none-some}}
+use Rattle.mctp_transport.{specs.PacketValues.{PacketValue, KeyValue, Spelled}, specs.PacketValueLaws.{one_packet_value}, specs.Hearing.{Answer}}
+use Rattle.net_tables.{specs.Routing.{Holds}, specs.TwoPlans.{Tables}}
+use Rattle.net_runs.{specs.States.{NetworkState, Flight, with_packet, unit_of}, specs.Events.{EventValue, Put, OutcomeValue, PutIn, Entered, Lost, Brings}, specs.Runs.{Turn, RunFrom, after_all, IsPutOf, WasPutIn}, specs.Deliveries.{names_itself, is_refusal, moves_of}, specs.Walkers.{WalkedState, WalkedEvent, Happening, BeginWalk, Ask, TellWalk, WalkedOutcome, Happened, Begun, Asked, ToldWalk, WalkRefused, WalkRefusal, Handed}, specs.WalkedRuns.{WalkedHappens, WalkedStep, WalkedTurn, WalkedRunFrom, walked_after}, specs.WalkedMessages.{IsPutOfWalked}, specs.Below.{IsOfWalkersAlone, IsAlikeBelow, AreBelow, HasRunBelow, RunsBelow}, specs.WalkedPromises.{WasPutInWalked, moves_itself, walked_moves_of, HasEnteredWalked}, proofs.Nexts.{new_flight}}
 use Rattle.net_runs.specs.Networks as network
-use Rattle.net_runs.specs.Runs.{Turn, RunFrom, after_all, IsPutOf, WasPutIn}
-use Rattle.net_runs.specs.Deliveries.{names_itself, is_refusal, moves_of}
-use Rattle.net_runs.specs.Walkers.{WalkedState, WalkedEvent, Happening, BeginWalk, Ask, TellWalk, WalkedOutcome, Happened, Begun, Asked, ToldWalk, WalkRefused, WalkRefusal, Handed}
-use Rattle.net_runs.specs.WalkedRuns.{WalkedHappens, WalkedStep, WalkedTurn, WalkedRunFrom, walked_after}
-use Rattle.net_runs.specs.WalkedMessages.{IsPutOfWalked}
-use Rattle.net_runs.specs.Below.{IsOfWalkersAlone, IsAlikeBelow, AreBelow, HasRunBelow, RunsBelow}
-use Rattle.net_runs.specs.WalkedPromises.{WasPutInWalked, moves_itself, walked_moves_of, HasEnteredWalked}
-use Rattle.net_runs.proofs.Nexts.{new_flight}
 
 -- ---- turns
 

@@ -1,26 +1,9 @@
 -- The packets of an answer are moved one after another until they have come: the answer comes with the last of them.
-use Rattle.std.proofs.Common.{◌≡◌, ◌≢◌, ◌⊎◌, ℕ, suc, ◌+◌, ◌<◌, ◌≤◌, false, List, [], ◌∷◌, ◌++◌, length, Option, Some, None, refl, sym, ap, ◌∙◌, subst, inl, inr, arith}
-use Rattle.std.specs.List.{AllByRecursion}
-use Rattle.std.proofs.lemmas.Bool.{cases_order}
-use Rattle.std.proofs.lemmas.List.{append_assoc}
-use Rattle.mctp_transport.specs.PacketValues.{PacketValue, KeyValue, key_of}
-use Rattle.mctp_transport.specs.Messages.{Joined}
-use Rattle.mctp_transport.specs.Histories.{History}
-use Rattle.mctp_transport.specs.Hearing.{Answer, Whole, Held, Hears}
+use Rattle.std.{proofs.Common.{◌≡◌, ◌≢◌, ◌⊎◌, ℕ, suc, ◌+◌, ◌<◌, ◌≤◌, false, List, [], ◌∷◌, ◌++◌, length, Option, Some, None, refl, sym, ap, ◌∙◌, subst, inl, inr, arith}, specs.List.{AllByRecursion}, proofs.lemmas.Bool.{cases_order}, proofs.lemmas.List.{append_assoc}}
+use Rattle.mctp_transport.{specs.PacketValues.{PacketValue, KeyValue, key_of}, specs.Messages.{Joined}, specs.Histories.{History}, specs.Hearing.{Answer, Whole, Held, Hears}}
 use Rattle.plan_values.specs.declared.certificate.Certificate.{Certificate}
-use Rattle.net_tables.specs.Routing.{Holds}
-use Rattle.net_runs.specs.States.{NetworkState, with_received, slots, limit}
-use Rattle.net_tables.specs.TwoPlans.{Tables, HasRowAlways}
-use Rattle.net_runs.specs.Events.{Move, Entered}
-use Rattle.net_runs.specs.Networks.{Step}
-use Rattle.net_runs.specs.Walkers.{WalkerValue}
-use Rattle.net_runs.proofs.AtRest.{AreUnderWay}
-use Rattle.net_runs.proofs.Delivered.{IsOnRoute}
-use Rattle.net_tables.specs.Lawful.{IsLawful}
-use Rattle.net_runs.proofs.Nexts.{new_flight}
-use Rattle.net_runs.proofs.Ordered.{IsClosed, Awaits, held, comes_last}
-use Rattle.net_runs.proofs.Reaching.{Reaches, reaches_on, network_turn}
-use Rattle.net_runs.proofs.Travels.{Now, HasEnteredThere, enters_there}
+use Rattle.net_tables.{specs.Routing.{Holds}, specs.TwoPlans.{Tables, HasRowAlways}, specs.Lawful.{IsLawful}}
+use Rattle.net_runs.{specs.States.{NetworkState, with_received, slots, limit}, specs.Events.{Move, Entered}, specs.Networks.{Step}, specs.Walkers.{WalkerValue}, proofs.AtRest.{AreUnderWay}, proofs.Delivered.{IsOnRoute}, proofs.Nexts.{new_flight}, proofs.Ordered.{IsClosed, Awaits, held, comes_last}, proofs.Reaching.{Reaches, reaches_on, network_turn}, proofs.Travels.{Now, HasEnteredThere, enters_there}}
 
 module _ (tables : Tables) (cert : Certificate) (lawful : IsLawful tables cert) (walkers : ℕ → Option WalkerValue) (begun : ℕ) where
   -- a packet has a way from where it is put in

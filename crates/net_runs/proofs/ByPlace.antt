@@ -1,23 +1,10 @@
 -- Records in their order by place: each stands at its place, once, and is followed by the one that it names.
-use Rattle.std.proofs.Common.{◌≡◌, ◌≢◌, ◌⊎◌, ℕ, zero, suc, ◌+◌, ◌<◌, ◌≤◌, true, false, nat_eq, eqb, List, [], ◌∷◌, length, take, slice_get, get_or, position, Option, Some, None, sym, refl, ap, ◌∙◌, subst, inl, inr, arith}
-use Rattle.std.specs.Prelude.{option_map, AllPairs}
-use Rattle.std.specs.List.{AllByRecursion, IsDistinct, list_any, filter_map, range_with_len}
-use Rattle.std.proofs.lemmas.Bool.{cases_lt, cases_order, true≢false, eqb-true, eq-eqb}
-use Rattle.std.proofs.lemmas.Bool.Decides.{eqb_tells}
-use Rattle.std.proofs.lemmas.Option.{same_Some, none-some, slice_get_within, slice_get_past, slice_get-map, slice_get_cases, get_or_from_slice_get}
-use Rattle.std.proofs.lemmas.List.{length-take-le, length-map}
-use Rattle.std.proofs.lemmas.List.Quantifiers.{position-Some}
-use Rattle.std.proofs.lemmas.Map.Steps.{length-le_from_distinct_below}
+use Rattle.std.{proofs.Common.{◌≡◌, ◌≢◌, ◌⊎◌, ℕ, zero, suc, ◌+◌, ◌<◌, ◌≤◌, true, false, nat_eq, eqb, List, [], ◌∷◌, length, take, slice_get, get_or, position, Option, Some, None, sym, refl, ap, ◌∙◌, subst, inl, inr, arith}, specs.Prelude.{option_map, AllPairs}, specs.List.{AllByRecursion, IsDistinct, list_any, filter_map, range_with_len}, proofs.lemmas.Bool.{cases_lt, cases_order, true≢false, eqb-true, eq-eqb}, proofs.lemmas.Bool.Decides.{eqb_tells}, proofs.lemmas.Option.{same_Some, none-some, slice_get_within, slice_get_past, slice_get-map, slice_get_cases, get_or_from_slice_get}, proofs.lemmas.List.{length-take-le, length-map}, proofs.lemmas.List.Quantifiers.{position-Some}, proofs.lemmas.Map.Steps.{length-le_from_distinct_below}}
 use Rattle.mctp_transport.proofs.Slots.{position-none, position-some}
-use Rattle.plan_values.specs.declared.plan.Plan.{Plan}
-use Rattle.plan_values.specs.declared.certificate.Certificate.{Certificate}
-use Rattle.plan_values.specs.declared.terminus.PlannedRecord.{PlannedRecord}
-use Rattle.pdr_repository.specs.Records.{Entry, IsRecordOf, IsLawful, Means, handle_at, handle_of, handle_in}
-use Rattle.pdr_repository.specs.Walks.{Exchange, Collects, NamesTheNext}
-use Rattle.pdr_repository.proofs.Walks.{every_walk_collects}
-use Rattle.net_tables.specs.Repositories.{records_of, places_of, entry_of, record_at, by_place, records_by_place, HaveOrder, RecordsHaveOrder}
+use Rattle.plan_values.{specs.declared.plan.Plan.{Plan}, specs.declared.certificate.Certificate.{Certificate}, specs.declared.terminus.PlannedRecord.{PlannedRecord}}
+use Rattle.pdr_repository.{specs.Records.{Entry, IsRecordOf, IsLawful, Means, handle_at, handle_of, handle_in}, specs.Walks.{Exchange, Collects, NamesTheNext}, proofs.Walks.{every_walk_collects}}
+use Rattle.net_tables.{specs.Repositories.{records_of, places_of, entry_of, record_at, by_place, records_by_place, HaveOrder, RecordsHaveOrder}, proofs.RowSearches.{is_or_not}}
 use Rattle.net_runs.specs.Headline.{NamesPlannedNext, WalksCollectEach}
-use Rattle.net_tables.proofs.RowSearches.{is_or_not}
 
 -- no two places of a list have one number
 abbrev AreApart : List ℕ → Type 0

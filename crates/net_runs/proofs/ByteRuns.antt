@@ -1,34 +1,11 @@
 -- Along a run in which bytes are put in, what the termini hold is bytes: so the run can go on.
-use Rattle.std.proofs.Common.{◌≡◌, ℕ, ◌+◌, ◌<◌, Bool, true, false, cond, List, [], ◌∷◌, ◌++◌, Option, Some, None, refl, sym, ◌∙◌, subst, inl, inr, arith}
-use Rattle.std.specs.Prelude.{All, option_map}
-use Rattle.std.specs.List.{AllByRecursion}
-use Rattle.std.proofs.lemmas.Option.{same_Some}
-use Rattle.std.proofs.lemmas.List.Elements.{All-head, All-tail, All-from_recursion, recursion_from_All}
-use Rattle.mctp_transport.specs.PacketValues.{PacketValue, KeyValue, key_of}
-use Rattle.mctp_transport.specs.Messages.{payloads_of}
-use Rattle.mctp_transport.specs.Cutting.{ArePacketsOf}
-use Rattle.mctp_transport.specs.Histories.{Input, Arrived, TimeUp, History, EachArrival}
-use Rattle.mctp_transport.specs.Hearing.{Answer, Whole, Held, Dropped, Hears}
-use Rattle.mctp_transport.proofs.Arrivals.{EachArrival-append, EachArrival-last_of}
-use Rattle.mctp_transport.proofs.Collecting.{comes_from_such}
-use Rattle.mctp_transport.proofs.PacketLists.{joined_payloads}
+use Rattle.std.{proofs.Common.{◌≡◌, ℕ, ◌+◌, ◌<◌, Bool, true, false, cond, List, [], ◌∷◌, ◌++◌, Option, Some, None, refl, sym, ◌∙◌, subst, inl, inr, arith}, specs.Prelude.{All, option_map}, specs.List.{AllByRecursion}, proofs.lemmas.Option.{same_Some}, proofs.lemmas.List.Elements.{All-head, All-tail, All-from_recursion, recursion_from_All}}
+use Rattle.mctp_transport.{specs.PacketValues.{PacketValue, KeyValue, key_of}, specs.Messages.{payloads_of}, specs.Cutting.{ArePacketsOf}, specs.Histories.{Input, Arrived, TimeUp, History, EachArrival}, specs.Hearing.{Answer, Whole, Held, Dropped, Hears}, proofs.Arrivals.{EachArrival-append, EachArrival-last_of}, proofs.Collecting.{comes_from_such}, proofs.PacketLists.{joined_payloads}}
 use Rattle.mctp_routing.specs.declared.decision.Decision.TheVariants.{Here, Drop, Forward}
-use Rattle.plan_values.specs.declared.certificate.Certificate.{Certificate}
-use Rattle.plan_values.specs.declared.terminus.PlannedTerminus.{PlannedTerminus}
-use Rattle.net_tables.specs.Repositories.{terminus_of, records_by_place}
-use Rattle.net_runs.specs.Termini.{TerminusState, WaitingMessage, AreBytes, HoldsBytes, with_waiting}
-use Rattle.net_runs.specs.States.{NetworkState, Flight, at_start, without_flight, with_made, with_input, with_terminus, with_packet, with_packets, with_received, with_switched, unit_of, slots, limit}
-use Rattle.net_tables.specs.TwoPlans.{Tables}
-use Rattle.net_runs.specs.Events.{EventValue, Put, Move, Lose, Expire, AnswerAt, Switch, OutcomeValue, PutIn, Moved, Entered, Stopped, Lost, Expired, Answered, Silent, Switched, Refused}
-use Rattle.net_runs.specs.Networks.{Step, Happens, Moves, answer_key}
-use Rattle.pdr_repository.specs.Answers.{Answers}
-use Rattle.net_runs.specs.Runs.{Turn, RunFrom, after_all, reached}
-use Rattle.net_runs.specs.ByteRuns.{RecordsAreBytes, RunsGoOn}
-use Rattle.net_runs.proofs.Nexts.{IsNext, MayBeGiven, SameFlights, itself_is_within, without_is_within, made_is_within, within_is_next, input_is_next, moves_is_next, none_is_put, one_is_put, all_are_put, put_is_next}
-use Rattle.net_runs.proofs.Records.{with_terminus_keeps, mapped, packets_termini}
-use Rattle.pdr_repository.proofs.SomeAnswers.{EachByte, each_byte, records_of_bytes}
-use Rattle.pdr_repository.proofs.AnswerBytes.{bytes_append, answer_is_bytes}
-use Rattle.net_runs.proofs.Steps.{some_step}
+use Rattle.plan_values.{specs.declared.certificate.Certificate.{Certificate}, specs.declared.terminus.PlannedTerminus.{PlannedTerminus}}
+use Rattle.net_tables.{specs.Repositories.{terminus_of, records_by_place}, specs.TwoPlans.{Tables}}
+use Rattle.net_runs.{specs.Termini.{TerminusState, WaitingMessage, AreBytes, HoldsBytes, with_waiting}, specs.States.{NetworkState, Flight, at_start, without_flight, with_made, with_input, with_terminus, with_packet, with_packets, with_received, with_switched, unit_of, slots, limit}, specs.Events.{EventValue, Put, Move, Lose, Expire, AnswerAt, Switch, OutcomeValue, PutIn, Moved, Entered, Stopped, Lost, Expired, Answered, Silent, Switched, Refused}, specs.Networks.{Step, Happens, Moves, answer_key}, specs.Runs.{Turn, RunFrom, after_all, reached}, specs.ByteRuns.{RecordsAreBytes, RunsGoOn}, proofs.Nexts.{IsNext, MayBeGiven, SameFlights, itself_is_within, without_is_within, made_is_within, within_is_next, input_is_next, moves_is_next, none_is_put, one_is_put, all_are_put, put_is_next}, proofs.Records.{with_terminus_keeps, mapped, packets_termini}, proofs.Steps.{some_step}}
+use Rattle.pdr_repository.{specs.Answers.{Answers}, proofs.SomeAnswers.{EachByte, each_byte, records_of_bytes}, proofs.AnswerBytes.{bytes_append, answer_is_bytes}}
 
 pub are_bytes : (bytes : List ℕ) → EachByte bytes → AreBytes bytes
 are_bytes bytes all = All-from_recursion (λ b. b < 256) bytes all

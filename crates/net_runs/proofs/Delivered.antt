@@ -1,30 +1,10 @@
 -- A flight whose destination is held moves on until it enters, within its certified hops.
-use Rattle.std.proofs.Common.{◌≡◌, ◌≢◌, ◌⊎◌, ℕ, suc, ◌+◌, ◌≤◌, Bool, true, false, not, List, [], ◌∷◌, ◌++◌, length, Some, None, sym, refl, ◌∙◌, subst, inl, inr, arith}
-use Rattle.std.specs.List.{AllByRecursion}
-use Rattle.std.proofs.lemmas.List.Elements.{recursion_from_All}
-use Rattle.std.proofs.lemmas.Option.{same_Some, none-some}
+use Rattle.std.{proofs.Common.{◌≡◌, ◌≢◌, ◌⊎◌, ℕ, suc, ◌+◌, ◌≤◌, Bool, true, false, not, List, [], ◌∷◌, ◌++◌, length, Some, None, sym, refl, ◌∙◌, subst, inl, inr, arith}, specs.List.{AllByRecursion}, proofs.lemmas.List.Elements.{recursion_from_All}, proofs.lemmas.Option.{same_Some, none-some}}
 use Rattle.mctp_transport.specs.PacketValues.{PacketValue}
 use Rattle.plan_values.specs.declared.certificate.Certificate.{Certificate}
-use Rattle.net_tables.specs.Routing.{Holds, IsBridge}
-use Rattle.net_tables.proofs.TableLaws.{routed, named}
-use Rattle.net_tables.specs.Ranks.{rank}
-use Rattle.mctp_routing.specs.declared.row.Hop.{Hop}
-use Rattle.mctp_routing.specs.declared.decision.ForwardFault.{ForwardFault}
-use Rattle.mctp_routing.specs.declared.decision.ForwardFault.TheVariants.{Unassignable, NoBridge, NoRow}
-use Rattle.mctp_routing.specs.declared.decision.Decision.TheVariants.{Here, Drop, Forward}
-use Rattle.net_runs.specs.States.{NetworkState, Flight, at_start, destination, without_flight, with_made, rows_now}
-use Rattle.net_tables.specs.TwoPlans.{Tables, HasRowAlways}
-use Rattle.net_runs.specs.Events.{EventValue, Move, OutcomeValue, Stopped, Lost}
-use Rattle.net_runs.specs.Networks.{Step, Moves, IsDecided}
-use Rattle.net_runs.specs.Runs.{Turn, RunOf, RunFrom, after_all, reached, PutsIn}
-use Rattle.net_runs.specs.Deliveries.{IsDeliverable, moves_of, IsNotLost, HasEntered, IsOnItsWay, DeliversBy}
-use Rattle.net_runs.proofs.Nexts.{HasMoved, IsNew, step_is_next}
-use Rattle.net_tables.specs.Lawful.{IsLawful}
-use Rattle.net_runs.proofs.RowsNow.{row_now}
-use Rattle.net_runs.proofs.Kept.{Kept, at_start_keeps, next_keeps}
-use Rattle.net_runs.proofs.Fates.{counts, moved_to, step_fate}
-use Rattle.net_runs.proofs.Promised.{run_parts}
-use Rattle.net_runs.proofs.Below.{after_joins}
+use Rattle.net_tables.{specs.Routing.{Holds, IsBridge}, proofs.TableLaws.{routed, named}, specs.Ranks.{rank}, specs.TwoPlans.{Tables, HasRowAlways}, specs.Lawful.{IsLawful}}
+use Rattle.mctp_routing.{specs.declared.row.Hop.{Hop}, specs.declared.decision.ForwardFault.{ForwardFault}, specs.declared.decision.ForwardFault.TheVariants.{Unassignable, NoBridge, NoRow}, specs.declared.decision.Decision.TheVariants.{Here, Drop, Forward}}
+use Rattle.net_runs.{specs.States.{NetworkState, Flight, at_start, destination, without_flight, with_made, rows_now}, specs.Events.{EventValue, Move, OutcomeValue, Stopped, Lost}, specs.Networks.{Step, Moves, IsDecided}, specs.Runs.{Turn, RunOf, RunFrom, after_all, reached, PutsIn}, specs.Deliveries.{IsDeliverable, moves_of, IsNotLost, HasEntered, IsOnItsWay, DeliversBy}, proofs.Nexts.{HasMoved, IsNew, step_is_next}, proofs.RowsNow.{row_now}, proofs.Kept.{Kept, at_start_keeps, next_keeps}, proofs.Fates.{counts, moved_to, step_fate}, proofs.Promised.{run_parts}, proofs.Below.{after_joins}}
 
 -- the flight is where its destination is held, or where it is forwarded along a row
 abbrev pub IsOnRoute : Tables → Flight → Type 0

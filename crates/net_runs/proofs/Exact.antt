@@ -1,20 +1,9 @@
 -- In a tidy rest of a run each message that comes is the one that was sent.
-use Rattle.std.proofs.Common.{◌≡◌, ◌⊎◌, ℕ, ◌*◌, ◌≤◌, List, [], ◌∷◌, length, Some, sym, ◌∙◌, subst, inl, inr}
-use Rattle.std.specs.List.{AllByRecursion}
-use Rattle.std.proofs.lemmas.Option.{same_Some}
-use Rattle.std.proofs.lemmas.List.Elements.{All-from_recursion}
-use Rattle.mctp_transport.specs.PacketValues.{PacketValue, KeyValue, key_of}
-use Rattle.mctp_transport.specs.Histories.{Input, Arrived, TimeUp, History, EachArrival, key_of_input, last_of, IsOpen}
-use Rattle.mctp_transport.proofs.Collecting.{collected_more, comes_from_such}
-use Rattle.mctp_transport.proofs.Sending.{joins_to_itself}
-use Rattle.net_tables.specs.Routing.{Holds}
-use Rattle.net_runs.specs.States.{NetworkState, Flight, destination, slots, limit}
+use Rattle.std.{proofs.Common.{◌≡◌, ◌⊎◌, ℕ, ◌*◌, ◌≤◌, List, [], ◌∷◌, length, Some, sym, ◌∙◌, subst, inl, inr}, specs.List.{AllByRecursion}, proofs.lemmas.Option.{same_Some}, proofs.lemmas.List.Elements.{All-from_recursion}}
+use Rattle.mctp_transport.{specs.PacketValues.{PacketValue, KeyValue, key_of}, specs.Histories.{Input, Arrived, TimeUp, History, EachArrival, key_of_input, last_of, IsOpen}, proofs.Collecting.{collected_more, comes_from_such}, proofs.Sending.{joins_to_itself}}
+use Rattle.net_tables.{specs.Routing.{Holds}, specs.TwoPlans.{Tables, one_plan}}
+use Rattle.net_runs.{specs.States.{NetworkState, Flight, destination, slots, limit}, specs.Runs.{RunFrom, PutsIn}, specs.ExactMessages.{IsQuiet, Epoch, IsOfEpoch, TurnOfEpoch, IsTidyFrom, turns_of, TellsAsSent, RunsAsSentBy, RunsAsSent}, proofs.Nexts.{IsThere, HasMoved, IsNew, IsNext, MayBeGiven, step_is_next}, proofs.Promised.{TellsMessage, step_tells}}
 use Rattle.plan_values.specs.declared.plan.Plan.{Plan}
-use Rattle.net_tables.specs.TwoPlans.{Tables, one_plan}
-use Rattle.net_runs.specs.Runs.{RunFrom, PutsIn}
-use Rattle.net_runs.specs.ExactMessages.{IsQuiet, Epoch, IsOfEpoch, TurnOfEpoch, IsTidyFrom, turns_of, TellsAsSent, RunsAsSentBy, RunsAsSent}
-use Rattle.net_runs.proofs.Nexts.{IsThere, HasMoved, IsNew, IsNext, MayBeGiven, step_is_next}
-use Rattle.net_runs.proofs.Promised.{TellsMessage, step_tells}
 
 module _ (unit : ℕ) (tables : Tables) (key : KeyValue) (d : ℕ) where
   -- What is kept within an epoch: each flight of the key to d is of the epoch, and so is each packet that is collected

@@ -1,45 +1,13 @@
 -- One exchange, from a network at rest to a network at rest: the walker asks, its request and the answer are moved
 -- until they have come, and it takes the answer.
-use Rattle.std.proofs.Common.{◌≡◌, ◌≢◌, ℕ, ◌+◌, ◌<◌, ◌≤◌, not, ◌&&◌, nat_eq, true, false, List, [], ◌∷◌, ◌++◌, length, Option, Some, None, Ok, Err, refl, sym, ap, ◌∙◌, inl, inr, arith}
-use Rattle.std.specs.Prelude.{All, sum_by}
-use Rattle.std.proofs.lemmas.Bool.{cases_order}
-use Rattle.std.proofs.lemmas.List.{length_push}
-use Rattle.std.proofs.lemmas.Option.{same_Some}
-use Rattle.mctp_transport.specs.Hearing.{Whole}
-use Rattle.mctp_transport.proofs.InOrder.{all_from}
-use Rattle.mctp_transport.proofs.PacketLists.{packets_join}
-use Rattle.mctp_transport.proofs.Sending.{few_packets}
-use Rattle.pldm_message.specs.InstanceIds.{IdSet, Gives, TakesBack}
-use Rattle.pldm_message.specs.Pdrs.{PartRequest, get_pdr_request_bytes}
-use Rattle.pdr_repository.specs.Records.{Entry, IsLawful}
-use Rattle.pdr_repository.specs.Walks.{Exchange, Walk}
-use Rattle.pdr_repository.specs.declared.walk_fault.Step.{Step as WalkStep}
-use Rattle.pdr_repository.specs.Walkers.{WalkState, HasTakenIn, asked_under, IsDueAnswer}
-use Rattle.pdr_repository.proofs.Walks.{stands}
+use Rattle.std.{proofs.Common.{◌≡◌, ◌≢◌, ℕ, ◌+◌, ◌<◌, ◌≤◌, not, ◌&&◌, nat_eq, true, false, List, [], ◌∷◌, ◌++◌, length, Option, Some, None, Ok, Err, refl, sym, ap, ◌∙◌, inl, inr, arith}, specs.Prelude.{All, sum_by}, proofs.lemmas.Bool.{cases_order}, proofs.lemmas.List.{length_push}, proofs.lemmas.Option.{same_Some}}
+use Rattle.mctp_transport.{specs.Hearing.{Whole}, proofs.InOrder.{all_from}, proofs.PacketLists.{packets_join}, proofs.Sending.{few_packets}}
+use Rattle.pldm_message.{specs.InstanceIds.{IdSet, Gives, TakesBack}, specs.Pdrs.{PartRequest, get_pdr_request_bytes}}
+use Rattle.pdr_repository.{specs.Records.{Entry, IsLawful}, specs.Walks.{Exchange, Walk}, specs.declared.walk_fault.Step.{Step as WalkStep}, specs.Walkers.{WalkState, HasTakenIn, asked_under, IsDueAnswer}, proofs.Walks.{stands}, proofs.Takings.{MayMake, HasTaken, may_make}}
 use Rattle.plan_values.specs.declared.certificate.Certificate.{Certificate}
-use Rattle.net_runs.proofs.Units.{least_unit, five_fit, part_fits}
-use Rattle.net_tables.specs.Routing.{Holds}
-use Rattle.net_tables.specs.Repositories.{records_by_place}
-use Rattle.net_runs.specs.Termini.{TerminusState, AreBytes, with_waiting}
-use Rattle.net_runs.specs.States.{NetworkState, with_packet, unit_of}
-use Rattle.net_tables.specs.TwoPlans.{Tables}
-use Rattle.net_runs.specs.Events.{Move, Entered, N01, N02, N03, N04, N05, N06, N07, most_flights}
-use Rattle.net_runs.specs.NetworkWalks.{IsSameWalker}
-use Rattle.net_runs.specs.PlayedWalks.{HasWay}
-use Rattle.net_runs.specs.Walkers.{WalkerValue, WalkedState, Ask, Asked, Happening, Happened, WalkRefusal, Also, N08, N09, N10, N11, N12, N13, IsOver, IsWalkRefused, with_walker, asking_key, answering_key, AreSettled, five_packets}
-use Rattle.net_runs.specs.WalkedGoing.{IsLawfulWalker}
-use Rattle.net_runs.proofs.AtRest.{IsAtRest, rest_is_settled, packet_there, packet_others}
-use Rattle.net_runs.proofs.Bringing.{Brings, IsOfMessage, all_brought}
-use Rattle.net_runs.proofs.FirstAsks.{never_refused}
-use Rattle.net_runs.proofs.Fitting.{TakesOn, takes_on}
+use Rattle.net_runs.{proofs.Units.{least_unit, five_fit, part_fits}, specs.Termini.{TerminusState, AreBytes, with_waiting}, specs.States.{NetworkState, with_packet, unit_of}, specs.Events.{Move, Entered, N01, N02, N03, N04, N05, N06, N07, most_flights}, specs.NetworkWalks.{IsSameWalker}, specs.PlayedWalks.{HasWay}, specs.Walkers.{WalkerValue, WalkedState, Ask, Asked, Happening, Happened, WalkRefusal, Also, N08, N09, N10, N11, N12, N13, IsOver, IsWalkRefused, with_walker, asking_key, answering_key, AreSettled, five_packets}, specs.WalkedGoing.{IsLawfulWalker}, proofs.AtRest.{IsAtRest, rest_is_settled, packet_there, packet_others}, proofs.Bringing.{Brings, IsOfMessage, all_brought}, proofs.FirstAsks.{never_refused}, proofs.Fitting.{TakesOn, takes_on}, proofs.Reaching.{Reaches, reaches_on, one_turn}, proofs.Sent.{packets_some}, proofs.Replying.{HasAsked, comes_there, HasReplied, replies}, proofs.Travels.{Now}, proofs.WalkedGoings.{IsKept, kept_is_lawful, handed_is_kept, asking_is_kept}, proofs.WalkedSteps.{asked_walker, AsksUnder, asks_under, some_gives}}
+use Rattle.net_tables.{specs.Routing.{Holds}, specs.Repositories.{records_by_place}, specs.TwoPlans.{Tables}}
 use Rattle.net_tables.specs.Lawful as ways
-use Rattle.net_runs.proofs.Reaching.{Reaches, reaches_on, one_turn}
-use Rattle.net_runs.proofs.Sent.{packets_some}
-use Rattle.net_runs.proofs.Replying.{HasAsked, comes_there, HasReplied, replies}
-use Rattle.pdr_repository.proofs.Takings.{MayMake, HasTaken, may_make}
-use Rattle.net_runs.proofs.Travels.{Now}
-use Rattle.net_runs.proofs.WalkedGoings.{IsKept, kept_is_lawful, handed_is_kept, asking_is_kept}
-use Rattle.net_runs.proofs.WalkedSteps.{asked_walker, AsksUnder, asks_under, some_gives}
 
 -- a step leaves the walker with the walk's limits, and waiting for nothing
 taken_state : (old : WalkState) (step : WalkStep) (new : WalkState) → MayMake old (Ok step) new → HasTaken old (Ok step) new

@@ -1,19 +1,9 @@
 -- What a step does to one flight.
-use Rattle.std.proofs.Common.{◌≡◌, ◌≢◌, ◌⊎◌, ℕ, ◌+◌, ◌≤◌, Bool, true, false, not, ◌&&◌, cond, eqb, Option, Some, None, sym, refl, ap, ◌∙◌, subst, inl, inr, arith}
-use Rattle.std.proofs.lemmas.Bool.Decides.{eqb_tells}
-use Rattle.mctp_transport.specs.PacketValues.{KeyValue}
-use Rattle.mctp_transport.specs.Histories.{Arrived}
-use Rattle.mctp_transport.specs.Hearing.{Answer}
-use Rattle.net_tables.specs.Routing.{Holds}
-use Rattle.mctp_routing.specs.declared.row.Hop.{Hop}
-use Rattle.mctp_routing.specs.declared.decision.ForwardFault.{ForwardFault}
-use Rattle.mctp_routing.specs.declared.decision.Decision.TheVariants.{Here, Drop, Forward}
-use Rattle.net_runs.specs.States.{NetworkState, Flight, destination, without_flight, with_made, with_input, with_terminus, rows_now}
-use Rattle.net_tables.specs.TwoPlans.{Tables}
-use Rattle.net_runs.specs.Events.{EventValue, Put, Move, Lose, Expire, AnswerAt, Switch, OutcomeValue, PutIn, Moved, Entered, Stopped, Lost, Expired, Answered, Silent, Switched, Refused}
-use Rattle.net_runs.specs.Networks.{Step, Happens, Moves, IsDecided}
-use Rattle.net_runs.specs.Deliveries.{names_itself, is_refusal}
-use Rattle.net_runs.proofs.Nexts.{received_same, older_stays}
+use Rattle.std.{proofs.Common.{◌≡◌, ◌≢◌, ◌⊎◌, ℕ, ◌+◌, ◌≤◌, Bool, true, false, not, ◌&&◌, cond, eqb, Option, Some, None, sym, refl, ap, ◌∙◌, subst, inl, inr, arith}, proofs.lemmas.Bool.Decides.{eqb_tells}}
+use Rattle.mctp_transport.{specs.PacketValues.{KeyValue}, specs.Histories.{Arrived}, specs.Hearing.{Answer}}
+use Rattle.net_tables.{specs.Routing.{Holds}, specs.TwoPlans.{Tables}}
+use Rattle.mctp_routing.{specs.declared.row.Hop.{Hop}, specs.declared.decision.ForwardFault.{ForwardFault}, specs.declared.decision.Decision.TheVariants.{Here, Drop, Forward}}
+use Rattle.net_runs.{specs.States.{NetworkState, Flight, destination, without_flight, with_made, with_input, with_terminus, rows_now}, specs.Events.{EventValue, Put, Move, Lose, Expire, AnswerAt, Switch, OutcomeValue, PutIn, Moved, Entered, Stopped, Lost, Expired, Answered, Silent, Switched, Refused}, specs.Networks.{Step, Happens, Moves, IsDecided}, specs.Deliveries.{names_itself, is_refusal}, proofs.Nexts.{received_same, older_stays}}
 
 -- the step moves the flight itself
 abbrev pub counts : ℕ → EventValue → OutcomeValue → Bool

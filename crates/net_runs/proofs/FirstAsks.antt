@@ -1,31 +1,11 @@
 -- A walk can begin, and its first request can be put in.
-use Rattle.std.proofs.Common.{◌≡◌, ◌≢◌, ◌⊎◌, ℕ, ◌<◌, ◌≤◌, length, Bool, true, false, List, [], ◌∷◌, Option, Some, None, refl, sym, ap, ◌∙◌, subst, inl, inr, arith}
-use Rattle.std.specs.Prelude.{All, option_map, ◌==◌, ◌||◌, if◌then◌else◌}
-use Rattle.std.proofs.lemmas.Option.{same_Some}
-use Rattle.std.proofs.lemmas.List.Elements.{All-nil}
-use Rattle.mctp_transport.specs.PacketValues.{PacketValue, KeyValue, IsPacketValue, packet_value_bytes}
-use Rattle.mctp_transport.specs.Cutting.{ArePacketsOf}
-use Rattle.mctp_transport.proofs.Sending.{few_packets, many_packets}
-use Rattle.pldm_message.specs.InstanceIds.{IdSet}
-use Rattle.pldm_message.specs.Pdrs.{get_pdr_request_bytes}
-use Rattle.pdr_repository.specs.Walks.{first_part}
-use Rattle.pdr_repository.specs.Walkers.{WalkState, asked_under}
-use Rattle.plan_values.specs.declared.plan.Plan.{Plan}
-use Rattle.net_runs.proofs.Units.{least_unit, part_fits}
-use Rattle.net_tables.specs.TwoPlans.{Tables, moving}
-use Rattle.plan_values.specs.declared.certificate.Certificate.{Certificate}
-use Rattle.plan_values.specs.declared.terminus.PlannedTerminus.{PlannedTerminus}
-use Rattle.net_tables.specs.Routing.{Holds}
-use Rattle.net_tables.specs.Repositories.{terminus_of, records_by_place}
-use Rattle.net_runs.specs.Termini.{TerminusState, WaitingMessage}
-use Rattle.net_runs.specs.States.{NetworkState, at_start, with_packet, unit_of}
-use Rattle.net_runs.specs.Events.{EventValue, Put, Switch, Switched, Refusal, N01, N02, N03, N04, N05, N06, N07, IsRefused}
-use Rattle.net_runs.specs.ExactMessages.{IsSettled}
-use Rattle.net_runs.specs.Walkers.{WalkerValue, WalkedState, Happening, Happened, BeginWalk, Ask, Begun, Asked, WalkRefusal, Also, N08, N09, N10, N11, N12, N13, walked_at_start, fresh_walker, no_ids, five_packets, with_walker, asking_key, answering_key, IsWalkRefused, AreSettled}
-use Rattle.net_runs.specs.WalkedRuns.{IsAsking, WalkedTurn, WalkedStep}
-use Rattle.net_runs.specs.NetworkWalks.{CanAsk, CanSwitchAndAsk}
-use Rattle.net_runs.proofs.Sends.{start_is_quiet}
-use Rattle.net_runs.proofs.Sent.{message_packets, sendable}
+use Rattle.std.{proofs.Common.{◌≡◌, ◌≢◌, ◌⊎◌, ℕ, ◌<◌, ◌≤◌, length, Bool, true, false, List, [], ◌∷◌, Option, Some, None, refl, sym, ap, ◌∙◌, subst, inl, inr, arith}, specs.Prelude.{All, option_map, ◌==◌, ◌||◌, if◌then◌else◌}, proofs.lemmas.Option.{same_Some}, proofs.lemmas.List.Elements.{All-nil}}
+use Rattle.mctp_transport.{specs.PacketValues.{PacketValue, KeyValue, IsPacketValue, packet_value_bytes}, specs.Cutting.{ArePacketsOf}, proofs.Sending.{few_packets, many_packets}}
+use Rattle.pldm_message.{specs.InstanceIds.{IdSet}, specs.Pdrs.{get_pdr_request_bytes}}
+use Rattle.pdr_repository.{specs.Walks.{first_part}, specs.Walkers.{WalkState, asked_under}}
+use Rattle.plan_values.{specs.declared.plan.Plan.{Plan}, specs.declared.certificate.Certificate.{Certificate}, specs.declared.terminus.PlannedTerminus.{PlannedTerminus}}
+use Rattle.net_runs.{proofs.Units.{least_unit, part_fits}, specs.Termini.{TerminusState, WaitingMessage}, specs.States.{NetworkState, at_start, with_packet, unit_of}, specs.Events.{EventValue, Put, Switch, Switched, Refusal, N01, N02, N03, N04, N05, N06, N07, IsRefused}, specs.ExactMessages.{IsSettled}, specs.Walkers.{WalkerValue, WalkedState, Happening, Happened, BeginWalk, Ask, Begun, Asked, WalkRefusal, Also, N08, N09, N10, N11, N12, N13, walked_at_start, fresh_walker, no_ids, five_packets, with_walker, asking_key, answering_key, IsWalkRefused, AreSettled}, specs.WalkedRuns.{IsAsking, WalkedTurn, WalkedStep}, specs.NetworkWalks.{CanAsk, CanSwitchAndAsk}, proofs.Sends.{start_is_quiet}, proofs.Sent.{message_packets, sendable}}
+use Rattle.net_tables.{specs.TwoPlans.{Tables, moving}, specs.Routing.{Holds}, specs.Repositories.{terminus_of, records_by_place}}
 
 -- at the start a terminus waits for nothing, and is there where one is planned
 pub at_rest : (plan : Plan) (cert : Certificate) (n : ℕ) (t : TerminusState) (o : Option PlannedTerminus)

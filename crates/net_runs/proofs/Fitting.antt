@@ -1,29 +1,7 @@
 -- A walker whose limits suffice takes the answer to its request.
-use Rattle.std.proofs.Common.{◌≡◌, ◌≢◌, ℕ, zero, suc, ◌+◌, ◌-◌, ◌≤◌, min, List, [], ◌∷◌, ◌++◌, length, take, drop, slice_get, Some, None, Result, Ok, Err, refl, sym, ap, ◌∙◌, subst, inl, inr, arith}
-use Rattle.std.specs.Prelude.{sum_by}
-use Rattle.std.specs.Int.{div_ceil}
-use Rattle.std.proofs.lemmas.Bool.{cases_lt}
-use Rattle.std.proofs.lemmas.Grind.{div_ceil_times}
-use Rattle.std.proofs.lemmas.Nat.{mul-le}
-use Rattle.std.proofs.lemmas.List.{length-map, length-take, length-drop}
-use Rattle.std.proofs.lemmas.List.Sums.{sum_by-append}
-use Rattle.std.proofs.lemmas.Option.{same_Some, slice_get_within, none-some}
-use Rattle.pldm_message.specs.Messages.{ResponseMessage}
-use Rattle.pldm_message.specs.Pdrs.{PartRequest, Part}
-use Rattle.pldm_message.specs.PdrLaws.{one_get_pdr_answer}
-use Rattle.pdr_repository.specs.Records.{Entry, bytes_by_place}
-use Rattle.pdr_repository.specs.Parts.{PartAnswer, offset_of}
-use Rattle.pdr_repository.specs.Walks.{Exchange, exchanges}
-use Rattle.pdr_repository.specs.Faults.{Room, IsTooMuch, Judges}
-use Rattle.pdr_repository.specs.declared.walk_fault.Step.{Step as WalkStep}
-use Rattle.pdr_repository.specs.declared.walk_fault.WalkFault.{WalkFault}
-use Rattle.pdr_repository.specs.declared.walk_fault.WalkFault.TheVariants.{FailedBefore, NotAsked, Unreadable, RecordChanged, OtherCode, WrongFlag, WrongSize, WrongCrc, WrongHandle, DoubledHandle, TooMuch, OutOfMemory}
-use Rattle.pdr_repository.specs.Walkers.{WalkState, IsAnswerIn, Takes, TakesOutcome, room_of, IsDueAnswer, WalksOn}
-use Rattle.pdr_repository.proofs.Collecting.{collects_once}
-use Rattle.pdr_repository.proofs.Dues.{at_offset}
-use Rattle.pdr_repository.proofs.Following.{goes_on}
-use Rattle.pdr_repository.proofs.Walks.{Within, stands, one_step}
-use Rattle.pdr_repository.proofs.SomeTakings.{takes_something}
+use Rattle.std.{proofs.Common.{◌≡◌, ◌≢◌, ℕ, zero, suc, ◌+◌, ◌-◌, ◌≤◌, min, List, [], ◌∷◌, ◌++◌, length, take, drop, slice_get, Some, None, Result, Ok, Err, refl, sym, ap, ◌∙◌, subst, inl, inr, arith}, specs.Prelude.{sum_by}, specs.Int.{div_ceil}, proofs.lemmas.Bool.{cases_lt}, proofs.lemmas.Grind.{div_ceil_times}, proofs.lemmas.Nat.{mul-le}, proofs.lemmas.List.{length-map, length-take, length-drop}, proofs.lemmas.List.Sums.{sum_by-append}, proofs.lemmas.Option.{same_Some, slice_get_within, none-some}}
+use Rattle.pldm_message.{specs.Messages.{ResponseMessage}, specs.Pdrs.{PartRequest, Part}, specs.PdrLaws.{one_get_pdr_answer}}
+use Rattle.pdr_repository.{specs.Records.{Entry, bytes_by_place}, specs.Parts.{PartAnswer, offset_of}, specs.Walks.{Exchange, exchanges}, specs.Faults.{Room, IsTooMuch, Judges}, specs.declared.walk_fault.Step.{Step as WalkStep}, specs.declared.walk_fault.WalkFault.{WalkFault}, specs.declared.walk_fault.WalkFault.TheVariants.{FailedBefore, NotAsked, Unreadable, RecordChanged, OtherCode, WrongFlag, WrongSize, WrongCrc, WrongHandle, DoubledHandle, TooMuch, OutOfMemory}, specs.Walkers.{WalkState, IsAnswerIn, Takes, TakesOutcome, room_of, IsDueAnswer, WalksOn}, proofs.Collecting.{collects_once}, proofs.Dues.{at_offset}, proofs.Following.{goes_on}, proofs.Walks.{Within, stands, one_step}, proofs.SomeTakings.{takes_something}}
 
 -- ---- sums over the records
 

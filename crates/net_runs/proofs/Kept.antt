@@ -1,18 +1,9 @@
 -- Along a run each flight stays within its hops, and each packet that arrives is for the node and was put in.
 use Rattle.std.proofs.Common.{◌≡◌, ℕ, ◌+◌, ◌≤◌, List, [], ◌∷◌, Some, sym, subst, inl, inr, arith}
-use Rattle.mctp_transport.specs.PacketValues.{PacketValue}
-use Rattle.mctp_transport.specs.Histories.{Input, Arrived, TimeUp, History, EachArrival}
-use Rattle.mctp_transport.proofs.Arrivals.{EachArrival-append}
+use Rattle.mctp_transport.{specs.PacketValues.{PacketValue}, specs.Histories.{Input, Arrived, TimeUp, History, EachArrival}, proofs.Arrivals.{EachArrival-append}}
 use Rattle.plan_values.specs.declared.certificate.Certificate.{Certificate}
-use Rattle.net_tables.specs.Routing.{Holds}
-use Rattle.net_tables.proofs.TableLaws.{named}
-use Rattle.net_tables.specs.Ranks.{rank}
-use Rattle.net_runs.specs.States.{NetworkState, Flight, at_start, destination, rows_now}
-use Rattle.net_tables.specs.TwoPlans.{Tables}
-use Rattle.net_runs.specs.Runs.{Turn, RunFrom, after_all, PutsIn, WasPutIn}
-use Rattle.net_tables.specs.Lawful.{IsLawful}
-use Rattle.net_runs.proofs.Nexts.{HasMoved, IsNew, IsNext, MayBeGiven, step_is_next}
-use Rattle.net_runs.specs.WalkedGoing.{HasNumberedFlights}
+use Rattle.net_tables.{specs.Routing.{Holds}, proofs.TableLaws.{named}, specs.Ranks.{rank}, specs.TwoPlans.{Tables}, specs.Lawful.{IsLawful}}
+use Rattle.net_runs.{specs.States.{NetworkState, Flight, at_start, destination, rows_now}, specs.Runs.{Turn, RunFrom, after_all, PutsIn, WasPutIn}, proofs.Nexts.{HasMoved, IsNew, IsNext, MayBeGiven, step_is_next}, specs.WalkedGoing.{HasNumberedFlights}}
 
 abbrev pub IsWithinHops : Certificate → Flight → Type 0
 IsWithinHops cert f = f.hops + rank cert f.node (destination f) ≤ rank cert f.origin (destination f)

@@ -1,29 +1,11 @@
 -- A walker puts its request in, or another walker does.
-use Rattle.std.proofs.Common.{◌≡◌, ◌≢◌, ◌⊎◌, ℕ, ◌+◌, ◌*◌, ◌≤◌, true, false, List, [], ◌∷◌, Some, None, refl, sym, ap, ◌∙◌, subst, inl, inr}
-use Rattle.std.specs.List.{AllByRecursion}
-use Rattle.std.proofs.lemmas.List.Elements.{recursion_from_All}
-use Rattle.std.proofs.lemmas.Option.{same_Some}
-use Rattle.mctp_transport.specs.PacketValues.{PacketValue, KeyValue, key_of, Spelled}
-use Rattle.mctp_transport.specs.PacketValueLaws.{one_packet_value}
-use Rattle.mctp_transport.specs.Sending.{IsPacketOf}
-use Rattle.pldm_message.specs.Pdrs.{PartRequest, IsPartRequest, get_pdr_request_bytes}
-use Rattle.pldm_message.specs.InstanceIds.{Gives}
-use Rattle.pdr_repository.specs.Records.{IsLawful}
-use Rattle.pdr_repository.specs.Walkers.{WalkState, Asks, asked_under}
-use Rattle.net_tables.specs.TwoPlans.{Tables}
+use Rattle.std.{proofs.Common.{◌≡◌, ◌≢◌, ◌⊎◌, ℕ, ◌+◌, ◌*◌, ◌≤◌, true, false, List, [], ◌∷◌, Some, None, refl, sym, ap, ◌∙◌, subst, inl, inr}, specs.List.{AllByRecursion}, proofs.lemmas.List.Elements.{recursion_from_All}, proofs.lemmas.Option.{same_Some}}
+use Rattle.mctp_transport.{specs.PacketValues.{PacketValue, KeyValue, key_of, Spelled}, specs.PacketValueLaws.{one_packet_value}, specs.Sending.{IsPacketOf}}
+use Rattle.pldm_message.{specs.Pdrs.{PartRequest, IsPartRequest, get_pdr_request_bytes}, specs.InstanceIds.{Gives}}
+use Rattle.pdr_repository.{specs.Records.{IsLawful}, specs.Walkers.{WalkState, Asks, asked_under}}
+use Rattle.net_tables.{specs.TwoPlans.{Tables}, specs.Routing.{Holds}, specs.Repositories.{records_by_place}}
 use Rattle.plan_values.specs.declared.certificate.Certificate.{Certificate}
-use Rattle.net_tables.specs.Routing.{Holds}
-use Rattle.net_tables.specs.Repositories.{records_by_place}
-use Rattle.net_runs.specs.Termini.{WaitingMessage}
-use Rattle.net_runs.specs.States.{NetworkState, unit_of}
-use Rattle.net_runs.specs.Events.{EventValue, Put, PutIn, OutcomeValue}
-use Rattle.net_runs.specs.ExactMessages.{IsSettled}
-use Rattle.net_runs.specs.Walkers.{WalkerValue, AreSettled, asking_key, answering_key}
-use Rattle.net_runs.specs.WalkedRuns.{IsAsking}
-use Rattle.net_runs.proofs.Such.{quiet_are_such}
-use Rattle.net_runs.proofs.UnderWay.{IsPlain, IsUnderWay, PutsOnlyThis, IsOfRequest, IsOfReply, still_under_way}
-use Rattle.net_runs.proofs.Soundness.{IsAlike}
-use Rattle.net_runs.proofs.Walking.{Walks, Phase}
+use Rattle.net_runs.{specs.Termini.{WaitingMessage}, specs.States.{NetworkState, unit_of}, specs.Events.{EventValue, Put, PutIn, OutcomeValue}, specs.ExactMessages.{IsSettled}, specs.Walkers.{WalkerValue, AreSettled, asking_key, answering_key}, specs.WalkedRuns.{IsAsking}, proofs.Such.{quiet_are_such}, proofs.UnderWay.{IsPlain, IsUnderWay, PutsOnlyThis, IsOfRequest, IsOfReply, still_under_way}, proofs.Soundness.{IsAlike}, proofs.Walking.{Walks, Phase}}
 
 -- two puts of the same bytes put one packet in
 same_put : (node at : ℕ) (xs ys : List ℕ) → ◌≡◌ {A = EventValue} (Put node xs) (Put at ys) → xs ≡ ys

@@ -1,21 +1,9 @@
 -- What each step does to the flights and to what the nodes are given, whatever the event.
-use Rattle.std.proofs.Common.{◌≡◌, ◌⊎◌, ℕ, ◌+◌, ◌≤◌, Bool, true, false, cond, eqb, List, [], ◌∷◌, length, Option, Some, None, sym, refl, ap, ◌∙◌, subst, inl, inr, arith}
-use Rattle.std.specs.Prelude.{option_map}
-use Rattle.std.specs.List.{AllByRecursion}
-use Rattle.std.proofs.lemmas.Bool.Decides.{eqb_tells}
-use Rattle.mctp_transport.specs.PacketValues.{PacketValue, KeyValue}
-use Rattle.mctp_transport.specs.Histories.{Input, Arrived, TimeUp, after}
-use Rattle.mctp_transport.specs.Hearing.{Answer, Whole, Held, Dropped}
-use Rattle.net_tables.specs.Routing.{Holds}
-use Rattle.mctp_routing.specs.declared.row.Hop.{Hop}
-use Rattle.mctp_routing.specs.declared.decision.Decision.TheVariants.{Here, Drop, Forward}
-use Rattle.net_runs.specs.Termini.{WaitingMessage, with_waiting}
-use Rattle.net_runs.specs.States.{NetworkState, Flight, with_flight, without_flight, with_made, with_input, with_terminus, with_packet, with_packets, with_received, with_switched, rows_now}
-use Rattle.net_tables.specs.TwoPlans.{Tables, rows_by}
-use Rattle.net_runs.specs.Events.{EventValue, Put, Move, Lose, Expire, AnswerAt, Switch, OutcomeValue, PutIn, Moved, Entered, Stopped, Lost, Expired, Answered, Silent, Switched, Refused}
-use Rattle.net_runs.specs.Networks.{Step, Happens, Moves, IsDecided}
-use Rattle.net_runs.specs.Runs.{IsPutOf, IsAmongFlights}
-use Rattle.net_runs.specs.WalkedGoing.{HasNumberedFlights}
+use Rattle.std.{proofs.Common.{◌≡◌, ◌⊎◌, ℕ, ◌+◌, ◌≤◌, Bool, true, false, cond, eqb, List, [], ◌∷◌, length, Option, Some, None, sym, refl, ap, ◌∙◌, subst, inl, inr, arith}, specs.Prelude.{option_map}, specs.List.{AllByRecursion}, proofs.lemmas.Bool.Decides.{eqb_tells}}
+use Rattle.mctp_transport.{specs.PacketValues.{PacketValue, KeyValue}, specs.Histories.{Input, Arrived, TimeUp, after}, specs.Hearing.{Answer, Whole, Held, Dropped}}
+use Rattle.net_tables.{specs.Routing.{Holds}, specs.TwoPlans.{Tables, rows_by}}
+use Rattle.mctp_routing.{specs.declared.row.Hop.{Hop}, specs.declared.decision.Decision.TheVariants.{Here, Drop, Forward}}
+use Rattle.net_runs.{specs.Termini.{WaitingMessage, with_waiting}, specs.States.{NetworkState, Flight, with_flight, without_flight, with_made, with_input, with_terminus, with_packet, with_packets, with_received, with_switched, rows_now}, specs.Events.{EventValue, Put, Move, Lose, Expire, AnswerAt, Switch, OutcomeValue, PutIn, Moved, Entered, Stopped, Lost, Expired, Answered, Silent, Switched, Refused}, specs.Networks.{Step, Happens, Moves, IsDecided}, specs.Runs.{IsPutOf, IsAmongFlights}, specs.WalkedGoing.{HasNumberedFlights}}
 
 abbrev pub IsThere : NetworkState → Flight → Type 0
 IsThere w f = (number : ℕ) × (w.flight number ≡ Some f)

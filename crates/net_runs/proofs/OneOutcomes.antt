@@ -1,38 +1,12 @@
 -- An event has one outcome, and leaves one next state.
-use Rattle.std.proofs.Common.{◌≡◌, ◌⊎◌, ℕ, zero, suc, ◌+◌, Bool, true, false, List, ◌∷◌, length, Option, Some, None, refl, sym, ap, ◌∙◌, subst, inl, inr, ◌↔◌}
-use Rattle.std.specs.Prelude.{IfSome}
-use Rattle.std.proofs.lemmas.Bool.{cases_order}
-use Rattle.std.proofs.lemmas.Option.{same_Some}
-use Rattle.mctp_transport.specs.PacketValues.{PacketValue, KeyValue}
-use Rattle.mctp_transport.specs.PacketValueLaws.{one_packet_value}
-use Rattle.mctp_transport.specs.Cutting.{ArePacketsOf}
-use Rattle.mctp_transport.specs.Histories.{Arrived}
-use Rattle.mctp_transport.proofs.PacketLists.{same_packets}
-use Rattle.mctp_transport.proofs.Verdicts.{hears_one}
-use Rattle.mctp_routing.specs.declared.row.Hop.{Hop}
-use Rattle.mctp_routing.specs.declared.decision.ForwardFault.TheVariants.{Unassignable, NoBridge, NoRow}
-use Rattle.mctp_routing.specs.declared.decision.Decision.{Decision}
-use Rattle.mctp_routing.specs.declared.decision.Decision.TheVariants.{Here, Drop, Forward}
-use Rattle.mctp_routing.specs.Decisions.{Decides}
-use Rattle.plan_values.specs.declared.plan.Plan.{Plan}
-use Rattle.plan_values.specs.declared.certificate.Certificate.{Certificate}
-use Rattle.pdr_repository.specs.Records as lawful
+use Rattle.std.{proofs.Common.{◌≡◌, ◌⊎◌, ℕ, zero, suc, ◌+◌, Bool, true, false, List, ◌∷◌, length, Option, Some, None, refl, sym, ap, ◌∙◌, subst, inl, inr, ◌↔◌}, specs.Prelude.{IfSome}, proofs.lemmas.Bool.{cases_order}, proofs.lemmas.Option.{same_Some}}
+use Rattle.mctp_transport.{specs.PacketValues.{PacketValue, KeyValue}, specs.PacketValueLaws.{one_packet_value}, specs.Cutting.{ArePacketsOf}, specs.Histories.{Arrived}, proofs.PacketLists.{same_packets}, proofs.Verdicts.{hears_one}}
+use Rattle.mctp_routing.{specs.declared.row.Hop.{Hop}, specs.declared.decision.ForwardFault.TheVariants.{Unassignable, NoBridge, NoRow}, specs.declared.decision.Decision.{Decision}, specs.declared.decision.Decision.TheVariants.{Here, Drop, Forward}, specs.Decisions.{Decides}}
+use Rattle.plan_values.{specs.declared.plan.Plan.{Plan}, specs.declared.certificate.Certificate.{Certificate}}
 use Rattle.pdr_repository.specs.Answers.{Answers}
-use Rattle.net_tables.specs.Routing.{NamesFor}
-use Rattle.net_tables.specs.Rows.{RowsAreApart}
-use Rattle.net_tables.specs.Repositories.{records_of, places_of, RecordsHaveOrder}
-use Rattle.net_runs.specs.Termini.{TerminusState, WaitingMessage}
-use Rattle.net_runs.specs.States.{NetworkState, Flight, with_flight, without_flight, with_made, with_input, with_terminus, with_packet, with_packets, with_received, destination, rows_now, unit_of, slots, limit}
-use Rattle.net_tables.specs.TwoPlans.{Tables, rows_by}
-use Rattle.net_runs.specs.Events.{EventValue, Put, Move, Lose, Expire, AnswerAt, Switch, OutcomeValue, PutIn, Moved, Entered, Stopped, Lost, Expired, Answered, Silent, Switched, Refused, Refusal, N01, N02, N03, N04, N05, N06, N07, refusal_number, IsRefused, IsFirstRefusal}
-use Rattle.net_runs.specs.Networks.{Step, Happens, Moves, IsDone, IsAnswered, answer_key}
-use Rattle.net_runs.specs.Runs.{Turn, RunOf, reached}
-use Rattle.net_runs.specs.OneOutcome.{HaveRowsApart, HoldsLawfulLists, HasOneOutcome, RunsHaveOneOutcome}
-use Rattle.net_runs.proofs.ByPlace.{is_lawful}
-use Rattle.net_tables.proofs.TableLaws.{same_next, named}
-use Rattle.net_runs.proofs.OneReply.{one_answering}
-use Rattle.net_runs.proofs.Records.{keeps_records}
-use Rattle.net_runs.proofs.TerminiThere.{termini_are_there}
+use Rattle.net_tables.{specs.Routing.{NamesFor}, specs.Rows.{RowsAreApart}, specs.Repositories.{records_of, places_of, RecordsHaveOrder}, specs.TwoPlans.{Tables, rows_by}, proofs.TableLaws.{same_next, named}}
+use Rattle.net_runs.{specs.Termini.{TerminusState, WaitingMessage}, specs.States.{NetworkState, Flight, with_flight, without_flight, with_made, with_input, with_terminus, with_packet, with_packets, with_received, destination, rows_now, unit_of, slots, limit}, specs.Events.{EventValue, Put, Move, Lose, Expire, AnswerAt, Switch, OutcomeValue, PutIn, Moved, Entered, Stopped, Lost, Expired, Answered, Silent, Switched, Refused, Refusal, N01, N02, N03, N04, N05, N06, N07, refusal_number, IsRefused, IsFirstRefusal}, specs.Networks.{Step, Happens, Moves, IsDone, IsAnswered, answer_key}, specs.Runs.{Turn, RunOf, reached}, specs.OneOutcome.{HaveRowsApart, HoldsLawfulLists, HasOneOutcome, RunsHaveOneOutcome}, proofs.ByPlace.{is_lawful}, proofs.OneReply.{one_answering}, proofs.Records.{keeps_records}, proofs.TerminiThere.{termini_are_there}}
+use Rattle.pdr_repository.specs.Records as lawful
 
 -- ---- refusals
 

@@ -1,18 +1,7 @@
 -- A terminus has one answer to a message.
 use Rattle.std.proofs.Common.{◌≡◌, ◌≢◌, ◌⊎◌, ℕ, false, List, ◌++◌, length, drop, Option, Some, refl, sym, ap, ◌∙◌, subst, inl, inr, arith}
-use Rattle.pldm_message.specs.declared.command.Command.{Command}
-use Rattle.pldm_message.specs.declared.command.Command.TheVariants.{SetTid, GetTid, GetPldmTypes, GetPdr}
-use Rattle.pldm_message.specs.declared.kind.MessageKind.TheVariants.{Request}
-use Rattle.pldm_message.specs.Headers.{HeaderValue, header_bytes}
-use Rattle.pldm_message.specs.HeaderLaws.{one_header}
-use Rattle.pldm_message.specs.Messages.{RequestMessage, outcome_bytes}
-use Rattle.pldm_message.specs.Pdrs.{PartRequest, IsPartRequest, part_request_bytes, part_bytes, get_pdr_request_bytes}
-use Rattle.pldm_message.specs.PdrLaws.{one_get_pdr_request}
-use Rattle.pdr_repository.specs.Records.{Entry, IsLawful}
-use Rattle.pdr_repository.specs.Parts.{PartAnswer, AnswersPart}
-use Rattle.pdr_repository.specs.Answers.{IsOf, request_length, AnswersCode, AnswersData, AnswersCommand, Answers, reply_header}
-use Rattle.pdr_repository.specs.Walkers.{asked_under}
-use Rattle.pdr_repository.proofs.OneAnswers.{one_answer}
+use Rattle.pldm_message.{specs.declared.command.Command.{Command}, specs.declared.command.Command.TheVariants.{SetTid, GetTid, GetPldmTypes, GetPdr}, specs.declared.kind.MessageKind.TheVariants.{Request}, specs.Headers.{HeaderValue, header_bytes}, specs.HeaderLaws.{one_header}, specs.Messages.{RequestMessage, outcome_bytes}, specs.Pdrs.{PartRequest, IsPartRequest, part_request_bytes, part_bytes, get_pdr_request_bytes}, specs.PdrLaws.{one_get_pdr_request}}
+use Rattle.pdr_repository.{specs.Records.{Entry, IsLawful}, specs.Parts.{PartAnswer, AnswersPart}, specs.Answers.{IsOf, request_length, AnswersCode, AnswersData, AnswersCommand, Answers, reply_header}, specs.Walkers.{asked_under}, proofs.OneAnswers.{one_answer}}
 
 one_command : (c d : Command) (h : HeaderValue) → IsOf c h → IsOf d h → c ≡ d
 one_command SetTid SetTid h x y = refl

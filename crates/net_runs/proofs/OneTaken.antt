@@ -1,16 +1,9 @@
 -- The exchanges that a walker takes in turns are determined by the turns.
-use Rattle.std.proofs.Common.{◌≡◌, ℕ, List, [], ◌∷◌, Option, Some, Ok, sym, ap, ◌∙◌, subst, inl, inr}
-use Rattle.std.proofs.lemmas.Option.{same_Some}
-use Rattle.mctp_transport.specs.PacketValues.{KeyValue}
-use Rattle.mctp_transport.specs.Hearing.{Whole}
-use Rattle.pldm_message.specs.Messages.{ResponseMessage}
-use Rattle.pldm_message.specs.Pdrs.{Part}
-use Rattle.pldm_message.specs.PdrLaws.{one_get_pdr_answer}
+use Rattle.std.{proofs.Common.{◌≡◌, ℕ, List, [], ◌∷◌, Option, Some, Ok, sym, ap, ◌∙◌, subst, inl, inr}, proofs.lemmas.Option.{same_Some}}
+use Rattle.mctp_transport.{specs.PacketValues.{KeyValue}, specs.Hearing.{Whole}}
+use Rattle.pldm_message.{specs.Messages.{ResponseMessage}, specs.Pdrs.{Part}, specs.PdrLaws.{one_get_pdr_answer}}
 use Rattle.pdr_repository.specs.Walks.{Exchange}
-use Rattle.net_runs.specs.Events.{OutcomeValue, Entered}
-use Rattle.net_runs.specs.Walkers.{WalkerValue, WalkedState, WalkedOutcome, Happened, Handed, answering_key}
-use Rattle.net_runs.specs.WalkedRuns.{WalkedTurn}
-use Rattle.net_runs.specs.NetworkWalks.{IsExchange, TakesWith, AreTakenIn}
+use Rattle.net_runs.{specs.Events.{OutcomeValue, Entered}, specs.Walkers.{WalkerValue, WalkedState, WalkedOutcome, Happened, Handed, answering_key}, specs.WalkedRuns.{WalkedTurn}, specs.NetworkWalks.{IsExchange, TakesWith, AreTakenIn}}
 
 same_lower : (a b : OutcomeValue) (x y : Option Handed) → ◌≡◌ {A = WalkedOutcome} (Happened a x) (Happened b y) → a ≡ b
 same_lower a b x y e = cc

@@ -1,32 +1,12 @@
 -- An event has one outcome, and leaves one next state, with walkers too.
-use Rattle.std.proofs.Common.{◌≡◌, ◌⊎◌, ℕ, ◌==◌, if◌then◌else◌, List, [], ◌∷◌, length, Option, Some, None, Result, Ok, Err, refl, sym, ap, ◌∙◌, subst, inl, inr}
-use Rattle.std.specs.Prelude.{MatchResult}
-use Rattle.std.proofs.lemmas.Bool.{cases_order}
-use Rattle.std.proofs.lemmas.Option.{same_Some}
-use Rattle.mctp_transport.specs.PacketValues.{PacketValue, KeyValue, packet_value_bytes}
-use Rattle.mctp_transport.specs.Cutting.{ArePacketsOf}
-use Rattle.mctp_transport.specs.Hearing.{Whole}
-use Rattle.mctp_transport.proofs.PacketLists.{same_packets}
-use Rattle.pldm_message.specs.InstanceIds.{IdSet, Gives, TakesBack}
-use Rattle.pldm_message.proofs.OneInstanceIds.{gives_one, takes_back_one}
-use Rattle.pdr_repository.specs.Walkers.{Asks, Takes}
-use Rattle.pdr_repository.proofs.OneTakings.{takes_one, asks_one}
-use Rattle.pdr_repository.specs.declared.walk_fault.Step.{Step as WalkStep}
-use Rattle.pdr_repository.specs.declared.walk_fault.WalkFault.{WalkFault}
-use Rattle.plan_values.specs.declared.plan.Plan.{Plan}
-use Rattle.plan_values.specs.declared.certificate.Certificate.{Certificate}
-use Rattle.net_runs.specs.States.{NetworkState, unit_of}
+use Rattle.std.{proofs.Common.{◌≡◌, ◌⊎◌, ℕ, ◌==◌, if◌then◌else◌, List, [], ◌∷◌, length, Option, Some, None, Result, Ok, Err, refl, sym, ap, ◌∙◌, subst, inl, inr}, specs.Prelude.{MatchResult}, proofs.lemmas.Bool.{cases_order}, proofs.lemmas.Option.{same_Some}}
+use Rattle.mctp_transport.{specs.PacketValues.{PacketValue, KeyValue, packet_value_bytes}, specs.Cutting.{ArePacketsOf}, specs.Hearing.{Whole}, proofs.PacketLists.{same_packets}}
+use Rattle.pldm_message.{specs.InstanceIds.{IdSet, Gives, TakesBack}, proofs.OneInstanceIds.{gives_one, takes_back_one}}
+use Rattle.pdr_repository.{specs.Walkers.{Asks, Takes}, proofs.OneTakings.{takes_one, asks_one}, specs.declared.walk_fault.Step.{Step as WalkStep}, specs.declared.walk_fault.WalkFault.{WalkFault}}
+use Rattle.plan_values.{specs.declared.plan.Plan.{Plan}, specs.declared.certificate.Certificate.{Certificate}}
+use Rattle.net_runs.{specs.States.{NetworkState, unit_of}, specs.Events.{EventValue, Put, OutcomeValue, PutIn, Entered, N01, N02, N03, N04, N05, N06, N07}, specs.OneOutcome.{HaveRowsApart, HoldsLawfulLists, HasOneOutcome, RunsHaveOneOutcome}, specs.OneWalkedOutcome.{HaveWalkersApart, HasOneWalkedOutcome, WalkedRunsHaveOneOutcome}, specs.Walkers.{WalkerValue, WalkedState, WalkedEvent, Happening, BeginWalk, Ask, TellWalk, WalkedOutcome, Happened, Begun, Asked, ToldWalk, WalkRefused, WalkRefusal, Also, N08, N09, N10, N11, N12, N13, Handed, AreSettled, walked_at_start, fresh_walker, with_walker, asking_key, answering_key, ended_after, standing_of, walk_refusal_number, IsWalkRefused, IsFirstWalkRefusal}, specs.WalkedRuns.{IsAsking, IsHanded, WalkedHappens, WalkedStep, walked_reached}, proofs.Below.{runs_below}, proofs.OneOutcomes.{one_outcome}, proofs.Soundness.{IsAlike, run_sound, start_sound}, proofs.OneTaken.{same_message}}
 use Rattle.net_tables.specs.TwoPlans.{Tables}
-use Rattle.net_runs.specs.Events.{EventValue, Put, OutcomeValue, PutIn, Entered, N01, N02, N03, N04, N05, N06, N07}
 use Rattle.net_runs.specs.Networks as network
-use Rattle.net_runs.specs.OneOutcome.{HaveRowsApart, HoldsLawfulLists, HasOneOutcome, RunsHaveOneOutcome}
-use Rattle.net_runs.specs.OneWalkedOutcome.{HaveWalkersApart, HasOneWalkedOutcome, WalkedRunsHaveOneOutcome}
-use Rattle.net_runs.specs.Walkers.{WalkerValue, WalkedState, WalkedEvent, Happening, BeginWalk, Ask, TellWalk, WalkedOutcome, Happened, Begun, Asked, ToldWalk, WalkRefused, WalkRefusal, Also, N08, N09, N10, N11, N12, N13, Handed, AreSettled, walked_at_start, fresh_walker, with_walker, asking_key, answering_key, ended_after, standing_of, walk_refusal_number, IsWalkRefused, IsFirstWalkRefusal}
-use Rattle.net_runs.specs.WalkedRuns.{IsAsking, IsHanded, WalkedHappens, WalkedStep, walked_reached}
-use Rattle.net_runs.proofs.Below.{runs_below}
-use Rattle.net_runs.proofs.OneOutcomes.{one_outcome}
-use Rattle.net_runs.proofs.Soundness.{IsAlike, run_sound, start_sound}
-use Rattle.net_runs.proofs.OneTaken.{same_message}
 
 -- ---- refusals
 

@@ -1,15 +1,7 @@
 -- The packets of a message come one after another at a node where no key is open: all but the last open its key, and
 -- with the last the message comes, and no key is open again.
-use Rattle.std.proofs.Common.{◌≡◌, ◌≢◌, ℕ, ◌+◌, ◌≤◌, true, false, List, [], ◌∷◌, ◌++◌, length, refl, sym, ap, ◌∙◌, subst, inl, inr, arith, length-append}
-use Rattle.std.proofs.lemmas.List.Elements.{All-head}
-use Rattle.mctp_transport.specs.PacketValues.{PacketValue, KeyValue, key_of}
-use Rattle.mctp_transport.specs.Messages.{Joined, payloads_of}
-use Rattle.mctp_transport.specs.Histories.{Arrived, History, after, last_of, ArePackets, FewerThan, IsOpen, IsOtherOpen, Comes}
-use Rattle.mctp_transport.specs.Hearing.{Whole, Held, Hears}
-use Rattle.mctp_transport.proofs.SomeAnswers.{some_answer}
-use Rattle.mctp_transport.proofs.Joining.{front_begins, begins_last, joined_last, joined_alone, payloads_length, payloads_snoc}
-use Rattle.mctp_transport.proofs.Openness.{open_start_from, Continues, open_more_from, open_other, has_started, are_alone, are_more, comes_start_from, comes_more_from, one_payload}
-use Rattle.mctp_transport.proofs.FirstIndexes.{key_cases}
+use Rattle.std.{proofs.Common.{◌≡◌, ◌≢◌, ℕ, ◌+◌, ◌≤◌, true, false, List, [], ◌∷◌, ◌++◌, length, refl, sym, ap, ◌∙◌, subst, inl, inr, arith, length-append}, proofs.lemmas.List.Elements.{All-head}}
+use Rattle.mctp_transport.{specs.PacketValues.{PacketValue, KeyValue, key_of}, specs.Messages.{Joined, payloads_of}, specs.Histories.{Arrived, History, after, last_of, ArePackets, FewerThan, IsOpen, IsOtherOpen, Comes}, specs.Hearing.{Whole, Held, Hears}, proofs.SomeAnswers.{some_answer}, proofs.Joining.{front_begins, begins_last, joined_last, joined_alone, payloads_length, payloads_snoc}, proofs.Openness.{open_start_from, Continues, open_more_from, open_other, has_started, are_alone, are_more, comes_start_from, comes_more_from, one_payload}, proofs.FirstIndexes.{key_cases}}
 use Rattle.net_runs.specs.States.{slots, limit}
 
 -- no key is open

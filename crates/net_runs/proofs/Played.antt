@@ -1,34 +1,11 @@
 -- A walk is played to its end, exchange by exchange.
-use Rattle.std.proofs.Common.{◌≡◌, ◌≢◌, ℕ, zero, suc, ◌+◌, ◌*◌, ◌<◌, ◌≤◌, Bool, false, List, [], ◌∷◌, ◌++◌, length, Option, Some, None, refl, sym, ap, ◌∙◌, arith}
-use Rattle.std.specs.Prelude.{All, sum_by}
-use Rattle.std.proofs.lemmas.List.{length_push}
-use Rattle.std.proofs.lemmas.List.Elements.{All-from_recursion}
-use Rattle.std.proofs.lemmas.Option.{none-some}
+use Rattle.std.{proofs.Common.{◌≡◌, ◌≢◌, ℕ, zero, suc, ◌+◌, ◌*◌, ◌<◌, ◌≤◌, Bool, false, List, [], ◌∷◌, ◌++◌, length, Option, Some, None, refl, sym, ap, ◌∙◌, arith}, specs.Prelude.{All, sum_by}, proofs.lemmas.List.{length_push}, proofs.lemmas.List.Elements.{All-from_recursion}, proofs.lemmas.Option.{none-some}}
 use Rattle.pldm_message.specs.Pdrs.{PartRequest}
-use Rattle.pdr_repository.specs.Records.{Entry, IsLawful, bytes_by_place}
-use Rattle.pdr_repository.specs.Walks.{Exchange, WalkPromises, exchanges}
-use Rattle.pdr_repository.proofs.Collecting.{collects_once}
-use Rattle.pdr_repository.proofs.Taking.{fresh_stands}
-use Rattle.pdr_repository.proofs.Walks.{every_walk_collects}
+use Rattle.pdr_repository.{specs.Records.{Entry, IsLawful, bytes_by_place}, specs.Walks.{Exchange, WalkPromises, exchanges}, proofs.Collecting.{collects_once}, proofs.Taking.{fresh_stands}, proofs.Walks.{every_walk_collects}}
 use Rattle.plan_values.specs.declared.certificate.Certificate.{Certificate}
-use Rattle.net_tables.specs.Repositories.{records_of, places_of, records_by_place, RecordsHaveOrder}
-use Rattle.net_runs.specs.Termini.{AreBytes}
-use Rattle.net_runs.specs.States.{at_start}
-use Rattle.net_tables.specs.TwoPlans.{Tables}
-use Rattle.net_runs.specs.Events.{Put, most_flights}
-use Rattle.net_runs.specs.NetworkWalks.{IsSameWalker}
-use Rattle.net_runs.specs.PlayedWalks.{HasWay, WalksCanBePlayed}
-use Rattle.net_runs.specs.Walkers.{WalkerValue, WalkedState, Happening, BeginWalk, Begun, walked_at_start, fresh_walker, with_walker, most_records, most_bytes}
-use Rattle.net_runs.specs.WalkedGoing.{EidsAreBytes}
-use Rattle.net_runs.proofs.AtRest.{start_at_rest}
-use Rattle.net_runs.proofs.ByPlace.{is_lawful}
-use Rattle.net_runs.proofs.Exchanging.{IsReady, HasExchanged, one_exchange}
-use Rattle.net_runs.proofs.FirstAsks.{may_begin}
-use Rattle.net_runs.proofs.Fitting.{exchanges_most}
+use Rattle.net_tables.{specs.Repositories.{records_of, places_of, records_by_place, RecordsHaveOrder}, specs.TwoPlans.{Tables}, proofs.Elements.{holder_within}}
+use Rattle.net_runs.{specs.Termini.{AreBytes}, specs.States.{at_start}, specs.Events.{Put, most_flights}, specs.NetworkWalks.{IsSameWalker}, specs.PlayedWalks.{HasWay, WalksCanBePlayed}, specs.Walkers.{WalkerValue, WalkedState, Happening, BeginWalk, Begun, walked_at_start, fresh_walker, with_walker, most_records, most_bytes}, specs.WalkedGoing.{EidsAreBytes}, proofs.AtRest.{start_at_rest}, proofs.ByPlace.{is_lawful}, proofs.Exchanging.{IsReady, HasExchanged, one_exchange}, proofs.FirstAsks.{may_begin}, proofs.Fitting.{exchanges_most}, proofs.Reaching.{Reaches, stays_there, reaches_on}, proofs.WalkedGoings.{fresh_is_kept}}
 use Rattle.net_tables.specs.Lawful as ways
-use Rattle.net_runs.proofs.Reaching.{Reaches, stays_there, reaches_on}
-use Rattle.net_runs.proofs.WalkedGoings.{fresh_is_kept}
-use Rattle.net_tables.proofs.Elements.{holder_within}
 
 module _ (tables : Tables) (cert : Certificate) (lawful : ways.IsLawful tables cert) (own n : ℕ) (small : own < 256) (back : HasWay tables n own)
     (right_records : IsLawful (records_by_place tables.plan cert n)) (all : All (λ e. AreBytes e.bytes) (records_by_place tables.plan cert n)) (first : WalkerValue) where

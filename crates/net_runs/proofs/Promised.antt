@@ -1,28 +1,10 @@
 -- What an accepted tables and certificate promise of every run.
-use Rattle.std.proofs.Common.{◌≡◌, ℕ, suc, ◌+◌, true, false, List, [], ◌∷◌, ◌++◌, Some, None, sym, refl, ap, ◌∙◌, subst}
-use Rattle.std.specs.List.{AllByRecursion}
-use Rattle.std.proofs.lemmas.List.Elements.{All-from_recursion}
-use Rattle.mctp_transport.specs.PacketValues.{PacketValue, KeyValue, key_of}
-use Rattle.mctp_transport.specs.Messages.{EachPacket}
-use Rattle.mctp_transport.specs.Histories.{Input, Arrived, History, EachArrival, after, last_of, Comes}
-use Rattle.mctp_transport.specs.Hearing.{Whole}
-use Rattle.mctp_transport.proofs.Arrivals.{EachArrival-append, EachArrival-weaker, EachArrival-last_of, packets_arrived}
-use Rattle.mctp_transport.proofs.LastStarts.{packets_key}
-use Rattle.mctp_transport.proofs.FirstIndexes.{snoc_same}
+use Rattle.std.{proofs.Common.{◌≡◌, ℕ, suc, ◌+◌, true, false, List, [], ◌∷◌, ◌++◌, Some, None, sym, refl, ap, ◌∙◌, subst}, specs.List.{AllByRecursion}, proofs.lemmas.List.Elements.{All-from_recursion}}
+use Rattle.mctp_transport.{specs.PacketValues.{PacketValue, KeyValue, key_of}, specs.Messages.{EachPacket}, specs.Histories.{Input, Arrived, History, EachArrival, after, last_of, Comes}, specs.Hearing.{Whole}, proofs.Arrivals.{EachArrival-append, EachArrival-weaker, EachArrival-last_of, packets_arrived}, proofs.LastStarts.{packets_key}, proofs.FirstIndexes.{snoc_same}}
 use Rattle.plan_values.specs.declared.certificate.Certificate.{Certificate}
-use Rattle.net_tables.specs.Routing.{Holds}
+use Rattle.net_tables.{specs.Routing.{Holds}, specs.TwoPlans.{Tables}, specs.Lawful.{IsLawful}, specs.Repositories.{RecordsHaveOrder}}
 use Rattle.mctp_routing.specs.declared.decision.Decision.TheVariants.{Here, Drop, Forward}
-use Rattle.net_runs.specs.States.{NetworkState, Flight, at_start, without_flight, with_made, slots, limit}
-use Rattle.net_tables.specs.TwoPlans.{Tables}
-use Rattle.net_runs.specs.Events.{EventValue, Put, Move, Lose, Expire, AnswerAt, Switch, OutcomeValue, PutIn, Entered, Lost, Expired, Answered, Silent, Switched, Refused}
-use Rattle.net_runs.specs.Networks.{Step, Happens, Moves}
-use Rattle.net_runs.specs.Runs.{Turn, RunOf, RunFrom, after_all, reached, WasPutIn}
-use Rattle.net_runs.specs.Headline.{AloneHolds, JoinsPackets, KeepsPackets, HeadlineOf}
-use Rattle.net_tables.specs.Lawful.{IsLawful}
-use Rattle.net_runs.proofs.Kept.{Kept, run_keeps}
-use Rattle.net_tables.specs.Repositories.{RecordsHaveOrder}
-use Rattle.net_runs.proofs.Records.{keeps_records}
-use Rattle.net_runs.proofs.ByPlace.{walks_collect_each}
+use Rattle.net_runs.{specs.States.{NetworkState, Flight, at_start, without_flight, with_made, slots, limit}, specs.Events.{EventValue, Put, Move, Lose, Expire, AnswerAt, Switch, OutcomeValue, PutIn, Entered, Lost, Expired, Answered, Silent, Switched, Refused}, specs.Networks.{Step, Happens, Moves}, specs.Runs.{Turn, RunOf, RunFrom, after_all, reached, WasPutIn}, specs.Headline.{AloneHolds, JoinsPackets, KeepsPackets, HeadlineOf}, proofs.Kept.{Kept, run_keeps}, proofs.Records.{keeps_records}, proofs.ByPlace.{walks_collect_each}}
 
 -- what is said of each packet by its place holds of all
 each_all : (P : PacketValue → Type 0) (ps : List PacketValue) → EachPacket ps (λ _ p. P p) → AllByRecursion P ps

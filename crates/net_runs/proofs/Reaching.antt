@@ -1,13 +1,7 @@
 -- Runs with walkers, one after another.
-use Rattle.std.proofs.Common.{◌≡◌, ◌≢◌, ℕ, List, [], ◌∷◌, ◌++◌, None, refl, sym, ◌∙◌, subst}
-use Rattle.std.specs.List.{AllByRecursion}
-use Rattle.net_runs.specs.States.{NetworkState}
+use Rattle.std.{proofs.Common.{◌≡◌, ◌≢◌, ℕ, List, [], ◌∷◌, ◌++◌, None, refl, sym, ◌∙◌, subst}, specs.List.{AllByRecursion}}
+use Rattle.net_runs.{specs.States.{NetworkState}, specs.Events.{EventValue, Put, OutcomeValue}, specs.Networks.{Step}, specs.Walkers.{WalkedState, WalkedEvent, WalkedOutcome, Happening, Happened}, specs.WalkedRuns.{WalkedStep, WalkedTurn, WalkedRunFrom, walked_after, IsForNone}, proofs.FirstAsks.{never_refused}}
 use Rattle.net_tables.specs.TwoPlans.{Tables}
-use Rattle.net_runs.specs.Events.{EventValue, Put, OutcomeValue}
-use Rattle.net_runs.specs.Networks.{Step}
-use Rattle.net_runs.specs.Walkers.{WalkedState, WalkedEvent, WalkedOutcome, Happening, Happened}
-use Rattle.net_runs.specs.WalkedRuns.{WalkedStep, WalkedTurn, WalkedRunFrom, walked_after, IsForNone}
-use Rattle.net_runs.proofs.FirstAsks.{never_refused}
 
 -- the event puts nothing in by itself
 abbrev pub PutsNothing : WalkedEvent → Type 0

@@ -1,28 +1,11 @@
 -- A message that comes to a walker while its request is outstanding is the answer to it, and the walker takes it.
-use Rattle.std.proofs.Common.{◌≡◌, ℕ, ◌+◌, ◌*◌, ◌≤◌, min, List, [], ◌∷◌, length, drop, Ok, sym, ap, subst, inl, inr, arith, length-append}
-use Rattle.std.specs.Option.{option_to_list}
-use Rattle.std.specs.List.{AllByRecursion}
-use Rattle.std.proofs.lemmas.List.{length-take}
-use Rattle.mctp_transport.specs.PacketValues.{PacketValue}
-use Rattle.mctp_transport.specs.Hearing.{Whole}
-use Rattle.mctp_transport.specs.Sending.{IsPacketOf}
-use Rattle.mctp_transport.proofs.Sending.{joins_to_itself}
+use Rattle.std.{proofs.Common.{◌≡◌, ℕ, ◌+◌, ◌*◌, ◌≤◌, min, List, [], ◌∷◌, length, drop, Ok, sym, ap, subst, inl, inr, arith, length-append}, specs.Option.{option_to_list}, specs.List.{AllByRecursion}, proofs.lemmas.List.{length-take}}
+use Rattle.mctp_transport.{specs.PacketValues.{PacketValue}, specs.Hearing.{Whole}, specs.Sending.{IsPacketOf}, proofs.Sending.{joins_to_itself}}
 use Rattle.pldm_message.specs.Pdrs.{PartRequest, Part, get_pdr_answer_bytes}
-use Rattle.pdr_repository.specs.Records.{Entry, IsLawful}
-use Rattle.pdr_repository.specs.Parts.{PartAnswer, AnswersPart, IsPartOf, offset_of}
-use Rattle.pdr_repository.specs.Walkers.{IsAnswerIn}
-use Rattle.pdr_repository.proofs.OneAnswers.{one_answer}
-use Rattle.net_tables.specs.TwoPlans.{Tables}
+use Rattle.pdr_repository.{specs.Records.{Entry, IsLawful}, specs.Parts.{PartAnswer, AnswersPart, IsPartOf, offset_of}, specs.Walkers.{IsAnswerIn}, proofs.OneAnswers.{one_answer}, proofs.FivePackets.{one_at_most}}
+use Rattle.net_tables.{specs.TwoPlans.{Tables}, specs.Routing.{Holds}, specs.Repositories.{records_by_place}}
 use Rattle.plan_values.specs.declared.certificate.Certificate.{Certificate}
-use Rattle.net_tables.specs.Routing.{Holds}
-use Rattle.net_tables.specs.Repositories.{records_by_place}
-use Rattle.net_runs.specs.States.{NetworkState, unit_of}
-use Rattle.net_runs.specs.Events.{EventValue, OutcomeValue, Entered}
-use Rattle.net_runs.specs.Networks.{Step}
-use Rattle.net_runs.proofs.Promised.{step_tells}
-use Rattle.net_runs.proofs.Such.{told_joins_such}
-use Rattle.net_runs.proofs.UnderWay.{IsUnderWay, IsOfReply, Answering, answer_under}
-use Rattle.pdr_repository.proofs.FivePackets.{one_at_most}
+use Rattle.net_runs.{specs.States.{NetworkState, unit_of}, specs.Events.{EventValue, OutcomeValue, Entered}, specs.Networks.{Step}, proofs.Promised.{step_tells}, proofs.Such.{told_joins_such}, proofs.UnderWay.{IsUnderWay, IsOfReply, Answering, answer_under}}
 
 part_is_short : (id next : ℕ) (bytes : List ℕ) (r : PartRequest) (p : Part) → IsPartOf next bytes r p → length (get_pdr_answer_bytes (answer_under id (Ok p))) ≤ r.count + 17
 part_is_short id next bytes r p part =

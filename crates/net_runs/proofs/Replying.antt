@@ -1,45 +1,12 @@
 -- A request that is on its way comes at its terminus, and the answer to it is put in.
-use Rattle.std.proofs.Common.{◌≡◌, ◌≢◌, ◌⊎◌, ℕ, ◌+◌, ◌<◌, ◌≤◌, true, false, List, [], ◌∷◌, length, Option, Some, None, Ok, Err, refl, sym, ap, ◌∙◌, subst, inl, inr, arith}
-use Rattle.std.specs.Prelude.{All}
-use Rattle.std.proofs.lemmas.Bool.{cases_order}
-use Rattle.std.proofs.lemmas.Bool.Decides.{eqb_tells}
-use Rattle.std.proofs.lemmas.Option.{none-some}
-use Rattle.mctp_transport.specs.PacketValues.{PacketValue, KeyValue, key_of}
-use Rattle.mctp_transport.specs.Cutting.{ArePacketsOf}
-use Rattle.mctp_transport.specs.Histories.{History}
-use Rattle.mctp_transport.specs.Hearing.{Whole}
-use Rattle.mctp_transport.proofs.PacketLists.{packets_join}
+use Rattle.std.{proofs.Common.{◌≡◌, ◌≢◌, ◌⊎◌, ℕ, ◌+◌, ◌<◌, ◌≤◌, true, false, List, [], ◌∷◌, length, Option, Some, None, Ok, Err, refl, sym, ap, ◌∙◌, subst, inl, inr, arith}, specs.Prelude.{All}, proofs.lemmas.Bool.{cases_order}, proofs.lemmas.Bool.Decides.{eqb_tells}, proofs.lemmas.Option.{none-some}}
+use Rattle.mctp_transport.{specs.PacketValues.{PacketValue, KeyValue, key_of}, specs.Cutting.{ArePacketsOf}, specs.Histories.{History}, specs.Hearing.{Whole}, proofs.PacketLists.{packets_join}}
 use Rattle.pldm_message.specs.Pdrs.{PartRequest, IsPartRequest, get_pdr_request_bytes, get_pdr_answer_bytes}
-use Rattle.pdr_repository.specs.Records.{Entry, IsLawful}
-use Rattle.pdr_repository.specs.Parts.{PartAnswer, AnswersPart}
-use Rattle.pdr_repository.specs.Answers.{Answers}
-use Rattle.pdr_repository.specs.Walkers.{asked_under, IsAnswerIn, AnswersWalker}
-use Rattle.pdr_repository.proofs.Meeting.{requests_are_answered}
+use Rattle.pdr_repository.{specs.Records.{Entry, IsLawful}, specs.Parts.{PartAnswer, AnswersPart}, specs.Answers.{Answers}, specs.Walkers.{asked_under, IsAnswerIn, AnswersWalker}, proofs.Meeting.{requests_are_answered}, proofs.AnswerBytes.{answer_is_bytes}, proofs.SomeAnswers.{EachByte, each_byte, records_of_bytes, SomeAnswer, some_answering}}
 use Rattle.plan_values.specs.declared.certificate.Certificate.{Certificate}
-use Rattle.net_tables.specs.Routing.{Holds}
-use Rattle.net_tables.specs.Repositories.{records_by_place}
-use Rattle.net_runs.specs.Termini.{TerminusState, AreBytes, with_waiting}
-use Rattle.net_runs.specs.States.{NetworkState, with_terminus, with_packets, with_received, unit_of}
-use Rattle.net_tables.specs.TwoPlans.{Tables, HasRowAlways}
-use Rattle.net_runs.specs.Events.{Move, AnswerAt, Entered, Answered, Refusal, N01, N02, N03, N04, N05, N06, N07, IsRefused, most_flights}
-use Rattle.net_runs.specs.Networks.{Step, answer_key}
-use Rattle.net_runs.specs.Walkers.{WalkerValue, answering_key}
-use Rattle.pdr_repository.proofs.AnswerBytes.{answer_is_bytes}
-use Rattle.pdr_repository.proofs.SomeAnswers.{EachByte, each_byte, records_of_bytes, SomeAnswer, some_answering}
-use Rattle.net_runs.proofs.AtRest.{AreUnderWay, packets_made, packets_history, packets_under_way}
-use Rattle.net_runs.proofs.Bringing.{way_is_route}
-use Rattle.net_runs.proofs.ByteRuns.{are_bytes}
+use Rattle.net_tables.{specs.Routing.{Holds}, specs.Repositories.{records_by_place}, specs.TwoPlans.{Tables, HasRowAlways}, proofs.Elements.{holder_within}}
+use Rattle.net_runs.{specs.Termini.{TerminusState, AreBytes, with_waiting}, specs.States.{NetworkState, with_terminus, with_packets, with_received, unit_of}, specs.Events.{Move, AnswerAt, Entered, Answered, Refusal, N01, N02, N03, N04, N05, N06, N07, IsRefused, most_flights}, specs.Networks.{Step, answer_key}, specs.Walkers.{WalkerValue, answering_key}, proofs.AtRest.{AreUnderWay, packets_made, packets_history, packets_under_way}, proofs.Bringing.{way_is_route}, proofs.ByteRuns.{are_bytes}, proofs.Nexts.{new_flight}, proofs.Ordered.{IsClosed, comes_last}, proofs.Reaching.{Reaches, reaches_on, network_turn}, proofs.Records.{packets_termini}, proofs.Replies.{answer_is_short}, proofs.Sent.{message_packets}, proofs.Travels.{Now, enters_there}, proofs.UnderWay.{answer_under}, proofs.WalkedGoings.{request_is_bytes}}
 use Rattle.net_tables.specs.Lawful as ways
-use Rattle.net_runs.proofs.Nexts.{new_flight}
-use Rattle.net_runs.proofs.Ordered.{IsClosed, comes_last}
-use Rattle.net_runs.proofs.Reaching.{Reaches, reaches_on, network_turn}
-use Rattle.net_runs.proofs.Records.{packets_termini}
-use Rattle.net_runs.proofs.Replies.{answer_is_short}
-use Rattle.net_runs.proofs.Sent.{message_packets}
-use Rattle.net_runs.proofs.Travels.{Now, enters_there}
-use Rattle.net_runs.proofs.UnderWay.{answer_under}
-use Rattle.net_runs.proofs.WalkedGoings.{request_is_bytes}
-use Rattle.net_tables.proofs.Elements.{holder_within}
 
 module _ (tables : Tables) (cert : Certificate) (lawful : ways.IsLawful tables cert) (walkers : ℕ → Option WalkerValue) (begun : ℕ) where
   -- what waits at the terminus then

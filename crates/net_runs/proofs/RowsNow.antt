@@ -1,8 +1,7 @@
 -- Who always has a row has one now, whichever rows it goes by.
 use Rattle.std.proofs.Common.{ℕ, Bool, true, false, Option, Some, None}
 use Rattle.plan_values.specs.declared.plan.Plan.{Plan}
-use Rattle.net_tables.specs.Routing.{NamesFor}
-use Rattle.net_tables.specs.TwoPlans.{Tables, rows_by, HasRowInBoth, HasRowAlways}
+use Rattle.net_tables.{specs.Routing.{NamesFor}, specs.TwoPlans.{Tables, rows_by, HasRowInBoth, HasRowAlways}}
 use Rattle.net_runs.specs.States.{NetworkState, rows_now}
 
 row_in : (plan : Plan) (after : Option Plan) (switched : Bool) (n e : ℕ) → HasRowInBoth plan after n e → (m : ℕ) × NamesFor (rows_by plan after switched n) e m

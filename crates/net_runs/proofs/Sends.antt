@@ -1,27 +1,10 @@
 -- Packets are put in at the node that holds their destination, each moved at once: what they join to is told.
-use Rattle.std.proofs.Common.{◌≡◌, ℕ, ◌+◌, ◌<◌, ◌≤◌, false, List, [], ◌∷◌, ◌++◌, length, Some, None, sym, refl, ap, ◌∙◌, subst, inl, inr, arith}
-use Rattle.std.specs.List.{AllByRecursion}
-use Rattle.std.proofs.lemmas.Bool.Decides.{eqb_tells}
-use Rattle.std.proofs.lemmas.List.{append-nil, append_assoc, map-append}
-use Rattle.std.proofs.lemmas.Option.{none-some}
-use Rattle.mctp_transport.specs.PacketValues.{PacketValue, KeyValue, key_of, IsPacketValue, Spelled, packet_value_bytes}
-use Rattle.mctp_transport.specs.PacketValueLaws.{one_packet_value}
-use Rattle.mctp_transport.specs.Messages.{Joined}
-use Rattle.mctp_transport.specs.Histories.{Arrived, History, after, Comes}
-use Rattle.mctp_transport.specs.Hearing.{Answer, Whole, Hears}
-use Rattle.mctp_transport.proofs.SomeAnswers.{some_answer}
-use Rattle.mctp_transport.proofs.InOrder.{arrivals, comes_in_order}
-use Rattle.plan_values.specs.declared.plan.Plan.{Plan}
-use Rattle.plan_values.specs.declared.certificate.Certificate.{Certificate}
-use Rattle.net_tables.specs.Routing.{Holds}
+use Rattle.std.{proofs.Common.{◌≡◌, ℕ, ◌+◌, ◌<◌, ◌≤◌, false, List, [], ◌∷◌, ◌++◌, length, Some, None, sym, refl, ap, ◌∙◌, subst, inl, inr, arith}, specs.List.{AllByRecursion}, proofs.lemmas.Bool.Decides.{eqb_tells}, proofs.lemmas.List.{append-nil, append_assoc, map-append}, proofs.lemmas.Option.{none-some}}
+use Rattle.mctp_transport.{specs.PacketValues.{PacketValue, KeyValue, key_of, IsPacketValue, Spelled, packet_value_bytes}, specs.PacketValueLaws.{one_packet_value}, specs.Messages.{Joined}, specs.Histories.{Arrived, History, after, Comes}, specs.Hearing.{Answer, Whole, Hears}, proofs.SomeAnswers.{some_answer}, proofs.InOrder.{arrivals, comes_in_order}}
+use Rattle.plan_values.{specs.declared.plan.Plan.{Plan}, specs.declared.certificate.Certificate.{Certificate}}
+use Rattle.net_tables.{specs.Routing.{Holds}, specs.TwoPlans.{one_plan}}
 use Rattle.mctp_routing.specs.declared.decision.Decision.TheVariants.{Here}
-use Rattle.net_runs.specs.States.{NetworkState, at_start, without_flight, with_input, with_packet, with_received, unit_of, slots, limit}
-use Rattle.net_tables.specs.TwoPlans.{one_plan}
-use Rattle.net_runs.specs.Events.{Put, Move, Refusal, N01, N02, N03, N04, N05, N06, N07, PutIn, Entered, IsRefused, most_flights}
-use Rattle.net_runs.specs.Networks.{Step}
-use Rattle.net_runs.specs.Runs.{Turn, RunFrom, PutsIn}
-use Rattle.net_runs.specs.ExactMessages.{IsQuiet, Epoch, IsOfEpoch, TurnOfEpoch, IsTidyFrom, turns_of, IsTold}
-use Rattle.net_runs.proofs.Nexts.{new_flight, received_same}
+use Rattle.net_runs.{specs.States.{NetworkState, at_start, without_flight, with_input, with_packet, with_received, unit_of, slots, limit}, specs.Events.{Put, Move, Refusal, N01, N02, N03, N04, N05, N06, N07, PutIn, Entered, IsRefused, most_flights}, specs.Networks.{Step}, specs.Runs.{Turn, RunFrom, PutsIn}, specs.ExactMessages.{IsQuiet, Epoch, IsOfEpoch, TurnOfEpoch, IsTidyFrom, turns_of, IsTold}, proofs.Nexts.{new_flight, received_same}}
 
 -- nothing is on its way, so many flights were made, and the node has been given these packets
 pub record HasHeard (w : NetworkState) (n made : ℕ) (ps : List PacketValue) : Type 0 where

@@ -1,21 +1,9 @@
 -- Tidy runs in which messages of several packets come as they were sent, and one of six packets comes otherwise.
-use Rattle.std.proofs.Common.{◌≡◌, ◌≢◌, ℕ, ◌*◌, ◌<◌, ◌≤◌, true, false, List, [], ◌∷◌, ◌++◌, length, refl, ap, subst, inl, inr, arith}
-use Rattle.std.specs.List.{AllByRecursion}
-use Rattle.mctp_transport.specs.PacketValues.{PacketValue, KeyValue}
-use Rattle.mctp_transport.specs.Messages.{Joined, payloads_of}
-use Rattle.mctp_transport.specs.Cutting.{ArePacketsOf}
-use Rattle.mctp_transport.specs.PacketsLeft.{cut}
-use Rattle.mctp_transport.proofs.PacketLists.{all_packets, packets_join, payload_at, payloads_length, within_unit, last_or_not}
-use Rattle.mctp_transport.proofs.InOrder.{all_from, all_front}
-use Rattle.mctp_transport.proofs.Sending.{few_packets, many_packets, ends_of_six_join}
-use Rattle.std.proofs.lemmas.Option.{slice_get_within}
-use Rattle.plan_values.specs.declared.plan.Plan.{Plan}
-use Rattle.plan_values.specs.declared.certificate.Certificate.{Certificate}
-use Rattle.net_runs.proofs.Units.{least_unit, most_unit}
+use Rattle.std.{proofs.Common.{◌≡◌, ◌≢◌, ℕ, ◌*◌, ◌<◌, ◌≤◌, true, false, List, [], ◌∷◌, ◌++◌, length, refl, ap, subst, inl, inr, arith}, specs.List.{AllByRecursion}, proofs.lemmas.Option.{slice_get_within}}
+use Rattle.mctp_transport.{specs.PacketValues.{PacketValue, KeyValue}, specs.Messages.{Joined, payloads_of}, specs.Cutting.{ArePacketsOf}, specs.PacketsLeft.{cut}, proofs.PacketLists.{all_packets, packets_join, payload_at, payloads_length, within_unit, last_or_not}, proofs.InOrder.{all_from, all_front}, proofs.Sending.{few_packets, many_packets, ends_of_six_join}}
+use Rattle.plan_values.{specs.declared.plan.Plan.{Plan}, specs.declared.certificate.Certificate.{Certificate}}
+use Rattle.net_runs.{proofs.Units.{least_unit, most_unit}, specs.States.{unit_of, limit}, specs.ExactMessages.{FitsKey, IsTold, CanBeSent, SixAreTooMany}, proofs.Sends.{IsSendable, sent_is_told}}
 use Rattle.net_tables.specs.Routing.{Holds}
-use Rattle.net_runs.specs.States.{unit_of, limit}
-use Rattle.net_runs.specs.ExactMessages.{FitsKey, IsTold, CanBeSent, SixAreTooMany}
-use Rattle.net_runs.proofs.Sends.{IsSendable, sent_is_told}
 
 -- the packets of a message
 pub message_packets : (plan : Plan) (message : List ℕ) (d : ℕ) (key : KeyValue) → (ps : List PacketValue) × ArePacketsOf (unit_of plan) message d key 0 ps

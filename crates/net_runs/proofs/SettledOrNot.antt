@@ -1,21 +1,10 @@
 -- A key is settled or not, where flights have numbers up to the last one made.
-use Rattle.std.proofs.Common.{◌≡◌, ◌≢◌, ℕ, ◌+◌, Bool, true, false, length, Option, Some, None, refl, ap, subst, inl, inr, arith}
-use Rattle.std.specs.Prelude.{All, ◌↔◌}
-use Rattle.std.proofs.lemmas.Option.{same_Some}
-use Rattle.mctp_transport.specs.PacketValues.{KeyValue, key_of}
-use Rattle.mctp_transport.specs.Histories.{IsOpen}
-use Rattle.mctp_transport.proofs.SomeAnswers.{open_or_not}
+use Rattle.std.{proofs.Common.{◌≡◌, ◌≢◌, ℕ, ◌+◌, Bool, true, false, length, Option, Some, None, refl, ap, subst, inl, inr, arith}, specs.Prelude.{All, ◌↔◌}, proofs.lemmas.Option.{same_Some}}
+use Rattle.mctp_transport.{specs.PacketValues.{KeyValue, key_of}, specs.Histories.{IsOpen}, proofs.SomeAnswers.{open_or_not}}
 use Rattle.plan_values.specs.declared.plan.Plan.{Plan}
-use Rattle.net_tables.specs.Routing.{Holds}
-use Rattle.net_runs.specs.Termini.{TerminusState, WaitingMessage}
-use Rattle.net_runs.specs.States.{NetworkState, Flight, destination, slots, limit}
-use Rattle.net_runs.specs.ExactMessages.{IsSettled}
-use Rattle.net_runs.specs.Walkers.{WalkerValue, AreSettled, asking_key, answering_key}
-use Rattle.net_runs.specs.WalkedGoing.{HasNumberedFlights}
-use Rattle.pdr_repository.proofs.Deciding.{OrNot, both_or_not, implied_or_not, not_or_not, same_or_not}
-use Rattle.pdr_repository.proofs.Searching.{all_or_not, items_or_not, three_or_not}
-use Rattle.net_runs.proofs.Steps.{holds_or_not}
-use Rattle.net_tables.proofs.Elements.{holder_within}
+use Rattle.net_tables.{specs.Routing.{Holds}, proofs.Elements.{holder_within}}
+use Rattle.net_runs.{specs.Termini.{TerminusState, WaitingMessage}, specs.States.{NetworkState, Flight, destination, slots, limit}, specs.ExactMessages.{IsSettled}, specs.Walkers.{WalkerValue, AreSettled, asking_key, answering_key}, specs.WalkedGoing.{HasNumberedFlights}, proofs.Steps.{holds_or_not}}
+use Rattle.pdr_repository.{proofs.Deciding.{OrNot, both_or_not, implied_or_not, not_or_not, same_or_not}, proofs.Searching.{all_or_not, items_or_not, three_or_not}}
 
 flag_or_not : (a b : Bool) → OrNot (a ≡ b)
 flag_or_not true true = inl refl

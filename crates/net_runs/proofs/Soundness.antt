@@ -1,24 +1,9 @@
 -- What is kept along every run with walkers: what waits has the owner bit, termini keep their records, and walkers have
 -- numbers and differ in node, endpoint ID or tag.
-use Rattle.std.proofs.Common.{◌≡◌, ◌≢◌, ◌⊎◌, ℕ, ◌+◌, ◌≤◌, List, [], ◌∷◌, Option, Some, None, refl, sym, ap, ◌∙◌, subst, inl, inr, arith, true, cond}
-use Rattle.std.specs.Prelude.{option_map}
-use Rattle.std.specs.List.{AllByRecursion}
-use Rattle.std.proofs.lemmas.Bool.Decides.{eqb_tells}
-use Rattle.std.proofs.lemmas.Option.{same_Some}
-use Rattle.plan_values.specs.declared.plan.Plan.{Plan}
-use Rattle.net_tables.specs.TwoPlans.{Tables}
-use Rattle.plan_values.specs.declared.certificate.Certificate.{Certificate}
-use Rattle.plan_values.specs.declared.terminus.PlannedTerminus.{PlannedTerminus}
-use Rattle.net_tables.specs.Repositories.{terminus_of, records_by_place}
-use Rattle.net_runs.specs.Termini.{TerminusState}
-use Rattle.net_runs.specs.States.{NetworkState, at_start}
-use Rattle.net_runs.specs.Events.{EventValue, Put, OutcomeValue, PutIn}
-use Rattle.net_runs.specs.Networks.{Step}
-use Rattle.net_runs.specs.Walkers.{WalkerValue, WalkedState, WalkedEvent, Happening, BeginWalk, Ask, TellWalk, WalkedOutcome, Happened, Begun, Asked, ToldWalk, WalkRefused, WalkRefusal, N08, walked_at_start, fresh_walker, with_walker, IsWalkRefused, ended_after}
-use Rattle.net_runs.specs.WalkedRuns.{WalkedHappens, WalkedStep, WalkedTurn, WalkedRunFrom, walked_after}
-use Rattle.net_runs.proofs.Records.{step_keeps, start_has_records}
-use Rattle.net_runs.proofs.Waitings.{EachWaiting, step_waiting}
-use Rattle.net_runs.proofs.UnderWay.{IsPlain}
+use Rattle.std.{proofs.Common.{◌≡◌, ◌≢◌, ◌⊎◌, ℕ, ◌+◌, ◌≤◌, List, [], ◌∷◌, Option, Some, None, refl, sym, ap, ◌∙◌, subst, inl, inr, arith, true, cond}, specs.Prelude.{option_map}, specs.List.{AllByRecursion}, proofs.lemmas.Bool.Decides.{eqb_tells}, proofs.lemmas.Option.{same_Some}}
+use Rattle.plan_values.{specs.declared.plan.Plan.{Plan}, specs.declared.certificate.Certificate.{Certificate}, specs.declared.terminus.PlannedTerminus.{PlannedTerminus}}
+use Rattle.net_tables.{specs.TwoPlans.{Tables}, specs.Repositories.{terminus_of, records_by_place}}
+use Rattle.net_runs.{specs.Termini.{TerminusState}, specs.States.{NetworkState, at_start}, specs.Events.{EventValue, Put, OutcomeValue, PutIn}, specs.Networks.{Step}, specs.Walkers.{WalkerValue, WalkedState, WalkedEvent, Happening, BeginWalk, Ask, TellWalk, WalkedOutcome, Happened, Begun, Asked, ToldWalk, WalkRefused, WalkRefusal, N08, walked_at_start, fresh_walker, with_walker, IsWalkRefused, ended_after}, specs.WalkedRuns.{WalkedHappens, WalkedStep, WalkedTurn, WalkedRunFrom, walked_after}, proofs.Records.{step_keeps, start_has_records}, proofs.Waitings.{EachWaiting, step_waiting}, proofs.UnderWay.{IsPlain}}
 
 -- two walkers ask the same under the same tag from the same node
 abbrev pub IsAlike : WalkerValue → WalkerValue → Type 0

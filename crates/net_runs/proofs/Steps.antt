@@ -1,36 +1,11 @@
 -- Whatever the event, some step is there: the network is never stuck.
-use Rattle.std.proofs.Common.{List, ◌≡◌, ℕ, ◌+◌, ◌-◌, ◌<◌, ◌≤◌, [], ◌∷◌, sym, ap, ◌∙◌, subst, Bool, true, false, Option, Some, None, refl, arith, inl, inr, length}
-use Rattle.std.specs.Prelude.{◌⊎◌, All}
-use Rattle.std.proofs.lemmas.List.Elements.{All-head}
-use Rattle.std.proofs.lemmas.Bool.{cases_lt}
-use Rattle.std.proofs.lemmas.Option.{slice_get_cases}
-use Rattle.mctp_transport.specs.PacketValues.{PacketValue, KeyValue, key_of, IsAssignable, Spelled}
-use Rattle.mctp_transport.specs.Histories.{Arrived, TimeUp}
-use Rattle.mctp_transport.specs.Cutting.{ArePacketsOf}
-use Rattle.mctp_transport.specs.PacketsLeft.{cut}
-use Rattle.mctp_transport.proofs.PacketLists.{all_packets}
-use Rattle.mctp_transport.proofs.SomeAnswers.{some_answer, open_or_not}
-use Rattle.mctp_transport.proofs.Spellings.{spelled_or_not}
-use Rattle.plan_values.specs.declared.plan.Plan.{Plan}
-use Rattle.plan_values.specs.declared.nodes.Node.{Node}
-use Rattle.plan_values.specs.declared.nodes.Row.{Row}
-use Rattle.plan_values.specs.declared.nodes.Kind.TheVariants.{Bridge, Endpoint}
-use Rattle.net_runs.proofs.Units.{least_unit}
-use Rattle.net_tables.specs.Routing.{Holds, IsBridge, node_at, eid_of, NamesFor}
-use Rattle.mctp_routing.specs.declared.decision.Decision.{Decision}
-use Rattle.mctp_routing.specs.declared.decision.ForwardFault.TheVariants.{Unassignable, NoBridge, NoRow}
-use Rattle.mctp_routing.specs.declared.decision.Decision.TheVariants.{Here, Drop, Forward}
-use Rattle.net_runs.specs.Termini.{TerminusState, WaitingMessage, AreBytes, HoldsBytes}
-use Rattle.net_runs.specs.States.{NetworkState, Flight, destination, with_flight, without_flight, with_made, with_input, with_terminus, with_packet, with_packets, with_received, with_switched, unit_of, slots, limit, rows_now}
-use Rattle.net_tables.specs.TwoPlans.{Tables}
-use Rattle.net_runs.specs.Events.{EventValue, Put, Move, Lose, Expire, AnswerAt, Switch, Refusal, N01, N02, N03, N04, N05, N06, N07, OutcomeValue, PutIn, Moved, Entered, Stopped, Lost, Expired, Answered, Silent, Switched, Refused, IsRefused, named_node, named_flight, asked_node, switched_node, bytes_put, numbers_needed, refusal_number, most_flights}
-use Rattle.net_runs.specs.Networks.{IsDecided, Moves, answer_key, Happens, HasStep}
-use Rattle.pdr_repository.specs.Answers.{Answers}
-use Rattle.pdr_repository.proofs.SomeAnswers.{SomeAnswer, some_answering}
-use Rattle.net_tables.proofs.TableLaws.{routed, named}
-use Rattle.pdr_repository.proofs.Deciding.{OrNot, both_or_not, either_or_not, less_or_not, at_most_or_not, some_and_or_not, none_or_not, empty_or_not, same_or_not}
-use Rattle.net_tables.proofs.RowSearches.{is_or_not, one_or_none}
-use Rattle.net_runs.proofs.OneOutcomes.{refusal_of, numbered}
+use Rattle.std.{proofs.Common.{List, ◌≡◌, ℕ, ◌+◌, ◌-◌, ◌<◌, ◌≤◌, [], ◌∷◌, sym, ap, ◌∙◌, subst, Bool, true, false, Option, Some, None, refl, arith, inl, inr, length}, specs.Prelude.{◌⊎◌, All}, proofs.lemmas.List.Elements.{All-head}, proofs.lemmas.Bool.{cases_lt}, proofs.lemmas.Option.{slice_get_cases}}
+use Rattle.mctp_transport.{specs.PacketValues.{PacketValue, KeyValue, key_of, IsAssignable, Spelled}, specs.Histories.{Arrived, TimeUp}, specs.Cutting.{ArePacketsOf}, specs.PacketsLeft.{cut}, proofs.PacketLists.{all_packets}, proofs.SomeAnswers.{some_answer, open_or_not}, proofs.Spellings.{spelled_or_not}}
+use Rattle.plan_values.{specs.declared.plan.Plan.{Plan}, specs.declared.nodes.Node.{Node}, specs.declared.nodes.Row.{Row}, specs.declared.nodes.Kind.TheVariants.{Bridge, Endpoint}}
+use Rattle.net_runs.{proofs.Units.{least_unit}, specs.Termini.{TerminusState, WaitingMessage, AreBytes, HoldsBytes}, specs.States.{NetworkState, Flight, destination, with_flight, without_flight, with_made, with_input, with_terminus, with_packet, with_packets, with_received, with_switched, unit_of, slots, limit, rows_now}, specs.Events.{EventValue, Put, Move, Lose, Expire, AnswerAt, Switch, Refusal, N01, N02, N03, N04, N05, N06, N07, OutcomeValue, PutIn, Moved, Entered, Stopped, Lost, Expired, Answered, Silent, Switched, Refused, IsRefused, named_node, named_flight, asked_node, switched_node, bytes_put, numbers_needed, refusal_number, most_flights}, specs.Networks.{IsDecided, Moves, answer_key, Happens, HasStep}, proofs.OneOutcomes.{refusal_of, numbered}}
+use Rattle.net_tables.{specs.Routing.{Holds, IsBridge, node_at, eid_of, NamesFor}, specs.TwoPlans.{Tables}, proofs.TableLaws.{routed, named}, proofs.RowSearches.{is_or_not, one_or_none}}
+use Rattle.mctp_routing.{specs.declared.decision.Decision.{Decision}, specs.declared.decision.ForwardFault.TheVariants.{Unassignable, NoBridge, NoRow}, specs.declared.decision.Decision.TheVariants.{Here, Drop, Forward}}
+use Rattle.pdr_repository.{specs.Answers.{Answers}, proofs.SomeAnswers.{SomeAnswer, some_answering}, proofs.Deciding.{OrNot, both_or_not, either_or_not, less_or_not, at_most_or_not, some_and_or_not, none_or_not, empty_or_not, same_or_not}}
 
 number_range : (why : Refusal) → (1 ≤ refusal_number why) × (refusal_number why ≤ 7)
 number_range N01 = (omega arith, omega arith)

@@ -1,18 +1,9 @@
 -- What holds of each packet of a key on its way to d, and of each that is collected there, is kept along a run whose
 -- puts under the key have it.
-use Rattle.std.proofs.Common.{◌≡◌, ◌⊎◌, ℕ, List, [], ◌∷◌, Some, sym, ◌∙◌, subst, inl, inr}
-use Rattle.std.specs.List.{AllByRecursion}
-use Rattle.std.proofs.lemmas.Option.{same_Some}
-use Rattle.mctp_transport.specs.PacketValues.{PacketValue, KeyValue, key_of}
-use Rattle.mctp_transport.specs.Messages.{Joined}
-use Rattle.mctp_transport.specs.Histories.{Input, Arrived, TimeUp, History, EachArrival, key_of_input, last_of, IsOpen}
-use Rattle.mctp_transport.proofs.Collecting.{collected_more, comes_from_such}
-use Rattle.net_tables.specs.TwoPlans.{Tables}
-use Rattle.net_tables.specs.Routing.{Holds}
-use Rattle.net_runs.specs.States.{NetworkState, Flight, destination, slots, limit}
-use Rattle.net_runs.specs.ExactMessages.{IsQuiet}
-use Rattle.net_runs.proofs.Nexts.{IsThere, HasMoved, IsNew, IsNext, MayBeGiven}
-use Rattle.net_runs.proofs.Promised.{TellsMessage}
+use Rattle.std.{proofs.Common.{◌≡◌, ◌⊎◌, ℕ, List, [], ◌∷◌, Some, sym, ◌∙◌, subst, inl, inr}, specs.List.{AllByRecursion}, proofs.lemmas.Option.{same_Some}}
+use Rattle.mctp_transport.{specs.PacketValues.{PacketValue, KeyValue, key_of}, specs.Messages.{Joined}, specs.Histories.{Input, Arrived, TimeUp, History, EachArrival, key_of_input, last_of, IsOpen}, proofs.Collecting.{collected_more, comes_from_such}}
+use Rattle.net_tables.{specs.TwoPlans.{Tables}, specs.Routing.{Holds}}
+use Rattle.net_runs.{specs.States.{NetworkState, Flight, destination, slots, limit}, specs.ExactMessages.{IsQuiet}, proofs.Nexts.{IsThere, HasMoved, IsNew, IsNext, MayBeGiven}, proofs.Promised.{TellsMessage}}
 
 module _ (tables : Tables) (key : KeyValue) (d : ℕ) (P : PacketValue → Type 0) where
   -- each flight of the key to d is such, and so is each packet that is collected for it where it is open

@@ -1,22 +1,10 @@
 -- Along a run termini stand only where the plan has them.
-use Rattle.std.proofs.Common.{◌≡◌, ◌≢◌, ℕ, ◌+◌, Bool, true, false, cond, List, [], ◌∷◌, Option, Some, None, sym, subst}
-use Rattle.std.specs.Prelude.{option_map}
-use Rattle.std.proofs.lemmas.Option.{none-some}
-use Rattle.mctp_transport.specs.PacketValues.{KeyValue}
-use Rattle.mctp_transport.specs.Histories.{Arrived}
-use Rattle.mctp_transport.specs.Hearing.{Answer, Whole, Held, Dropped}
+use Rattle.std.{proofs.Common.{◌≡◌, ◌≢◌, ℕ, ◌+◌, Bool, true, false, cond, List, [], ◌∷◌, Option, Some, None, sym, subst}, specs.Prelude.{option_map}, proofs.lemmas.Option.{none-some}}
+use Rattle.mctp_transport.{specs.PacketValues.{KeyValue}, specs.Histories.{Arrived}, specs.Hearing.{Answer, Whole, Held, Dropped}}
 use Rattle.mctp_routing.specs.declared.decision.Decision.TheVariants.{Here, Drop, Forward}
-use Rattle.plan_values.specs.declared.plan.Plan.{Plan}
-use Rattle.plan_values.specs.declared.certificate.Certificate.{Certificate}
-use Rattle.plan_values.specs.declared.terminus.PlannedTerminus.{PlannedTerminus}
-use Rattle.net_tables.specs.Repositories.{terminus_of, records_by_place}
-use Rattle.net_runs.specs.Termini.{TerminusState, WaitingMessage, with_waiting}
-use Rattle.net_runs.specs.States.{NetworkState, Flight, at_start, without_flight, with_made, with_input, with_terminus, with_received}
-use Rattle.net_tables.specs.TwoPlans.{Tables}
-use Rattle.net_runs.specs.Events.{EventValue, Put, Move, Lose, Expire, AnswerAt, Switch, OutcomeValue, PutIn, Moved, Entered, Stopped, Lost, Expired, Answered, Silent, Switched, Refused}
-use Rattle.net_runs.specs.Networks.{Step, Happens, Moves}
-use Rattle.net_runs.specs.Runs.{Turn, RunOf, RunFrom, after_all, reached}
-use Rattle.net_runs.proofs.Records.{with_terminus_keeps, mapped, packets_termini}
+use Rattle.plan_values.{specs.declared.plan.Plan.{Plan}, specs.declared.certificate.Certificate.{Certificate}, specs.declared.terminus.PlannedTerminus.{PlannedTerminus}}
+use Rattle.net_tables.{specs.Repositories.{terminus_of, records_by_place}, specs.TwoPlans.{Tables}}
+use Rattle.net_runs.{specs.Termini.{TerminusState, WaitingMessage, with_waiting}, specs.States.{NetworkState, Flight, at_start, without_flight, with_made, with_input, with_terminus, with_received}, specs.Events.{EventValue, Put, Move, Lose, Expire, AnswerAt, Switch, OutcomeValue, PutIn, Moved, Entered, Stopped, Lost, Expired, Answered, Silent, Switched, Refused}, specs.Networks.{Step, Happens, Moves}, specs.Runs.{Turn, RunOf, RunFrom, after_all, reached}, proofs.Records.{with_terminus_keeps, mapped, packets_termini}}
 
 -- a terminus stands only where the plan has one
 abbrev pub TerminiAreThere : Plan → NetworkState → Type 0

@@ -1,20 +1,9 @@
 -- A message that comes is told by the turn with which it comes.
-use Rattle.std.proofs.Common.{◌≡◌, ℕ, ◌+◌, true, false, List, [], ◌∷◌, length, Some, None, sym, refl, ap, ◌∙◌, subst, inl, inr, arith, length-append}
-use Rattle.std.proofs.lemmas.Bool.Decides.{eqb_tells}
-use Rattle.mctp_transport.specs.PacketValues.{PacketValue, KeyValue, key_of}
-use Rattle.mctp_transport.specs.Histories.{Input, Arrived, TimeUp, History, after, Comes}
-use Rattle.mctp_transport.specs.Hearing.{Answer, Whole, Hears}
-use Rattle.mctp_transport.proofs.Openness.{last_input}
-use Rattle.mctp_transport.proofs.FirstIndexes.{snoc_same}
-use Rattle.mctp_transport.proofs.Verdicts.{hears_one}
+use Rattle.std.{proofs.Common.{◌≡◌, ℕ, ◌+◌, true, false, List, [], ◌∷◌, length, Some, None, sym, refl, ap, ◌∙◌, subst, inl, inr, arith, length-append}, proofs.lemmas.Bool.Decides.{eqb_tells}}
+use Rattle.mctp_transport.{specs.PacketValues.{PacketValue, KeyValue, key_of}, specs.Histories.{Input, Arrived, TimeUp, History, after, Comes}, specs.Hearing.{Answer, Whole, Hears}, proofs.Openness.{last_input}, proofs.FirstIndexes.{snoc_same}, proofs.Verdicts.{hears_one}}
 use Rattle.mctp_routing.specs.declared.decision.Decision.TheVariants.{Here, Drop, Forward}
-use Rattle.net_runs.specs.States.{NetworkState, Flight, without_flight, with_made, with_input, with_terminus, slots, limit}
+use Rattle.net_runs.{specs.States.{NetworkState, Flight, without_flight, with_made, with_input, with_terminus, slots, limit}, specs.Events.{EventValue, Put, Move, Lose, Expire, AnswerAt, Switch, OutcomeValue, PutIn, Moved, Entered, Stopped, Lost, Expired, Answered, Silent, Switched, Refused}, specs.Networks.{Step, Happens, Moves}, specs.ExactMessages.{ComesAt, TellsWhatComes}, proofs.Nexts.{received_same}, proofs.AtRest.{packets_history}}
 use Rattle.net_tables.specs.TwoPlans.{Tables}
-use Rattle.net_runs.specs.Events.{EventValue, Put, Move, Lose, Expire, AnswerAt, Switch, OutcomeValue, PutIn, Moved, Entered, Stopped, Lost, Expired, Answered, Silent, Switched, Refused}
-use Rattle.net_runs.specs.Networks.{Step, Happens, Moves}
-use Rattle.net_runs.specs.ExactMessages.{ComesAt, TellsWhatComes}
-use Rattle.net_runs.proofs.Nexts.{received_same}
-use Rattle.net_runs.proofs.AtRest.{packets_history}
 
 unchanged : (h new : History) (i : Input) → new ≡ h → new ≡ after h i → ⊥
 unchanged h new i same more = omega (arith, ap length (sym same ∙ more), length-append h (i ∷ []))

@@ -1,31 +1,10 @@
 -- A flight that has a way to where its destination is held is moved on until its packet has entered there.
-use Rattle.std.proofs.Common.{◌≡◌, ◌≢◌, ◌⊎◌, ℕ, zero, suc, ◌+◌, ◌<◌, Bool, true, false, cond, map, Option, Some, None, refl, sym, ap, ◌∙◌, subst, inl, inr, arith}
-use Rattle.std.specs.Prelude.{option_map, ◌==◌, if◌then◌else◌}
-use Rattle.std.proofs.lemmas.Bool.Decides.{eqb_tells}
-use Rattle.std.proofs.lemmas.Option.{none-some}
-use Rattle.mctp_transport.specs.PacketValues.{PacketValue, KeyValue, key_of}
-use Rattle.mctp_transport.specs.Histories.{Arrived, History, after}
-use Rattle.mctp_transport.specs.Hearing.{Answer, Whole, Held, Dropped, Hears}
-use Rattle.mctp_routing.specs.declared.row.Hop.{Hop}
-use Rattle.mctp_routing.specs.Rows.{Routes}
-use Rattle.mctp_routing.specs.declared.decision.Decision.TheVariants.{Here, Forward}
+use Rattle.std.{proofs.Common.{◌≡◌, ◌≢◌, ◌⊎◌, ℕ, zero, suc, ◌+◌, ◌<◌, Bool, true, false, cond, map, Option, Some, None, refl, sym, ap, ◌∙◌, subst, inl, inr, arith}, specs.Prelude.{option_map, ◌==◌, if◌then◌else◌}, proofs.lemmas.Bool.Decides.{eqb_tells}, proofs.lemmas.Option.{none-some}}
+use Rattle.mctp_transport.{specs.PacketValues.{PacketValue, KeyValue, key_of}, specs.Histories.{Arrived, History, after}, specs.Hearing.{Answer, Whole, Held, Dropped, Hears}}
+use Rattle.mctp_routing.{specs.declared.row.Hop.{Hop}, specs.Rows.{Routes}, specs.declared.decision.Decision.TheVariants.{Here, Forward}}
 use Rattle.plan_values.specs.declared.certificate.Certificate.{Certificate}
-use Rattle.net_tables.specs.Routing.{Holds, IsBridge, NamesFor}
-use Rattle.net_tables.specs.Ranks.{rank}
-use Rattle.net_tables.specs.Tables.{table_row}
-use Rattle.net_runs.specs.States.{NetworkState, Flight, destination, with_flight, without_flight, with_input, with_terminus, with_received, slots, limit, rows_now}
-use Rattle.net_runs.specs.Termini.{TerminusState, with_waiting}
-use Rattle.net_tables.specs.TwoPlans.{Tables}
-use Rattle.net_runs.specs.Events.{Move, Moved, Entered, Refusal, N01, N02, N03, N04, N05, N06, N07, IsRefused}
-use Rattle.net_runs.specs.Networks.{Step}
-use Rattle.net_runs.specs.Walkers.{WalkerValue, WalkedState}
-use Rattle.net_runs.proofs.Delivered.{IsOnRoute}
-use Rattle.net_tables.specs.Lawful.{IsLawful}
-use Rattle.net_runs.proofs.RowsNow.{row_now}
-use Rattle.net_runs.proofs.Nexts.{received_same}
-use Rattle.net_runs.proofs.Reaching.{Reaches, stays_there, reaches_on, network_turn}
-use Rattle.net_runs.proofs.Steps.{holds_or_not}
-use Rattle.net_tables.proofs.TableLaws.{routed, named}
+use Rattle.net_tables.{specs.Routing.{Holds, IsBridge, NamesFor}, specs.Ranks.{rank}, specs.Tables.{table_row}, specs.TwoPlans.{Tables}, specs.Lawful.{IsLawful}, proofs.TableLaws.{routed, named}}
+use Rattle.net_runs.{specs.States.{NetworkState, Flight, destination, with_flight, without_flight, with_input, with_terminus, with_received, slots, limit, rows_now}, specs.Termini.{TerminusState, with_waiting}, specs.Events.{Move, Moved, Entered, Refusal, N01, N02, N03, N04, N05, N06, N07, IsRefused}, specs.Networks.{Step}, specs.Walkers.{WalkerValue, WalkedState}, proofs.Delivered.{IsOnRoute}, proofs.RowsNow.{row_now}, proofs.Nexts.{received_same}, proofs.Reaching.{Reaches, stays_there, reaches_on, network_turn}, proofs.Steps.{holds_or_not}}
 
 -- the flights but one are as before, and all else is
 pub record IsSameBut (k : ℕ) (w new : NetworkState) : Type 0 where

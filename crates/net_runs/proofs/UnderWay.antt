@@ -1,35 +1,12 @@
 -- While a request of a walker is outstanding: what is on its way and what waits under its keys is of that request and
 -- of the answer to it.
-use Rattle.std.proofs.Common.{◌≡◌, ℕ, ◌<◌, true, false, List, Some, refl, sym, ap, ◌∙◌, subst, inl, inr, arith}
-use Rattle.std.specs.List.{AllByRecursion}
-use Rattle.std.proofs.lemmas.Option.{same_Some}
-use Rattle.mctp_transport.specs.PacketValues.{PacketValue, KeyValue, key_of, Spelled}
-use Rattle.mctp_transport.specs.Sending.{IsPacketOf}
-use Rattle.mctp_transport.proofs.Sending.{joins_to_itself}
-use Rattle.pldm_message.specs.Pdrs.{PartRequest, IsPartRequest, get_pdr_request_bytes, get_pdr_answer_bytes, Part}
-use Rattle.pldm_message.specs.Messages.{ResponseMessage}
-use Rattle.pdr_repository.specs.Records.{Entry, IsLawful}
-use Rattle.pdr_repository.specs.Parts.{PartAnswer, AnswersPart}
-use Rattle.pdr_repository.specs.Answers.{Answers}
-use Rattle.pdr_repository.specs.Walkers.{asked_under, IsAnswerIn, AnswersWalker}
-use Rattle.pdr_repository.proofs.Meeting.{requests_are_answered}
-use Rattle.plan_values.specs.declared.plan.Plan.{Plan}
-use Rattle.net_runs.proofs.Units.{least_unit}
-use Rattle.net_tables.specs.TwoPlans.{Tables}
-use Rattle.plan_values.specs.declared.certificate.Certificate.{Certificate}
-use Rattle.net_tables.specs.Routing.{Holds}
-use Rattle.net_tables.specs.Repositories.{records_by_place}
-use Rattle.net_runs.specs.Termini.{WaitingMessage}
-use Rattle.net_runs.specs.States.{NetworkState, unit_of}
-use Rattle.net_runs.specs.Events.{EventValue, Put, OutcomeValue, PutIn}
-use Rattle.net_runs.specs.Networks.{Step, answer_key}
-use Rattle.net_runs.specs.Runs.{IsPutOf}
-use Rattle.net_runs.specs.Headline.{HasPlannedRecords}
-use Rattle.net_runs.proofs.Nexts.{step_is_next}
-use Rattle.net_runs.proofs.Promised.{step_tells, TellsMessage}
-use Rattle.net_runs.proofs.Such.{AreSuch, PutsSuch, next_are_such, told_joins_such}
-use Rattle.net_runs.proofs.Waitings.{EachWaiting, IsToldAt, step_waiting}
-use Rattle.net_runs.proofs.AnswerPuts.{IsOfAnswer, put_is_by}
+use Rattle.std.{proofs.Common.{◌≡◌, ℕ, ◌<◌, true, false, List, Some, refl, sym, ap, ◌∙◌, subst, inl, inr, arith}, specs.List.{AllByRecursion}, proofs.lemmas.Option.{same_Some}}
+use Rattle.mctp_transport.{specs.PacketValues.{PacketValue, KeyValue, key_of, Spelled}, specs.Sending.{IsPacketOf}, proofs.Sending.{joins_to_itself}}
+use Rattle.pldm_message.{specs.Pdrs.{PartRequest, IsPartRequest, get_pdr_request_bytes, get_pdr_answer_bytes, Part}, specs.Messages.{ResponseMessage}}
+use Rattle.pdr_repository.{specs.Records.{Entry, IsLawful}, specs.Parts.{PartAnswer, AnswersPart}, specs.Answers.{Answers}, specs.Walkers.{asked_under, IsAnswerIn, AnswersWalker}, proofs.Meeting.{requests_are_answered}}
+use Rattle.plan_values.{specs.declared.plan.Plan.{Plan}, specs.declared.certificate.Certificate.{Certificate}}
+use Rattle.net_runs.{proofs.Units.{least_unit}, specs.Termini.{WaitingMessage}, specs.States.{NetworkState, unit_of}, specs.Events.{EventValue, Put, OutcomeValue, PutIn}, specs.Networks.{Step, answer_key}, specs.Runs.{IsPutOf}, specs.Headline.{HasPlannedRecords}, proofs.Nexts.{step_is_next}, proofs.Promised.{step_tells, TellsMessage}, proofs.Such.{AreSuch, PutsSuch, next_are_such, told_joins_such}, proofs.Waitings.{EachWaiting, IsToldAt, step_waiting}, proofs.AnswerPuts.{IsOfAnswer, put_is_by}}
+use Rattle.net_tables.{specs.TwoPlans.{Tables}, specs.Routing.{Holds}, specs.Repositories.{records_by_place}}
 
 -- the message of an answer
 abbrev pub answer_under : ℕ → PartAnswer → ResponseMessage Part

@@ -1,8 +1,7 @@
 -- The bounds of a plan's transmission unit, and of a part whose answer is of five packets at most.
 use Rattle.std.proofs.Common.{ℕ, ◌+◌, ◌*◌, ◌≤◌, arith}
 use Rattle.plan_values.specs.declared.plan.Plan.{Plan}
-use Rattle.net_runs.specs.States.{unit_of}
-use Rattle.net_runs.specs.Walkers.{five_packets}
+use Rattle.net_runs.{specs.States.{unit_of}, specs.Walkers.{five_packets}}
 
 pub least_unit : (plan : Plan) → 64 ≤ unit_of plan
 least_unit plan = plan.least_unit

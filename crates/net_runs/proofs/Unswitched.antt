@@ -1,22 +1,10 @@
 -- Before any switch, a network that moves to new tables does what the network of the old plan does.
-use Rattle.std.proofs.Common.{◌≡◌, ◌≢◌, ◌↔◌, ℕ, ◌+◌, Bool, true, false, cond, List, [], ◌∷◌, Option, Some, None, sym, refl, ap, ◌∙◌, subst}
-use Rattle.std.specs.Prelude.{option_map}
-use Rattle.std.specs.List.{AllByRecursion}
-use Rattle.std.proofs.lemmas.List.Elements.{recursion_from_All}
-use Rattle.mctp_transport.specs.PacketValues.{PacketValue, KeyValue}
-use Rattle.mctp_transport.specs.Histories.{Arrived}
-use Rattle.mctp_transport.specs.Hearing.{Answer, Whole, Held, Dropped}
+use Rattle.std.{proofs.Common.{◌≡◌, ◌≢◌, ◌↔◌, ℕ, ◌+◌, Bool, true, false, cond, List, [], ◌∷◌, Option, Some, None, sym, refl, ap, ◌∙◌, subst}, specs.Prelude.{option_map}, specs.List.{AllByRecursion}, proofs.lemmas.List.Elements.{recursion_from_All}}
+use Rattle.mctp_transport.{specs.PacketValues.{PacketValue, KeyValue}, specs.Histories.{Arrived}, specs.Hearing.{Answer, Whole, Held, Dropped}}
 use Rattle.mctp_routing.specs.declared.decision.Decision.TheVariants.{Here, Drop, Forward}
-use Rattle.plan_values.specs.declared.plan.Plan.{Plan}
-use Rattle.plan_values.specs.declared.nodes.Row.{Row}
-use Rattle.plan_values.specs.declared.certificate.Certificate.{Certificate}
-use Rattle.net_tables.specs.Routing.{rows_of}
-use Rattle.net_tables.specs.TwoPlans.{Tables, moving, rows_by}
-use Rattle.net_runs.specs.Termini.{with_waiting}
-use Rattle.net_runs.specs.States.{NetworkState, Flight, at_start, without_flight, with_made, with_input, with_terminus, with_packet, with_packets, with_received}
-use Rattle.net_runs.specs.Events.{EventValue, Put, Move, Lose, Expire, AnswerAt, Switch, Refusal, N01, N02, N03, N04, N05, N06, N07, OutcomeValue, PutIn, Moved, Entered, Stopped, Lost, Expired, Answered, Silent, Switched, Refused, IsRefused}
-use Rattle.net_runs.specs.Networks.{Step, Happens, Moves, IsDecided}
-use Rattle.net_runs.specs.Runs.{Turn, Run, RunOf, RunFrom, NoneSwitches}
+use Rattle.plan_values.{specs.declared.plan.Plan.{Plan}, specs.declared.nodes.Row.{Row}, specs.declared.certificate.Certificate.{Certificate}}
+use Rattle.net_tables.{specs.Routing.{rows_of}, specs.TwoPlans.{Tables, moving, rows_by}}
+use Rattle.net_runs.{specs.Termini.{with_waiting}, specs.States.{NetworkState, Flight, at_start, without_flight, with_made, with_input, with_terminus, with_packet, with_packets, with_received}, specs.Events.{EventValue, Put, Move, Lose, Expire, AnswerAt, Switch, Refusal, N01, N02, N03, N04, N05, N06, N07, OutcomeValue, PutIn, Moved, Entered, Stopped, Lost, Expired, Answered, Silent, Switched, Refused, IsRefused}, specs.Networks.{Step, Happens, Moves, IsDecided}, specs.Runs.{Turn, Run, RunOf, RunFrom, NoneSwitches}}
 
 abbrev pub IsNoSwitch : EventValue → Type 0
 IsNoSwitch event = (node : ℕ) → event ≢ Switch node

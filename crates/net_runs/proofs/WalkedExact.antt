@@ -1,22 +1,8 @@
 -- In a tidy rest of a run with walkers each message that comes is the one that was sent.
-use Rattle.std.proofs.Common.{◌≡◌, ◌⊎◌, ℕ, List, [], ◌∷◌, refl, sym, subst, inl, inr}
-use Rattle.std.specs.List.{AllByRecursion}
-use Rattle.std.proofs.lemmas.List.Elements.{All-from_recursion}
-use Rattle.mctp_transport.specs.PacketValues.{KeyValue}
-use Rattle.mctp_transport.specs.Hearing.{Whole}
-use Rattle.mctp_transport.proofs.Sending.{joins_to_itself}
+use Rattle.std.{proofs.Common.{◌≡◌, ◌⊎◌, ℕ, List, [], ◌∷◌, refl, sym, subst, inl, inr}, specs.List.{AllByRecursion}, proofs.lemmas.List.Elements.{All-from_recursion}}
+use Rattle.mctp_transport.{specs.PacketValues.{KeyValue}, specs.Hearing.{Whole}, proofs.Sending.{joins_to_itself}}
 use Rattle.net_tables.specs.TwoPlans.{Tables}
-use Rattle.net_runs.specs.States.{NetworkState}
-use Rattle.net_runs.specs.Events.{Entered}
-use Rattle.net_runs.specs.Runs.{IsPutOf}
-use Rattle.net_runs.specs.ExactMessages.{Epoch, IsOfEpoch, IsQuiet}
-use Rattle.net_runs.specs.Walkers.{WalkedState, WalkedOutcome}
-use Rattle.net_runs.specs.WalkedRuns.{WalkedStep, WalkedRunFrom}
-use Rattle.net_runs.specs.WalkedMessages.{WalkedTurnOfEpoch, IsWalkedTidyFrom, walked_turns_of, TellsWalkedAsSent, WalkedRunsAsSent}
-use Rattle.net_runs.proofs.Nexts.{step_is_next}
-use Rattle.net_runs.proofs.Promised.{step_tells}
-use Rattle.net_runs.proofs.Such.{AreSuch, quiet_are_such, next_are_such, told_joins_such}
-use Rattle.net_runs.proofs.Below.{turn_below, happened_below, puts_alike}
+use Rattle.net_runs.{specs.States.{NetworkState}, specs.Events.{Entered}, specs.Runs.{IsPutOf}, specs.ExactMessages.{Epoch, IsOfEpoch, IsQuiet}, specs.Walkers.{WalkedState, WalkedOutcome}, specs.WalkedRuns.{WalkedStep, WalkedRunFrom}, specs.WalkedMessages.{WalkedTurnOfEpoch, IsWalkedTidyFrom, walked_turns_of, TellsWalkedAsSent, WalkedRunsAsSent}, proofs.Nexts.{step_is_next}, proofs.Promised.{step_tells}, proofs.Such.{AreSuch, quiet_are_such, next_are_such, told_joins_such}, proofs.Below.{turn_below, happened_below, puts_alike}}
 
 module _ (unit : ℕ) (tables : Tables) (key : KeyValue) (d : ℕ) where
   abbrev Exact : Epoch → NetworkState → Type 0

@@ -1,46 +1,12 @@
 -- Along each run with walkers in which bytes are put in, the network has what it needs in order to go on.
-use Rattle.std.proofs.Common.{◌≡◌, ◌≢◌, ◌⊎◌, ℕ, zero, suc, ◌<◌, ◌≤◌, ◌^◌, Bool, true, false, List, [], ◌∷◌, ◌++◌, Option, Some, None, Result, Ok, Err, refl, sym, ap, ◌∙◌, subst, inl, inr, arith}
-use Rattle.std.specs.Prelude.{MatchResult, slice_index}
-use Rattle.std.specs.List.{AllByRecursion}
-use Rattle.std.proofs.lemmas.Bool.{cases_lt}
-use Rattle.std.proofs.lemmas.Bool.Decides.{eqb_tells}
-use Rattle.std.proofs.lemmas.List.{append-nil}
-use Rattle.std.proofs.lemmas.List.Elements.{recursion_from_All}
-use Rattle.std.proofs.lemmas.Option.{same_Some}
-use Rattle.mctp_transport.specs.Bits.{bit_most}
-use Rattle.mctp_transport.specs.PacketValues.{PacketValue, IsPacketValue, packet_value_bytes}
-use Rattle.mctp_transport.specs.Hearing.{Whole}
-use Rattle.mctp_transport.proofs.PacketLists.{joined_payloads}
-use Rattle.pldm_message.specs.InstanceIds.{IdSet, Gives, TakesBack}
-use Rattle.pldm_message.specs.Messages.{ResponseHeadValue}
-use Rattle.pldm_message.specs.Pdrs.{PartRequest, IsPartRequest, Part, IsPart, part_numbers, get_pdr_request_bytes}
-use Rattle.std.specs.Option.{option_to_list}
-use Rattle.pdr_repository.specs.Records.{change_in}
-use Rattle.pdr_repository.specs.Parts.{PartAnswer}
-use Rattle.pdr_repository.specs.Walks.{first_part, follows}
-use Rattle.pdr_repository.specs.declared.walk_fault.Step.{Step as WalkStep}
-use Rattle.pdr_repository.specs.declared.walk_fault.WalkFault.{WalkFault}
-use Rattle.pdr_repository.specs.Walkers.{WalkState, asked_under, Asks, IsAnswerIn, Takes, TakesOutcome, Proceeds, Fails}
-use Rattle.plan_values.specs.declared.plan.Plan.{Plan}
-use Rattle.plan_values.specs.declared.certificate.Certificate.{Certificate}
-use Rattle.net_runs.proofs.Units.{part_fits}
-use Rattle.net_tables.specs.Routing.{Holds}
-use Rattle.net_runs.specs.Termini.{AreBytes}
-use Rattle.net_runs.specs.States.{NetworkState, unit_of}
-use Rattle.net_tables.specs.TwoPlans.{Tables}
-use Rattle.net_runs.specs.Events.{EventValue, Put, OutcomeValue, PutIn, N01}
-use Rattle.net_runs.specs.ByteRuns.{RecordsAreBytes}
+use Rattle.std.{proofs.Common.{◌≡◌, ◌≢◌, ◌⊎◌, ℕ, zero, suc, ◌<◌, ◌≤◌, ◌^◌, Bool, true, false, List, [], ◌∷◌, ◌++◌, Option, Some, None, Result, Ok, Err, refl, sym, ap, ◌∙◌, subst, inl, inr, arith}, specs.Prelude.{MatchResult, slice_index}, specs.List.{AllByRecursion}, proofs.lemmas.Bool.{cases_lt}, proofs.lemmas.Bool.Decides.{eqb_tells}, proofs.lemmas.List.{append-nil}, proofs.lemmas.List.Elements.{recursion_from_All}, proofs.lemmas.Option.{same_Some}, specs.Option.{option_to_list}}
+use Rattle.mctp_transport.{specs.Bits.{bit_most}, specs.PacketValues.{PacketValue, IsPacketValue, packet_value_bytes}, specs.Hearing.{Whole}, proofs.PacketLists.{joined_payloads}}
+use Rattle.pldm_message.{specs.InstanceIds.{IdSet, Gives, TakesBack}, specs.Messages.{ResponseHeadValue}, specs.Pdrs.{PartRequest, IsPartRequest, Part, IsPart, part_numbers, get_pdr_request_bytes}}
+use Rattle.pdr_repository.{specs.Records.{change_in}, specs.Parts.{PartAnswer}, specs.Walks.{first_part, follows}, specs.declared.walk_fault.Step.{Step as WalkStep}, specs.declared.walk_fault.WalkFault.{WalkFault}, specs.Walkers.{WalkState, asked_under, Asks, IsAnswerIn, Takes, TakesOutcome, Proceeds, Fails}, proofs.SomeAnswers.{EachByte}}
+use Rattle.plan_values.{specs.declared.plan.Plan.{Plan}, specs.declared.certificate.Certificate.{Certificate}}
+use Rattle.net_runs.{proofs.Units.{part_fits}, specs.Termini.{AreBytes}, specs.States.{NetworkState, unit_of}, specs.Events.{EventValue, Put, OutcomeValue, PutIn, N01}, specs.ByteRuns.{RecordsAreBytes}, specs.Walkers.{WalkerValue, WalkedState, WalkedEvent, Happening, BeginWalk, Ask, TellWalk, WalkRefusal, Also, N09, N10, WalkedOutcome, Happened, Begun, Asked, ToldWalk, WalkRefused, walked_at_start, fresh_walker, with_walker, IsWalkRefused, answering_key, AreSettled, ended_after, five_packets}, specs.WalkedRuns.{IsAsking, WalkedHappens, WalkedStep, WalkedTurn, WalkedRunFrom, walked_after, walked_reached}, specs.WalkedGoing.{HasNumberedFlights, IsLawfulWalker, CanGoOn, EidsAreBytes, WalkedRunsGoOn}, proofs.ByteRuns.{IsByteNetwork, are_bytes, start_bytes, step_bytes, whole_bytes}, proofs.Nexts.{step_is_next}, proofs.Promised.{step_tells}, proofs.Soundness.{changed}, proofs.Steps.{holds_some}, proofs.WalkedSteps.{walked_some_step}}
+use Rattle.net_tables.{specs.Routing.{Holds}, specs.TwoPlans.{Tables}}
 use Rattle.net_runs.specs.Networks as network
-use Rattle.net_runs.specs.Walkers.{WalkerValue, WalkedState, WalkedEvent, Happening, BeginWalk, Ask, TellWalk, WalkRefusal, Also, N09, N10, WalkedOutcome, Happened, Begun, Asked, ToldWalk, WalkRefused, walked_at_start, fresh_walker, with_walker, IsWalkRefused, answering_key, AreSettled, ended_after, five_packets}
-use Rattle.net_runs.specs.WalkedRuns.{IsAsking, WalkedHappens, WalkedStep, WalkedTurn, WalkedRunFrom, walked_after, walked_reached}
-use Rattle.net_runs.specs.WalkedGoing.{HasNumberedFlights, IsLawfulWalker, CanGoOn, EidsAreBytes, WalkedRunsGoOn}
-use Rattle.pdr_repository.proofs.SomeAnswers.{EachByte}
-use Rattle.net_runs.proofs.ByteRuns.{IsByteNetwork, are_bytes, start_bytes, step_bytes, whole_bytes}
-use Rattle.net_runs.proofs.Nexts.{step_is_next}
-use Rattle.net_runs.proofs.Promised.{step_tells}
-use Rattle.net_runs.proofs.Soundness.{changed}
-use Rattle.net_runs.proofs.Steps.{holds_some}
-use Rattle.net_runs.proofs.WalkedSteps.{walked_some_step}
 
 -- ---- a walker that is kept
 

@@ -1,23 +1,9 @@
 -- What is promised of all runs of the network holds of all runs with walkers.
-use Rattle.std.proofs.Common.{◌≡◌, ◌≢◌, ◌⊎◌, ℕ, ◌+◌, ◌≤◌, List, [], ◌∷◌, ◌++◌, length, Option, Some, refl, sym, ap, ◌∙◌, subst, inl, inr}
-use Rattle.std.proofs.lemmas.List.Elements.{All-from_recursion, recursion_from_All, All-weaker}
-use Rattle.mctp_transport.specs.PacketValues.{PacketValue, KeyValue, key_of}
-use Rattle.mctp_transport.specs.Histories.{Comes}
-use Rattle.mctp_transport.specs.Hearing.{Whole}
+use Rattle.std.{proofs.Common.{◌≡◌, ◌≢◌, ◌⊎◌, ℕ, ◌+◌, ◌≤◌, List, [], ◌∷◌, ◌++◌, length, Option, Some, refl, sym, ap, ◌∙◌, subst, inl, inr}, proofs.lemmas.List.Elements.{All-from_recursion, recursion_from_All, All-weaker}}
+use Rattle.mctp_transport.{specs.PacketValues.{PacketValue, KeyValue, key_of}, specs.Histories.{Comes}, specs.Hearing.{Whole}}
 use Rattle.plan_values.specs.declared.certificate.Certificate.{Certificate}
-use Rattle.net_tables.specs.Routing.{Holds}
-use Rattle.net_tables.specs.Ranks.{rank}
-use Rattle.net_runs.specs.States.{NetworkState, Flight, destination, at_start, slots, limit}
-use Rattle.net_tables.specs.TwoPlans.{Tables}
-use Rattle.net_runs.specs.Events.{EventValue, Move, OutcomeValue, Entered, Stopped, Lost}
-use Rattle.net_runs.specs.Runs.{Turn, RunFrom, RunOf, after_all, reached, WasPutIn}
-use Rattle.net_runs.specs.Headline.{EntersItsHolderOnly, StaysWithinHops, JoinsPackets, HasPlannedRecords, HeadlineOf}
-use Rattle.net_runs.specs.Deliveries.{IsDeliverable, moves_of, IsNotLost, HasEntered, DeliversBy}
-use Rattle.net_runs.specs.Walkers.{WalkedState, WalkedEvent, Happening, WalkedOutcome, Happened, Handed, walked_at_start}
-use Rattle.net_runs.specs.WalkedRuns.{WalkedStep, WalkedTurn, WalkedRunOf, walked_after}
-use Rattle.net_runs.specs.Below.{HasRunBelow}
-use Rattle.net_runs.specs.WalkedPromises.{WasPutInWalked, JoinsPacketsWalked, network_reached, WalkedHeadline, walked_moves_of, IsNotLostWalked, HasEnteredWalked, IsOnItsWayWalked, WalkedDelivers}
-use Rattle.net_runs.proofs.Below.{runs_below, walked_splits, walked_after_splits, run_joins, after_joins, happened_below, puts_below, moves_below, not_lost_below, entered_below}
+use Rattle.net_tables.{specs.Routing.{Holds}, specs.Ranks.{rank}, specs.TwoPlans.{Tables}}
+use Rattle.net_runs.{specs.States.{NetworkState, Flight, destination, at_start, slots, limit}, specs.Events.{EventValue, Move, OutcomeValue, Entered, Stopped, Lost}, specs.Runs.{Turn, RunFrom, RunOf, after_all, reached, WasPutIn}, specs.Headline.{EntersItsHolderOnly, StaysWithinHops, JoinsPackets, HasPlannedRecords, HeadlineOf}, specs.Deliveries.{IsDeliverable, moves_of, IsNotLost, HasEntered, DeliversBy}, specs.Walkers.{WalkedState, WalkedEvent, Happening, WalkedOutcome, Happened, Handed, walked_at_start}, specs.WalkedRuns.{WalkedStep, WalkedTurn, WalkedRunOf, walked_after}, specs.Below.{HasRunBelow}, specs.WalkedPromises.{WasPutInWalked, JoinsPacketsWalked, network_reached, WalkedHeadline, walked_moves_of, IsNotLostWalked, HasEnteredWalked, IsOnItsWayWalked, WalkedDelivers}, proofs.Below.{runs_below, walked_splits, walked_after_splits, run_joins, after_joins, happened_below, puts_below, moves_below, not_lost_below, entered_below}}
 
 same_event : (a b : EventValue) → ◌≡◌ {A = WalkedEvent} (Happening a) (Happening b) → a ≡ b
 same_event a b e = cc

@@ -1,35 +1,12 @@
 -- Whatever the event, some step of a network with walkers is there.
-use Rattle.std.proofs.Common.{◌≡◌, ◌⊎◌, ℕ, zero, suc, ◌+◌, ◌-◌, ◌<◌, ◌≤◌, Bool, true, false, not, ◌&&◌, ◌||◌, nat_eq, List, [], ◌∷◌, length, Option, Some, None, Result, Ok, Err, refl, sym, ap, ◌∙◌, subst, inl, inr, arith}
-use Rattle.std.specs.Prelude.{IsSomeAnd, MatchResult}
-use Rattle.std.proofs.lemmas.Option.{same_Some}
-use Rattle.mctp_transport.specs.PacketValues.{PacketValue, KeyValue, IsPacketValue, packet_value_bytes}
-use Rattle.mctp_transport.specs.Cutting.{ArePacketsOf}
-use Rattle.mctp_transport.specs.Hearing.{Whole, Held, Dropped}
-use Rattle.mctp_transport.proofs.PacketLists.{payload_at}
-use Rattle.mctp_transport.proofs.Sending.{few_packets, many_packets}
-use Rattle.pldm_message.specs.InstanceIds.{IdSet, IsFree, Gives, TakesBack, first_place, steps_to}
-use Rattle.pldm_message.specs.Pdrs.{PartRequest, get_pdr_request_bytes}
-use Rattle.pdr_repository.specs.declared.walk_fault.Step.{Step as WalkStep}
-use Rattle.pdr_repository.specs.declared.walk_fault.WalkFault.{WalkFault}
-use Rattle.pdr_repository.specs.Walkers.{asked_under}
+use Rattle.std.{proofs.Common.{◌≡◌, ◌⊎◌, ℕ, zero, suc, ◌+◌, ◌-◌, ◌<◌, ◌≤◌, Bool, true, false, not, ◌&&◌, ◌||◌, nat_eq, List, [], ◌∷◌, length, Option, Some, None, Result, Ok, Err, refl, sym, ap, ◌∙◌, subst, inl, inr, arith}, specs.Prelude.{IsSomeAnd, MatchResult}, proofs.lemmas.Option.{same_Some}}
+use Rattle.mctp_transport.{specs.PacketValues.{PacketValue, KeyValue, IsPacketValue, packet_value_bytes}, specs.Cutting.{ArePacketsOf}, specs.Hearing.{Whole, Held, Dropped}, proofs.PacketLists.{payload_at}, proofs.Sending.{few_packets, many_packets}}
+use Rattle.pldm_message.{specs.InstanceIds.{IdSet, IsFree, Gives, TakesBack, first_place, steps_to}, specs.Pdrs.{PartRequest, get_pdr_request_bytes}}
+use Rattle.pdr_repository.{specs.declared.walk_fault.Step.{Step as WalkStep}, specs.declared.walk_fault.WalkFault.{WalkFault}, specs.Walkers.{asked_under}, proofs.Deciding.{OrNot, both_or_not, either_or_not, not_or_not, same_or_not, less_or_not, at_most_or_not, some_and_or_not, none_or_not, implied_or_not}, proofs.Searching.{search_below, all_or_not, least_below, three_or_not}, proofs.SomeTakings.{takes_something}}
 use Rattle.plan_values.specs.declared.plan.Plan.{Plan}
-use Rattle.net_runs.proofs.Units.{least_unit}
-use Rattle.net_tables.specs.Routing.{Holds}
-use Rattle.net_runs.specs.States.{NetworkState, with_packet, unit_of}
-use Rattle.net_tables.specs.TwoPlans.{Tables}
-use Rattle.net_runs.specs.Events.{EventValue, Put, OutcomeValue, PutIn, Moved, Entered, Stopped, Lost, Expired, Answered, Silent, Switched, Refused, Refusal, N01, N02, N03, N04, N05, N06, N07, IsRefused, most_flights}
+use Rattle.net_runs.{proofs.Units.{least_unit}, specs.States.{NetworkState, with_packet, unit_of}, specs.Events.{EventValue, Put, OutcomeValue, PutIn, Moved, Entered, Stopped, Lost, Expired, Answered, Silent, Switched, Refused, Refusal, N01, N02, N03, N04, N05, N06, N07, IsRefused, most_flights}, specs.Walkers.{WalkerValue, WalkedState, WalkedEvent, Happening, BeginWalk, Ask, TellWalk, WalkRefusal, Also, N08, N09, N10, N11, N12, N13, Happened, Begun, Asked, ToldWalk, WalkRefused, IsThere, IsOver, MustWait, IsWalkRefused, walk_refusal_number, IsFirstWalkRefusal, fresh_walker, with_walker, asking_key, answering_key, AreSettled, ended_after, standing_of, five_packets}, specs.WalkedRuns.{IsAsking, IsFor}, specs.WalkedGoing.{IsLawfulWalker, CanGoOn, WalkedGoesOn}, proofs.SettledOrNot.{both_settled_or_not, key_or_not}, proofs.Sent.{message_packets}, proofs.Steps.{some_step, holds_or_not, true_or_not}, proofs.FirstAsks.{never_refused}}
+use Rattle.net_tables.{specs.Routing.{Holds}, specs.TwoPlans.{Tables}, proofs.Elements.{holder_within}}
 use Rattle.net_runs.specs.Networks as network
-use Rattle.net_runs.specs.Walkers.{WalkerValue, WalkedState, WalkedEvent, Happening, BeginWalk, Ask, TellWalk, WalkRefusal, Also, N08, N09, N10, N11, N12, N13, Happened, Begun, Asked, ToldWalk, WalkRefused, IsThere, IsOver, MustWait, IsWalkRefused, walk_refusal_number, IsFirstWalkRefusal, fresh_walker, with_walker, asking_key, answering_key, AreSettled, ended_after, standing_of, five_packets}
-use Rattle.net_runs.specs.WalkedRuns.{IsAsking, IsFor}
-use Rattle.net_runs.specs.WalkedGoing.{IsLawfulWalker, CanGoOn, WalkedGoesOn}
-use Rattle.pdr_repository.proofs.Deciding.{OrNot, both_or_not, either_or_not, not_or_not, same_or_not, less_or_not, at_most_or_not, some_and_or_not, none_or_not, implied_or_not}
-use Rattle.pdr_repository.proofs.Searching.{search_below, all_or_not, least_below, three_or_not}
-use Rattle.net_runs.proofs.SettledOrNot.{both_settled_or_not, key_or_not}
-use Rattle.pdr_repository.proofs.SomeTakings.{takes_something}
-use Rattle.net_runs.proofs.Sent.{message_packets}
-use Rattle.net_runs.proofs.Steps.{some_step, holds_or_not, true_or_not}
-use Rattle.net_runs.proofs.FirstAsks.{never_refused}
-use Rattle.net_tables.proofs.Elements.{holder_within}
 
 -- ---- the least refusal
 

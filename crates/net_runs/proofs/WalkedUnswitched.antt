@@ -1,15 +1,8 @@
 -- Before any switch, a network with walkers that moves to new tables does what that of the old plan does.
-use Rattle.std.proofs.Common.{◌≡◌, ◌≢◌, ◌↔◌, ℕ, List, [], ◌∷◌, Option, Some, None, refl, ap, ◌∙◌}
-use Rattle.std.specs.List.{AllByRecursion}
-use Rattle.std.proofs.lemmas.List.Elements.{recursion_from_All}
-use Rattle.plan_values.specs.declared.plan.Plan.{Plan}
-use Rattle.plan_values.specs.declared.certificate.Certificate.{Certificate}
+use Rattle.std.{proofs.Common.{◌≡◌, ◌≢◌, ◌↔◌, ℕ, List, [], ◌∷◌, Option, Some, None, refl, ap, ◌∙◌}, specs.List.{AllByRecursion}, proofs.lemmas.List.Elements.{recursion_from_All}}
+use Rattle.plan_values.{specs.declared.plan.Plan.{Plan}, specs.declared.certificate.Certificate.{Certificate}}
 use Rattle.net_tables.specs.TwoPlans.{moving}
-use Rattle.net_runs.specs.States.{NetworkState}
-use Rattle.net_runs.specs.Events.{Put, Switch, PutIn}
-use Rattle.net_runs.specs.Walkers.{WalkerValue, WalkedState, WalkedEvent, Happening, BeginWalk, Ask, TellWalk, WalkedOutcome, Happened, Begun, Asked, ToldWalk, WalkRefused, walked_at_start}
-use Rattle.net_runs.specs.WalkedRuns.{IsAsking, WalkedHappens, WalkedStep, WalkedTurn, WalkedRunFrom, WalkedRunOf, WalkedRun, NoneSwitchesWalked}
-use Rattle.net_runs.proofs.Unswitched.{IsUnswitched, of, step_also, step_switched}
+use Rattle.net_runs.{specs.States.{NetworkState}, specs.Events.{Put, Switch, PutIn}, specs.Walkers.{WalkerValue, WalkedState, WalkedEvent, Happening, BeginWalk, Ask, TellWalk, WalkedOutcome, Happened, Begun, Asked, ToldWalk, WalkRefused, walked_at_start}, specs.WalkedRuns.{IsAsking, WalkedHappens, WalkedStep, WalkedTurn, WalkedRunFrom, WalkedRunOf, WalkedRun, NoneSwitchesWalked}, proofs.Unswitched.{IsUnswitched, of, step_also, step_switched}}
 
 abbrev IsNoWalkedSwitch : WalkedEvent → Type 0
 IsNoWalkedSwitch event = (node : ℕ) → event ≢ Happening (Switch node)

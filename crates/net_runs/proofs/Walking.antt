@@ -1,34 +1,12 @@
 -- One walker along a run: the exchanges that it has taken are a walk.
-use Rattle.std.proofs.Common.{◌≡◌, ◌≢◌, ◌⊎◌, ℕ, ◌+◌, ◌*◌, ◌≤◌, true, false, List, [], ◌∷◌, ◌++◌, length, Option, Some, None, Result, Ok, Err, refl, sym, ap, ◌∙◌, subst, inl, inr, arith}
-use Rattle.std.specs.Prelude.{MatchResult}
-use Rattle.std.proofs.lemmas.List.{length_push}
-use Rattle.std.proofs.lemmas.Option.{same_Some}
-use Rattle.mctp_transport.specs.PacketValues.{KeyValue}
-use Rattle.mctp_transport.specs.Hearing.{Whole}
+use Rattle.std.{proofs.Common.{◌≡◌, ◌≢◌, ◌⊎◌, ℕ, ◌+◌, ◌*◌, ◌≤◌, true, false, List, [], ◌∷◌, ◌++◌, length, Option, Some, None, Result, Ok, Err, refl, sym, ap, ◌∙◌, subst, inl, inr, arith}, specs.Prelude.{MatchResult}, proofs.lemmas.List.{length_push}, proofs.lemmas.Option.{same_Some}}
+use Rattle.mctp_transport.{specs.PacketValues.{KeyValue}, specs.Hearing.{Whole}}
 use Rattle.pldm_message.specs.Pdrs.{PartRequest}
-use Rattle.pdr_repository.specs.Records.{IsLawful}
-use Rattle.pdr_repository.specs.Parts.{PartAnswer, AnswersPart}
-use Rattle.pdr_repository.specs.Walks.{Exchange, Walk, Collects, due_after}
-use Rattle.pdr_repository.specs.Walkers.{WalkState, Takes, IsAnswerIn, IsDueAnswer, WalksOn}
-use Rattle.pdr_repository.specs.declared.walk_fault.Step.{Step as WalkStep}
-use Rattle.pdr_repository.specs.declared.walk_fault.WalkFault.{WalkFault}
-use Rattle.pdr_repository.specs.declared.walk_fault.WalkFault.TheVariants.{FailedBefore, NotAsked, TooMuch, OutOfMemory}
-use Rattle.pdr_repository.proofs.Walks.{stands}
-use Rattle.pdr_repository.proofs.Following.{goes_on}
-use Rattle.plan_values.specs.declared.plan.Plan.{Plan}
-use Rattle.net_tables.specs.TwoPlans.{Tables}
-use Rattle.plan_values.specs.declared.certificate.Certificate.{Certificate}
-use Rattle.net_tables.specs.Routing.{Holds}
-use Rattle.net_tables.specs.Repositories.{records_by_place}
-use Rattle.net_runs.specs.States.{NetworkState, unit_of}
-use Rattle.net_runs.specs.Events.{EventValue, OutcomeValue, Entered}
+use Rattle.pdr_repository.{specs.Records.{IsLawful}, specs.Parts.{PartAnswer, AnswersPart}, specs.Walks.{Exchange, Walk, Collects, due_after}, specs.Walkers.{WalkState, Takes, IsAnswerIn, IsDueAnswer, WalksOn}, specs.declared.walk_fault.Step.{Step as WalkStep}, specs.declared.walk_fault.WalkFault.{WalkFault}, specs.declared.walk_fault.WalkFault.TheVariants.{FailedBefore, NotAsked, TooMuch, OutOfMemory}, proofs.Walks.{stands}, proofs.Following.{goes_on}, proofs.Takings.{MayMake, may_make, failed_takes, idle_takes}}
+use Rattle.plan_values.{specs.declared.plan.Plan.{Plan}, specs.declared.certificate.Certificate.{Certificate}}
+use Rattle.net_tables.{specs.TwoPlans.{Tables}, specs.Routing.{Holds}, specs.Repositories.{records_by_place}}
+use Rattle.net_runs.{specs.States.{NetworkState, unit_of}, specs.Events.{EventValue, OutcomeValue, Entered}, specs.Walkers.{WalkerValue, answering_key, ended_after}, specs.WalkedRuns.{IsFor}, specs.NetworkWalks.{HasCode, IsSameWalker, IsExchange}, proofs.UnderWay.{IsPlain, IsUnderWay, PutsOnlyThis, Asking, Answering, answer_under, still_under_way}, proofs.Replies.{told_is_answer}}
 use Rattle.net_runs.specs.Networks as network
-use Rattle.net_runs.specs.Walkers.{WalkerValue, answering_key, ended_after}
-use Rattle.net_runs.specs.WalkedRuns.{IsFor}
-use Rattle.net_runs.specs.NetworkWalks.{HasCode, IsSameWalker, IsExchange}
-use Rattle.pdr_repository.proofs.Takings.{MayMake, may_make, failed_takes, idle_takes}
-use Rattle.net_runs.proofs.UnderWay.{IsPlain, IsUnderWay, PutsOnlyThis, Asking, Answering, answer_under, still_under_way}
-use Rattle.net_runs.proofs.Replies.{told_is_answer}
 
 -- what the walker has taken, whatever is on its way
 pub record Walks (plan : Plan) (cert : Certificate) (n : ℕ) (first walker : WalkerValue) : Type 0 where

@@ -1,37 +1,10 @@
 -- At every moment of a run with walkers, each has walked over the records of the terminus that it asks.
-use Rattle.std.proofs.Common.{Option, ◌≡◌, ◌⊎◌, ℕ, ◌+◌, ◌*◌, ◌≤◌, List, [], ◌∷◌, ◌++◌, length, Some, None, Result, Ok, refl, sym, ap, ◌∙◌, subst, inl, inr, arith}
-use Rattle.std.specs.List.{AllByRecursion}
-use Rattle.std.proofs.lemmas.Bool.{cases_lt}
-use Rattle.std.proofs.lemmas.List.{append_assoc, append-nil}
-use Rattle.std.proofs.lemmas.Bool.Decides.{eqb_tells}
-use Rattle.std.proofs.lemmas.List.Elements.{recursion_from_All}
-use Rattle.std.proofs.lemmas.Option.{same_Some}
+use Rattle.std.{proofs.Common.{Option, ◌≡◌, ◌⊎◌, ℕ, ◌+◌, ◌*◌, ◌≤◌, List, [], ◌∷◌, ◌++◌, length, Some, None, Result, Ok, refl, sym, ap, ◌∙◌, subst, inl, inr, arith}, specs.List.{AllByRecursion}, proofs.lemmas.Bool.{cases_lt}, proofs.lemmas.List.{append_assoc, append-nil}, proofs.lemmas.Bool.Decides.{eqb_tells}, proofs.lemmas.List.Elements.{recursion_from_All}, proofs.lemmas.Option.{same_Some}}
 use Rattle.pldm_message.specs.Pdrs.{PartRequest}
-use Rattle.pdr_repository.specs.Records.{IsLawful, bytes_by_place}
-use Rattle.pdr_repository.specs.Walks.{Exchange, Walk, IsBeginning, exchanges, due_after}
-use Rattle.pdr_repository.specs.Walkers.{WalkState, fresh}
-use Rattle.pdr_repository.specs.declared.walk_fault.Step.{Step as WalkStep}
-use Rattle.pdr_repository.specs.declared.walk_fault.WalkFault.{WalkFault}
-use Rattle.pdr_repository.proofs.Collecting.{collects_once}
-use Rattle.pdr_repository.proofs.Taking.{fresh_stands}
-use Rattle.pdr_repository.proofs.Walks.{every_walk_collects}
-use Rattle.net_runs.proofs.Units.{five_fit, part_fits}
-use Rattle.net_tables.specs.TwoPlans.{Tables}
+use Rattle.pdr_repository.{specs.Records.{IsLawful, bytes_by_place}, specs.Walks.{Exchange, Walk, IsBeginning, exchanges, due_after}, specs.Walkers.{WalkState, fresh}, specs.declared.walk_fault.Step.{Step as WalkStep}, specs.declared.walk_fault.WalkFault.{WalkFault}, proofs.Collecting.{collects_once}, proofs.Taking.{fresh_stands}, proofs.Walks.{every_walk_collects}}
+use Rattle.net_runs.{proofs.Units.{five_fit, part_fits}, specs.States.{NetworkState, unit_of}, specs.Events.{EventValue, Put, OutcomeValue, PutIn, N01}, specs.Walkers.{WalkerValue, WalkedState, WalkedEvent, Happening, BeginWalk, Ask, TellWalk, WalkedOutcome, Happened, Begun, Asked, ToldWalk, WalkRefused, WalkRefusal, Also, N10, Handed, walked_at_start, fresh_walker, with_walker, IsWalkRefused, ended_after, most_records, most_bytes, five_packets}, specs.WalkedRuns.{IsFor, WalkedHappens, WalkedStep, WalkedTurn, WalkedRunFrom, walked_after, walked_reached}, specs.NetworkWalks.{TakesWith, TakesNone, AreTakenIn, KeepsOff, HasWalked, HasCode, WalksThere, WalksOverBy}, proofs.ByPlace.{is_lawful}, proofs.Steps.{holds_some}, proofs.UnderWay.{PutsOnlyThis}, proofs.Soundness.{IsSound, IsAlike, step_sound, run_sound, start_sound}, proofs.Below.{walked_splits, walked_after_splits}, proofs.Walking.{Walks, Phase, Grows, phase_keeps, hears}, proofs.NewRequests.{own_ask, other_ask}}
+use Rattle.net_tables.{specs.TwoPlans.{Tables}, specs.Routing.{Holds}, specs.Repositories.{records_of, places_of, records_by_place, RecordsHaveOrder}}
 use Rattle.plan_values.specs.declared.certificate.Certificate.{Certificate}
-use Rattle.net_tables.specs.Routing.{Holds}
-use Rattle.net_tables.specs.Repositories.{records_of, places_of, records_by_place, RecordsHaveOrder}
-use Rattle.net_runs.specs.States.{NetworkState, unit_of}
-use Rattle.net_runs.specs.Events.{EventValue, Put, OutcomeValue, PutIn, N01}
-use Rattle.net_runs.specs.Walkers.{WalkerValue, WalkedState, WalkedEvent, Happening, BeginWalk, Ask, TellWalk, WalkedOutcome, Happened, Begun, Asked, ToldWalk, WalkRefused, WalkRefusal, Also, N10, Handed, walked_at_start, fresh_walker, with_walker, IsWalkRefused, ended_after, most_records, most_bytes, five_packets}
-use Rattle.net_runs.specs.WalkedRuns.{IsFor, WalkedHappens, WalkedStep, WalkedTurn, WalkedRunFrom, walked_after, walked_reached}
-use Rattle.net_runs.specs.NetworkWalks.{TakesWith, TakesNone, AreTakenIn, KeepsOff, HasWalked, HasCode, WalksThere, WalksOverBy}
-use Rattle.net_runs.proofs.ByPlace.{is_lawful}
-use Rattle.net_runs.proofs.Steps.{holds_some}
-use Rattle.net_runs.proofs.UnderWay.{PutsOnlyThis}
-use Rattle.net_runs.proofs.Soundness.{IsSound, IsAlike, step_sound, run_sound, start_sound}
-use Rattle.net_runs.proofs.Below.{walked_splits, walked_after_splits}
-use Rattle.net_runs.proofs.Walking.{Walks, Phase, Grows, phase_keeps, hears}
-use Rattle.net_runs.proofs.NewRequests.{own_ask, other_ask}
 
 same_handed : (a b : OutcomeValue) (x y : Handed) → ◌≡◌ {A = WalkedOutcome} (Happened a (Some x)) (Happened b (Some y)) → x ≡ y
 same_handed a b x y e = cc

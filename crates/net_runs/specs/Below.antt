@@ -1,11 +1,7 @@
 -- The run of the network below a run with walkers, turn by turn.
 use Rattle.std.specs.Prelude.{◌≡◌, ◌⊎◌, List, [], ◌∷◌, Some}
 use Rattle.net_tables.specs.TwoPlans.{Tables}
-use Rattle.net_runs.specs.Events.{EventValue, OutcomeValue, Put, PutIn}
-use Rattle.net_runs.specs.Runs.{Turn, RunFrom, after_all}
-use Rattle.net_runs.specs.Walkers.{WalkerValue, WalkedState, WalkedEvent, Happening, Ask}
-use Rattle.net_runs.specs.Walkers.{WalkedOutcome, Happened, Asked}
-use Rattle.net_runs.specs.WalkedRuns.{IsAsking, WalkedTurn, WalkedRunFrom, walked_after}
+use Rattle.net_runs.{specs.Events.{EventValue, OutcomeValue, Put, PutIn}, specs.Runs.{Turn, RunFrom, after_all}, specs.Walkers.{WalkerValue, WalkedState, WalkedEvent, Happening, Ask, WalkedOutcome, Happened, Asked}, specs.WalkedRuns.{IsAsking, WalkedTurn, WalkedRunFrom, walked_after}}
 
 -- It is of walkers alone, or an event of a walk that is refused, so nothing happens to the network.
 abbrev pub IsOfWalkersAlone : WalkedEvent → WalkedOutcome → Type 0

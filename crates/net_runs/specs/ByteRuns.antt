@@ -1,13 +1,8 @@
 -- Runs in which what is put in is bytes.
 use Rattle.std.specs.Prelude.{◌≡◌, ℕ, List, All}
-use Rattle.plan_values.specs.declared.plan.Plan.{Plan}
-use Rattle.plan_values.specs.declared.certificate.Certificate.{Certificate}
-use Rattle.net_tables.specs.Repositories.{records_by_place}
-use Rattle.net_runs.specs.Termini.{AreBytes}
-use Rattle.net_tables.specs.TwoPlans.{Tables}
-use Rattle.net_runs.specs.Events.{EventValue, Put}
-use Rattle.net_runs.specs.Networks.{HasStep}
-use Rattle.net_runs.specs.Runs.{Turn, RunOf, reached}
+use Rattle.plan_values.{specs.declared.plan.Plan.{Plan}, specs.declared.certificate.Certificate.{Certificate}}
+use Rattle.net_tables.{specs.Repositories.{records_by_place}, specs.TwoPlans.{Tables}}
+use Rattle.net_runs.{specs.Termini.{AreBytes}, specs.Events.{EventValue, Put}, specs.Networks.{HasStep}, specs.Runs.{Turn, RunOf, reached}}
 
 -- the plan's records are bytes
 abbrev pub RecordsAreBytes : Plan → Certificate → Type 0

@@ -1,18 +1,10 @@
 -- Flights whose destination is held: that they enter, and after how many moves.
-use Rattle.std.specs.Prelude.{◌≡◌, ◌≢◌, ◌⊎◌, ℕ, ◌+◌, ◌≤◌, Bool, true, false, not, ◌&&◌, ◌==◌}
-use Rattle.std.specs.Prelude.{List, [], ◌∷◌, ◌++◌, length, filter, slice_get, Some, All}
-use Rattle.mctp_transport.specs.PacketValues.{KeyValue}
-use Rattle.mctp_transport.specs.Hearing.{Answer}
-use Rattle.plan_values.specs.declared.plan.Plan.{Plan}
-use Rattle.plan_values.specs.declared.certificate.Certificate.{Certificate}
-use Rattle.net_tables.specs.Routing.{Holds}
-use Rattle.net_tables.specs.Ranks.{rank}
+use Rattle.std.specs.Prelude.{◌≡◌, ◌≢◌, ◌⊎◌, ℕ, ◌+◌, ◌≤◌, Bool, true, false, not, ◌&&◌, ◌==◌, List, [], ◌∷◌, ◌++◌, length, filter, slice_get, Some, All}
+use Rattle.mctp_transport.{specs.PacketValues.{KeyValue}, specs.Hearing.{Answer}}
+use Rattle.plan_values.{specs.declared.plan.Plan.{Plan}, specs.declared.certificate.Certificate.{Certificate}}
+use Rattle.net_tables.{specs.Routing.{Holds}, specs.Ranks.{rank}, specs.TwoPlans.{Tables, one_plan, HasRowAlways}}
 use Rattle.mctp_routing.specs.declared.decision.ForwardFault.{ForwardFault}
-use Rattle.net_runs.specs.States.{NetworkState, Flight, destination}
-use Rattle.net_tables.specs.TwoPlans.{Tables, one_plan, HasRowAlways}
-use Rattle.net_runs.specs.Events.{EventValue, Put, Move, Lose, Expire, AnswerAt, Switch, OutcomeValue, PutIn, Brings}
-use Rattle.net_runs.specs.Events.{Moved, Entered, Stopped, Lost, Expired, Answered, Silent, Switched, Refused}
-use Rattle.net_runs.specs.Runs.{Turn, RunOf, reached}
+use Rattle.net_runs.{specs.States.{NetworkState, Flight, destination}, specs.Events.{EventValue, Put, Move, Lose, Expire, AnswerAt, Switch, OutcomeValue, PutIn, Brings, Moved, Entered, Stopped, Lost, Expired, Answered, Silent, Switched, Refused}, specs.Runs.{Turn, RunOf, reached}}
 
 -- a node holds the flight's destination, and its origin holds it or always has a row for it
 abbrev pub IsDeliverable : Tables → Flight → Type 0

@@ -1,8 +1,6 @@
 -- What may happen to the network, what comes of that, and why an event is refused.
-use Rattle.std.specs.Prelude.{ℕ, ◌≡◌, ◌⊎◌, ◌-◌, ◌<◌, ◌≤◌, List, [], length}
-use Rattle.std.specs.Prelude.{Bool, true, false, Option, Some, None, IsSomeAnd}
-use Rattle.mctp_transport.specs.PacketValues.{PacketValue, KeyValue, Spelled}
-use Rattle.mctp_transport.specs.Hearing.{Answer}
+use Rattle.std.specs.Prelude.{ℕ, ◌≡◌, ◌⊎◌, ◌-◌, ◌<◌, ◌≤◌, List, [], length, Bool, true, false, Option, Some, None, IsSomeAnd}
+use Rattle.mctp_transport.{specs.PacketValues.{PacketValue, KeyValue, Spelled}, specs.Hearing.{Answer}}
 use Rattle.mctp_routing.specs.declared.decision.ForwardFault.{ForwardFault}
 use Rattle.net_runs.specs.States.{NetworkState, unit_of}
 use Rattle.net_tables.specs.TwoPlans.{Tables}

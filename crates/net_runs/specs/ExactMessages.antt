@@ -1,19 +1,10 @@
 -- When the packets of one key to one destination keep apart, message by message, and that each message then comes as it
 -- was sent.
 use Rattle.std.specs.Prelude.{◌≡◌, ◌≢◌, ◌⊎◌, ℕ, ◌*◌, ◌<◌, ◌≤◌, List, [], ◌∷◌, ◌++◌, length, Some, All}
-use Rattle.mctp_transport.specs.PacketValues.{PacketValue, KeyValue, key_of}
-use Rattle.mctp_transport.specs.Sending.{IsPacketOf}
-use Rattle.mctp_transport.specs.Histories.{Arrived, after, IsOpen, Comes}
-use Rattle.mctp_transport.specs.Hearing.{Whole}
-use Rattle.plan_values.specs.declared.plan.Plan.{Plan}
-use Rattle.plan_values.specs.declared.certificate.Certificate.{Certificate}
-use Rattle.net_tables.specs.Routing.{Holds}
-use Rattle.net_runs.specs.Termini.{TerminusState}
-use Rattle.net_runs.specs.States.{NetworkState, Flight, destination, at_start, slots, limit}
-use Rattle.net_tables.specs.TwoPlans.{Tables, one_plan}
-use Rattle.net_runs.specs.Events.{EventValue, OutcomeValue, Brings}
-use Rattle.net_runs.specs.Networks.{Step}
-use Rattle.net_runs.specs.Runs.{Turn, RunFrom, PutsIn}
+use Rattle.mctp_transport.{specs.PacketValues.{PacketValue, KeyValue, key_of}, specs.Sending.{IsPacketOf}, specs.Histories.{Arrived, after, IsOpen, Comes}, specs.Hearing.{Whole}}
+use Rattle.plan_values.{specs.declared.plan.Plan.{Plan}, specs.declared.certificate.Certificate.{Certificate}}
+use Rattle.net_tables.{specs.Routing.{Holds}, specs.TwoPlans.{Tables, one_plan}}
+use Rattle.net_runs.{specs.Termini.{TerminusState}, specs.States.{NetworkState, Flight, destination, at_start, slots, limit}, specs.Events.{EventValue, OutcomeValue, Brings}, specs.Networks.{Step}, specs.Runs.{Turn, RunFrom, PutsIn}}
 
 -- no flight of the key is on its way to d, and the key isn't open at the node that holds d
 pub record IsQuiet (plan : Plan) (w : NetworkState) (key : KeyValue) (d : ℕ) : Type 0 where

@@ -1,25 +1,12 @@
 -- What is promised of every run of a network, and of every walk over a terminus: for an accepted plan and
 -- certificate, and for an accepted move.
-use Rattle.std.specs.Prelude.{◌≡◌, ◌≢◌, ℕ, ◌+◌, ◌≤◌, List, [], ◌∷◌, ◌++◌}
-use Rattle.std.specs.Prelude.{length, slice_get, Some, None, Ok, All, AllPairs}
-use Rattle.mctp_transport.specs.PacketValues.{PacketValue, KeyValue, key_of}
-use Rattle.mctp_transport.specs.Messages.{Joined}
-use Rattle.mctp_transport.specs.Histories.{EachArrival, Comes}
-use Rattle.mctp_transport.specs.Hearing.{Whole}
-use Rattle.plan_values.specs.declared.plan.Plan.{Plan}
-use Rattle.plan_values.specs.declared.certificate.Certificate.{Certificate}
-use Rattle.plan_values.specs.declared.terminus.PlannedRecord.{PlannedRecord}
+use Rattle.std.specs.Prelude.{◌≡◌, ◌≢◌, ℕ, ◌+◌, ◌≤◌, List, [], ◌∷◌, ◌++◌, length, slice_get, Some, None, Ok, All, AllPairs}
+use Rattle.mctp_transport.{specs.PacketValues.{PacketValue, KeyValue, key_of}, specs.Messages.{Joined}, specs.Histories.{EachArrival, Comes}, specs.Hearing.{Whole}}
+use Rattle.plan_values.{specs.declared.plan.Plan.{Plan}, specs.declared.certificate.Certificate.{Certificate}, specs.declared.terminus.PlannedRecord.{PlannedRecord}}
 use Rattle.pldm_message.specs.Pdrs.{Part}
-use Rattle.pdr_repository.specs.Records.{Means, handle_in, bytes_by_place}
-use Rattle.pdr_repository.specs.Walks.{Exchange, Walk, IsFinished, Collects}
-use Rattle.net_tables.specs.Routing.{Holds}
-use Rattle.net_tables.specs.Ranks.{rank}
-use Rattle.net_tables.specs.Repositories.{terminus_of, records_of, places_of, entry_of, records_by_place}
-use Rattle.net_runs.specs.Termini.{TerminusState}
-use Rattle.net_runs.specs.States.{NetworkState, Flight, destination, slots, limit}
-use Rattle.net_tables.specs.TwoPlans.{Tables, one_plan}
-use Rattle.net_runs.specs.Events.{Brings}
-use Rattle.net_runs.specs.Runs.{Turn, RunOf, reached, WasPutIn}
+use Rattle.pdr_repository.{specs.Records.{Means, handle_in, bytes_by_place}, specs.Walks.{Exchange, Walk, IsFinished, Collects}}
+use Rattle.net_tables.{specs.Routing.{Holds}, specs.Ranks.{rank}, specs.Repositories.{terminus_of, records_of, places_of, entry_of, records_by_place}, specs.TwoPlans.{Tables, one_plan}}
+use Rattle.net_runs.{specs.Termini.{TerminusState}, specs.States.{NetworkState, Flight, destination, slots, limit}, specs.Events.{Brings}, specs.Runs.{Turn, RunOf, reached, WasPutIn}}
 
 -- n holds e, and no other node does
 abbrev pub AloneHolds : Plan → ℕ → ℕ → Type 0

@@ -1,24 +1,11 @@
 -- What is promised of each walk over the network.
-use Rattle.std.specs.Prelude.{Option, ◌≡◌, ◌≢◌, ◌⊎◌, ℕ, ◌<◌, ◌≤◌, List, ◌∷◌, ◌++◌, true}
-use Rattle.std.specs.Prelude.{false, Some, None, Result, Ok, All, MatchResult, length, [], ◌+◌, if◌then◌else◌}
+use Rattle.std.specs.Prelude.{Option, ◌≡◌, ◌≢◌, ◌⊎◌, ℕ, ◌<◌, ◌≤◌, List, ◌∷◌, ◌++◌, true, false, Some, None, Result, Ok, All, MatchResult, length, [], ◌+◌, if◌then◌else◌}
 use Rattle.mctp_transport.specs.PacketValues.{PacketValue, key_of, Spelled}
-use Rattle.pdr_repository.specs.Records.{Entry, bytes_by_place}
+use Rattle.pdr_repository.{specs.Records.{Entry, bytes_by_place}, specs.Walkers.{IsAnswerIn}, specs.Walks.{Exchange, Walk, Collects, IsBeginning, due_after, exchanges}, specs.declared.walk_fault.Step.{Step as WalkStep}, specs.declared.walk_fault.WalkFault.{WalkFault}, specs.declared.walk_fault.WalkFault.TheVariants.{FailedBefore, NotAsked, TooMuch}}
 use Rattle.pldm_message.specs.Messages.{ResponseHeadValue}
-use Rattle.pdr_repository.specs.Walkers.{IsAnswerIn}
-use Rattle.pdr_repository.specs.Walks.{Exchange, Walk, Collects, IsBeginning, due_after, exchanges}
-use Rattle.pdr_repository.specs.declared.walk_fault.Step.{Step as WalkStep}
-use Rattle.pdr_repository.specs.declared.walk_fault.WalkFault.{WalkFault}
-use Rattle.pdr_repository.specs.declared.walk_fault.WalkFault.TheVariants.{FailedBefore, NotAsked, TooMuch}
-use Rattle.plan_values.specs.declared.plan.Plan.{Plan}
-use Rattle.net_tables.specs.TwoPlans.{Tables, one_plan, moving}
-use Rattle.plan_values.specs.declared.certificate.Certificate.{Certificate}
-use Rattle.net_tables.specs.Routing.{Holds}
-use Rattle.net_tables.specs.Repositories.{terminus_of, records_by_place}
-use Rattle.net_runs.specs.States.{unit_of}
-use Rattle.net_runs.specs.Events.{Put, Switch, OutcomeValue, PutIn, Switched}
-use Rattle.net_runs.specs.Walkers.{WalkedOutcome, Handed, WalkerValue, WalkedState, WalkedEvent, Happening, BeginWalk}
-use Rattle.net_runs.specs.Walkers.{Begun, Happened, fresh_walker, asking_key, answering_key, Ask, Asked, five_packets}
-use Rattle.net_runs.specs.WalkedRuns.{IsFor, WalkedTurn, WalkedStep, WalkedRunOf, walked_reached}
+use Rattle.plan_values.{specs.declared.plan.Plan.{Plan}, specs.declared.certificate.Certificate.{Certificate}}
+use Rattle.net_tables.{specs.TwoPlans.{Tables, one_plan, moving}, specs.Routing.{Holds}, specs.Repositories.{terminus_of, records_by_place}}
+use Rattle.net_runs.{specs.States.{unit_of}, specs.Events.{Put, Switch, OutcomeValue, PutIn, Switched}, specs.Walkers.{WalkedOutcome, Handed, WalkerValue, WalkedState, WalkedEvent, Happening, BeginWalk, Begun, Happened, fresh_walker, asking_key, answering_key, Ask, Asked, five_packets}, specs.WalkedRuns.{IsFor, WalkedTurn, WalkedStep, WalkedRunOf, walked_reached}}
 
 -- the packet is under one of the walker's keys, to where that key's messages go
 abbrev pub IsUnderKeys : Plan → WalkerValue → PacketValue → Type 0

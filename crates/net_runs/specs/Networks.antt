@@ -1,26 +1,11 @@
 -- One step of a network: an event, what comes of it, and the network after it.
 use Rattle.std.specs.Prelude.{◌≡◌, ◌⊎◌, ◌↔◌, ℕ, ◌+◌, List, ◌∷◌, length, map, true, false, Option, Some, None}
-use Rattle.mctp_transport.specs.PacketValues.{PacketValue, KeyValue, key_of, Spelled}
-use Rattle.mctp_transport.specs.Cutting.{ArePacketsOf}
-use Rattle.mctp_transport.specs.Histories.{Arrived, TimeUp, IsOpen}
-use Rattle.mctp_transport.specs.Hearing.{Hears}
-use Rattle.plan_values.specs.declared.plan.Plan.{Plan}
-use Rattle.plan_values.specs.declared.nodes.Row.{Row}
+use Rattle.mctp_transport.{specs.PacketValues.{PacketValue, KeyValue, key_of, Spelled}, specs.Cutting.{ArePacketsOf}, specs.Histories.{Arrived, TimeUp, IsOpen}, specs.Hearing.{Hears}}
+use Rattle.plan_values.{specs.declared.plan.Plan.{Plan}, specs.declared.nodes.Row.{Row}}
 use Rattle.pdr_repository.specs.Answers.{Answers}
-use Rattle.mctp_routing.specs.declared.decision.Decision.{Decision}
-use Rattle.mctp_routing.specs.declared.decision.Decision.TheVariants.{Here, Drop, Forward}
-use Rattle.mctp_routing.specs.Decisions.{Decides}
-use Rattle.mctp_routing.specs.Rows.{Routes}
-use Rattle.net_tables.specs.Routing.{Holds, IsBridge}
-use Rattle.net_tables.specs.Tables.{table_row}
-use Rattle.net_runs.specs.Termini.{TerminusState, WaitingMessage}
-use Rattle.net_runs.specs.States.{NetworkState, Flight, destination, with_flight, without_flight}
-use Rattle.net_runs.specs.States.{with_made, with_input, with_terminus, with_packet, with_packets}
-use Rattle.net_runs.specs.States.{with_received, with_switched, unit_of, slots, limit, rows_now}
-use Rattle.net_tables.specs.TwoPlans.{Tables}
-use Rattle.net_runs.specs.Events.{EventValue, Put, Move, Lose, Expire, AnswerAt, Switch, OutcomeValue}
-use Rattle.net_runs.specs.Events.{PutIn, Moved, Entered, Stopped, Lost, Expired, Answered, Silent}
-use Rattle.net_runs.specs.Events.{Switched, Refused, Refusal, IsRefused, IsFirstRefusal}
+use Rattle.mctp_routing.{specs.declared.decision.Decision.{Decision}, specs.declared.decision.Decision.TheVariants.{Here, Drop, Forward}, specs.Decisions.{Decides}, specs.Rows.{Routes}}
+use Rattle.net_tables.{specs.Routing.{Holds, IsBridge}, specs.Tables.{table_row}, specs.TwoPlans.{Tables}}
+use Rattle.net_runs.{specs.Termini.{TerminusState, WaitingMessage}, specs.States.{NetworkState, Flight, destination, with_flight, without_flight, with_made, with_input, with_terminus, with_packet, with_packets, with_received, with_switched, unit_of, slots, limit, rows_now}, specs.Events.{EventValue, Put, Move, Lose, Expire, AnswerAt, Switch, OutcomeValue, PutIn, Moved, Entered, Stopped, Lost, Expired, Answered, Silent, Switched, Refused, Refusal, IsRefused, IsFirstRefusal}}
 
 -- what the node where the flight is, by these rows, decides on its packet; at its origin an endpoint sends its own
 abbrev pub IsDecided : Plan → List Row → Flight → Decision → Type 0

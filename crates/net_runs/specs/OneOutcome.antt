@@ -2,13 +2,8 @@
 use Rattle.std.specs.Prelude.{◌≡◌, ℕ, List, Some, IfSome}
 use Rattle.plan_values.specs.declared.certificate.Certificate.{Certificate}
 use Rattle.pdr_repository.specs.Records.{IsLawful}
-use Rattle.net_tables.specs.Rows.{RowsAreApart}
-use Rattle.net_runs.specs.Termini.{TerminusState}
-use Rattle.net_runs.specs.States.{NetworkState}
-use Rattle.net_tables.specs.TwoPlans.{Tables}
-use Rattle.net_runs.specs.Events.{EventValue, OutcomeValue}
-use Rattle.net_runs.specs.Networks.{Step}
-use Rattle.net_runs.specs.Runs.{Turn, RunOf, reached}
+use Rattle.net_tables.{specs.Rows.{RowsAreApart}, specs.TwoPlans.{Tables}}
+use Rattle.net_runs.{specs.Termini.{TerminusState}, specs.States.{NetworkState}, specs.Events.{EventValue, OutcomeValue}, specs.Networks.{Step}, specs.Runs.{Turn, RunOf, reached}}
 
 -- no two rows of a node cover one EID, before it has switched nor from then on
 abbrev pub HaveRowsApart : Tables → Type 0

@@ -3,8 +3,7 @@
 use Rattle.std.specs.Prelude.{◌≡◌, ℕ, List, Some}
 use Rattle.plan_values.specs.declared.certificate.Certificate.{Certificate}
 use Rattle.net_tables.specs.TwoPlans.{Tables}
-use Rattle.net_runs.specs.Walkers.{WalkerValue, WalkedState, WalkedEvent, WalkedOutcome}
-use Rattle.net_runs.specs.WalkedRuns.{WalkedStep, WalkedTurn, WalkedRunOf, walked_reached}
+use Rattle.net_runs.{specs.Walkers.{WalkerValue, WalkedState, WalkedEvent, WalkedOutcome}, specs.WalkedRuns.{WalkedStep, WalkedTurn, WalkedRunOf, walked_reached}}
 
 -- no two walkers are at one node and ask one endpoint ID under one tag
 abbrev pub HaveWalkersApart : WalkedState → Type 0

@@ -1,18 +1,9 @@
 -- Walks that are played to their end.
 use Rattle.std.specs.Prelude.{◌≡◌, ◌≢◌, ◌⊎◌, ℕ, ◌<◌, ◌≤◌, List, ◌∷◌, length, sum_by, false, Some, None, All}
-use Rattle.pdr_repository.specs.Records.{bytes_by_place}
-use Rattle.pdr_repository.specs.Walks.{exchanges}
-use Rattle.net_tables.specs.TwoPlans.{Tables, HasRowAlways}
+use Rattle.pdr_repository.{specs.Records.{bytes_by_place}, specs.Walks.{exchanges}}
+use Rattle.net_tables.{specs.TwoPlans.{Tables, HasRowAlways}, specs.Routing.{Holds}, specs.Repositories.{terminus_of, records_by_place}}
 use Rattle.plan_values.specs.declared.certificate.Certificate.{Certificate}
-use Rattle.net_tables.specs.Routing.{Holds}
-use Rattle.net_tables.specs.Repositories.{terminus_of, records_by_place}
-use Rattle.net_runs.specs.Termini.{AreBytes}
-use Rattle.net_runs.specs.States.{unit_of}
-use Rattle.net_runs.specs.Events.{Put}
-use Rattle.net_runs.specs.Walkers.{WalkerValue, Happening, BeginWalk, Begun}
-use Rattle.net_runs.specs.Walkers.{fresh_walker, five_packets, most_records, most_bytes}
-use Rattle.net_runs.specs.NetworkWalks.{IsSameWalker}
-use Rattle.net_runs.specs.WalkedRuns.{WalkedTurn, WalkedRunOf, walked_reached}
+use Rattle.net_runs.{specs.Termini.{AreBytes}, specs.States.{unit_of}, specs.Events.{Put}, specs.Walkers.{WalkerValue, Happening, BeginWalk, Begun, fresh_walker, five_packets, most_records, most_bytes}, specs.NetworkWalks.{IsSameWalker}, specs.WalkedRuns.{WalkedTurn, WalkedRunOf, walked_reached}}
 
 -- the node holds the endpoint ID, or always has a row for it
 abbrev pub HasWay : Tables → (n e : ℕ) → Type 0

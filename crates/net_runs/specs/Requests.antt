@@ -1,18 +1,10 @@
 -- That termini answer: a request that comes at one is answered.
 use Rattle.std.specs.Prelude.{◌≡◌, ◌≢◌, ℕ, ◌+◌, ◌<◌, ◌≤◌, List, [], ◌∷◌, ◌++◌, length, true, Some, None, All}
-use Rattle.mctp_transport.specs.PacketValues.{PacketValue, KeyValue}
-use Rattle.mctp_transport.specs.Cutting.{ArePacketsOf}
-use Rattle.plan_values.specs.declared.plan.Plan.{Plan}
-use Rattle.plan_values.specs.declared.certificate.Certificate.{Certificate}
+use Rattle.mctp_transport.{specs.PacketValues.{PacketValue, KeyValue}, specs.Cutting.{ArePacketsOf}}
+use Rattle.plan_values.{specs.declared.plan.Plan.{Plan}, specs.declared.certificate.Certificate.{Certificate}}
 use Rattle.pdr_repository.specs.Answers.{IsAsked, Answers}
-use Rattle.net_tables.specs.Routing.{Holds}
-use Rattle.net_tables.specs.Repositories.{terminus_of, records_by_place}
-use Rattle.net_runs.specs.Termini.{TerminusState, AreBytes}
-use Rattle.net_runs.specs.States.{with_terminus, with_packets, unit_of}
-use Rattle.net_runs.specs.Events.{AnswerAt, Answered}
-use Rattle.net_runs.specs.Networks.{answer_key}
-use Rattle.net_runs.specs.Runs.{Turn, Run, reached}
-use Rattle.net_runs.specs.ExactMessages.{FitsKey}
+use Rattle.net_tables.{specs.Routing.{Holds}, specs.Repositories.{terminus_of, records_by_place}}
+use Rattle.net_runs.{specs.Termini.{TerminusState, AreBytes}, specs.States.{with_terminus, with_packets, unit_of}, specs.Events.{AnswerAt, Answered}, specs.Networks.{answer_key}, specs.Runs.{Turn, Run, reached}, specs.ExactMessages.{FitsKey}}
 
 -- A run with whose last turn the terminus of n, which holds d, answers the request. Before that turn
 -- exactly the request waits there, under the key, and the packets that the turn puts in are those of its

@@ -1,12 +1,9 @@
 -- Runs of the network: one event after another, of any number.
 use Rattle.std.specs.Prelude.{◌≡◌, ◌≢◌, ◌⊎◌, ◌≤◌, ℕ, List, [], ◌∷◌, Some, All}
 use Rattle.mctp_transport.specs.PacketValues.{PacketValue, Spelled}
-use Rattle.plan_values.specs.declared.plan.Plan.{Plan}
-use Rattle.plan_values.specs.declared.certificate.Certificate.{Certificate}
-use Rattle.net_runs.specs.States.{NetworkState, Flight, at_start, unit_of}
+use Rattle.plan_values.{specs.declared.plan.Plan.{Plan}, specs.declared.certificate.Certificate.{Certificate}}
+use Rattle.net_runs.{specs.States.{NetworkState, Flight, at_start, unit_of}, specs.Events.{EventValue, OutcomeValue, Put, PutIn, AnswerAt, Answered, Switch}, specs.Networks.{Step}}
 use Rattle.net_tables.specs.TwoPlans.{Tables, one_plan}
-use Rattle.net_runs.specs.Events.{EventValue, OutcomeValue, Put, PutIn, AnswerAt, Answered, Switch}
-use Rattle.net_runs.specs.Networks.{Step}
 
 -- one turn of a run: the event, what came of it, and the network after it
 pub record Turn : Type 0 where

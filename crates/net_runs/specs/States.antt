@@ -1,13 +1,8 @@
 -- The network of a plan at one moment.
-use Rattle.std.specs.Prelude.{ℕ, ◌+◌, List, [], ◌∷◌, Bool, true, false, Option}
-use Rattle.std.specs.Prelude.{Some, None, option_map, if◌then◌else◌, ◌==◌}
-use Rattle.mctp_transport.specs.PacketValues.{PacketValue, KeyValue}
-use Rattle.mctp_transport.specs.Histories.{Input, History, after}
-use Rattle.mctp_transport.specs.Hearing.{Answer, Whole, Held, Dropped}
-use Rattle.plan_values.specs.declared.plan.Plan.{Plan}
-use Rattle.plan_values.specs.declared.certificate.Certificate.{Certificate}
+use Rattle.std.specs.Prelude.{ℕ, ◌+◌, List, [], ◌∷◌, Bool, true, false, Option, Some, None, option_map, if◌then◌else◌, ◌==◌}
+use Rattle.mctp_transport.{specs.PacketValues.{PacketValue, KeyValue}, specs.Histories.{Input, History, after}, specs.Hearing.{Answer, Whole, Held, Dropped}}
+use Rattle.plan_values.{specs.declared.plan.Plan.{Plan}, specs.declared.certificate.Certificate.{Certificate}, specs.declared.nodes.Row.{Row}}
 use Rattle.net_runs.specs.Termini.{TerminusState, terminus_at_start, with_waiting}
-use Rattle.plan_values.specs.declared.nodes.Row.{Row}
 use Rattle.net_tables.specs.TwoPlans.{Tables, rows_by}
 
 -- the most payload bytes of a packet in the network of a plan: its transmission unit

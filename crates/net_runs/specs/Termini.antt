@@ -1,8 +1,7 @@
 -- A terminus of the network at one moment: its repository, and the messages that wait for an answer.
 use Rattle.std.specs.Prelude.{ℕ, ◌<◌, List, [], ◌∷◌, ◌++◌, Option, option_map, All}
 use Rattle.mctp_transport.specs.PacketValues.{KeyValue}
-use Rattle.plan_values.specs.declared.plan.Plan.{Plan}
-use Rattle.plan_values.specs.declared.certificate.Certificate.{Certificate}
+use Rattle.plan_values.{specs.declared.plan.Plan.{Plan}, specs.declared.certificate.Certificate.{Certificate}}
 use Rattle.pdr_repository.specs.Records.{Entry}
 use Rattle.net_tables.specs.Repositories.{terminus_of, records_by_place}
 

@@ -1,17 +1,9 @@
 -- What a network with walkers has to be like so that it goes on, whatever the event.
 use Rattle.std.specs.Prelude.{◌≡◌, ◌≢◌, ℕ, ◌<◌, ◌≤◌, List, Some, None, All}
-use Rattle.pldm_message.specs.InstanceIds.{IsFree}
-use Rattle.pldm_message.specs.Pdrs.{PartRequest, IsPartRequest}
-use Rattle.plan_values.specs.declared.plan.Plan.{Plan}
-use Rattle.plan_values.specs.declared.certificate.Certificate.{Certificate}
-use Rattle.net_tables.specs.Routing.{Holds}
-use Rattle.net_runs.specs.Termini.{TerminusState, AreBytes, HoldsBytes}
-use Rattle.net_runs.specs.States.{NetworkState, Flight}
-use Rattle.net_tables.specs.TwoPlans.{Tables}
-use Rattle.net_runs.specs.Events.{Put}
-use Rattle.net_runs.specs.ByteRuns.{RecordsAreBytes}
-use Rattle.net_runs.specs.Walkers.{WalkerValue, WalkedState, WalkedEvent, Happening, BeginWalk, WalkedOutcome}
-use Rattle.net_runs.specs.WalkedRuns.{WalkedStep, WalkedTurn, WalkedRunOf, walked_reached}
+use Rattle.pldm_message.{specs.InstanceIds.{IsFree}, specs.Pdrs.{PartRequest, IsPartRequest}}
+use Rattle.plan_values.{specs.declared.plan.Plan.{Plan}, specs.declared.certificate.Certificate.{Certificate}}
+use Rattle.net_tables.{specs.Routing.{Holds}, specs.TwoPlans.{Tables}}
+use Rattle.net_runs.{specs.Termini.{TerminusState, AreBytes, HoldsBytes}, specs.States.{NetworkState, Flight}, specs.Events.{Put}, specs.ByteRuns.{RecordsAreBytes}, specs.Walkers.{WalkerValue, WalkedState, WalkedEvent, Happening, BeginWalk, WalkedOutcome}, specs.WalkedRuns.{WalkedStep, WalkedTurn, WalkedRunOf, walked_reached}}
 
 -- no flight has a number that is still to be given
 abbrev pub HasNumberedFlights : NetworkState → Type 0

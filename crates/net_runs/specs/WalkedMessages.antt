@@ -2,14 +2,8 @@
 use Rattle.std.specs.Prelude.{◌≡◌, ◌⊎◌, ℕ, ◌*◌, ◌≤◌, List, [], ◌∷◌, length, Option, Some, All}
 use Rattle.mctp_transport.specs.PacketValues.{PacketValue, KeyValue, key_of}
 use Rattle.plan_values.specs.declared.plan.Plan.{Plan}
-use Rattle.net_tables.specs.TwoPlans.{Tables}
-use Rattle.net_tables.specs.Routing.{Holds}
-use Rattle.net_runs.specs.States.{NetworkState, Flight}
-use Rattle.net_runs.specs.Runs.{IsPutOf}
-use Rattle.net_runs.specs.ExactMessages.{Epoch, IsOfEpoch, IsQuiet}
-use Rattle.net_runs.specs.Walkers.{WalkedState, WalkedEvent, Happening, Ask, WalkedOutcome, Happened, Asked, Handed}
-use Rattle.net_runs.specs.Walkers.{BringsWhole}
-use Rattle.net_runs.specs.WalkedRuns.{WalkedTurn, WalkedRunFrom}
+use Rattle.net_tables.{specs.TwoPlans.{Tables}, specs.Routing.{Holds}}
+use Rattle.net_runs.{specs.States.{NetworkState, Flight}, specs.Runs.{IsPutOf}, specs.ExactMessages.{Epoch, IsOfEpoch, IsQuiet}, specs.Walkers.{WalkedState, WalkedEvent, Happening, Ask, WalkedOutcome, Happened, Asked, Handed, BringsWhole}, specs.WalkedRuns.{WalkedTurn, WalkedRunFrom}}
 
 -- A request of a walker counts as a put: the packet of its flight is put in.
 abbrev pub IsPutOfWalked : Plan → WalkedEvent → WalkedOutcome → NetworkState → PacketValue → Type 0

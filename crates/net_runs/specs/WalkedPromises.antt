@@ -1,24 +1,11 @@
 -- What is promised of every run with walkers, as of every run of the network: for an accepted plan and certificate,
 -- and for an accepted move.
-use Rattle.std.specs.Prelude.{◌≡◌, ◌≢◌, ◌⊎◌, ℕ, ◌+◌, ◌≤◌, Bool, false, not, ◌&&◌}
-use Rattle.std.specs.Prelude.{List, [], ◌∷◌, ◌++◌, length, filter, slice_get, Option, Some, All}
-use Rattle.mctp_transport.specs.PacketValues.{PacketValue, KeyValue, key_of}
-use Rattle.mctp_transport.specs.Messages.{Joined}
-use Rattle.mctp_transport.specs.Histories.{Comes}
-use Rattle.mctp_transport.specs.Hearing.{Answer}
+use Rattle.std.specs.Prelude.{◌≡◌, ◌≢◌, ◌⊎◌, ℕ, ◌+◌, ◌≤◌, Bool, false, not, ◌&&◌, List, [], ◌∷◌, ◌++◌, length, filter, slice_get, Option, Some, All}
+use Rattle.mctp_transport.{specs.PacketValues.{PacketValue, KeyValue, key_of}, specs.Messages.{Joined}, specs.Histories.{Comes}, specs.Hearing.{Answer}}
 use Rattle.mctp_routing.specs.declared.decision.ForwardFault.{ForwardFault}
-use Rattle.plan_values.specs.declared.plan.Plan.{Plan}
-use Rattle.plan_values.specs.declared.certificate.Certificate.{Certificate}
-use Rattle.net_tables.specs.Routing.{Holds}
-use Rattle.net_tables.specs.Ranks.{rank}
-use Rattle.net_runs.specs.States.{NetworkState, Flight, destination, slots, limit}
-use Rattle.net_tables.specs.TwoPlans.{Tables}
-use Rattle.net_runs.specs.Events.{Move, Lost, Stopped, Entered}
-use Rattle.net_runs.specs.Headline.{EntersItsHolderOnly, StaysWithinHops, HasPlannedRecords, WalksCollectEach}
-use Rattle.net_runs.specs.Deliveries.{IsDeliverable, names_itself, is_refusal}
-use Rattle.net_runs.specs.Walkers.{WalkedEvent, Happening, WalkedOutcome, Happened, Handed, BringsWhole}
-use Rattle.net_runs.specs.WalkedRuns.{WalkedTurn, WalkedRunOf, walked_reached}
-use Rattle.net_runs.specs.WalkedMessages.{IsPutOfWalked}
+use Rattle.plan_values.{specs.declared.plan.Plan.{Plan}, specs.declared.certificate.Certificate.{Certificate}}
+use Rattle.net_tables.{specs.Routing.{Holds}, specs.Ranks.{rank}, specs.TwoPlans.{Tables}}
+use Rattle.net_runs.{specs.States.{NetworkState, Flight, destination, slots, limit}, specs.Events.{Move, Lost, Stopped, Entered}, specs.Headline.{EntersItsHolderOnly, StaysWithinHops, HasPlannedRecords, WalksCollectEach}, specs.Deliveries.{IsDeliverable, names_itself, is_refusal}, specs.Walkers.{WalkedEvent, Happening, WalkedOutcome, Happened, Handed, BringsWhole}, specs.WalkedRuns.{WalkedTurn, WalkedRunOf, walked_reached}, specs.WalkedMessages.{IsPutOfWalked}}
 
 -- one of the turns puts the packet in, by a put, an answer or a walker's request
 abbrev pub WasPutInWalked : Plan → List WalkedTurn → PacketValue → Type 0

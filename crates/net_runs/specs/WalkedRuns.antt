@@ -1,22 +1,11 @@
 -- One step of a network with walkers, and runs: a network's step, and what it does to the walkers.
 use Rattle.std.specs.Prelude.{◌≡◌, ◌≢◌, ◌⊎◌, ℕ, ◌+◌, List, [], ◌∷◌, length, Option, Some, None, Err, MatchResult, All}
-use Rattle.mctp_transport.specs.PacketValues.{PacketValue, Spelled}
-use Rattle.mctp_transport.specs.Cutting.{ArePacketsOf}
-use Rattle.mctp_transport.specs.Hearing.{Whole}
+use Rattle.mctp_transport.{specs.PacketValues.{PacketValue, Spelled}, specs.Cutting.{ArePacketsOf}, specs.Hearing.{Whole}}
 use Rattle.pldm_message.specs.InstanceIds.{IdSet, Gives, TakesBack}
-use Rattle.pdr_repository.specs.declared.walk_fault.WalkFault.TheVariants.{OutOfMemory}
-use Rattle.pdr_repository.specs.Walkers.{WalkState, Asks, Takes}
-use Rattle.plan_values.specs.declared.plan.Plan.{Plan}
-use Rattle.net_tables.specs.TwoPlans.{Tables, one_plan}
-use Rattle.plan_values.specs.declared.certificate.Certificate.{Certificate}
-use Rattle.net_tables.specs.Routing.{Holds}
-use Rattle.net_runs.specs.States.{NetworkState, unit_of}
-use Rattle.net_runs.specs.Events.{Put, Switch, OutcomeValue, PutIn, Brings}
-use Rattle.net_runs.specs.Networks.{Step}
-use Rattle.net_runs.specs.Walkers.{WalkerValue, WalkedState, WalkedEvent, Happening, BeginWalk, Ask, TellWalk}
-use Rattle.net_runs.specs.Walkers.{WalkedOutcome, Happened, Begun, Asked, ToldWalk, WalkRefused, WalkRefusal}
-use Rattle.net_runs.specs.Walkers.{Handed, walked_at_start, fresh_walker, asking_key, answering_key, AreSettled}
-use Rattle.net_runs.specs.Walkers.{with_walker, IsWalkRefused, IsFirstWalkRefusal, ended_after, standing_of}
+use Rattle.pdr_repository.{specs.declared.walk_fault.WalkFault.TheVariants.{OutOfMemory}, specs.Walkers.{WalkState, Asks, Takes}}
+use Rattle.plan_values.{specs.declared.plan.Plan.{Plan}, specs.declared.certificate.Certificate.{Certificate}}
+use Rattle.net_tables.{specs.TwoPlans.{Tables, one_plan}, specs.Routing.{Holds}}
+use Rattle.net_runs.{specs.States.{NetworkState, unit_of}, specs.Events.{Put, Switch, OutcomeValue, PutIn, Brings}, specs.Networks.{Step}, specs.Walkers.{WalkerValue, WalkedState, WalkedEvent, Happening, BeginWalk, Ask, TellWalk, WalkedOutcome, Happened, Begun, Asked, ToldWalk, WalkRefused, WalkRefusal, Handed, walked_at_start, fresh_walker, asking_key, answering_key, AreSettled, with_walker, IsWalkRefused, IsFirstWalkRefusal, ended_after, standing_of}}
 
 -- The walker's request is put in at its node, as one packet. The outstanding one is put in again under its instance ID;
 -- a new one is put in where both keys are settled, under the next ID.

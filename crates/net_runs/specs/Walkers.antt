@@ -1,21 +1,12 @@
 -- Walkers in the network: what each one is, what may happen to them, what comes of that, and why an event is refused.
-use Rattle.std.specs.Prelude.{◌≡◌, ◌⊎◌, ℕ, ◌-◌, ◌*◌, ◌<◌, ◌≤◌, ◌==◌, if◌then◌else◌, min, false}
-use Rattle.std.specs.Prelude.{true, length, List, slice_get, Option, Some, None, IsSomeAnd, Result, Ok, Err}
-use Rattle.mctp_transport.specs.PacketValues.{KeyValue}
-use Rattle.mctp_transport.specs.Hearing.{Whole}
-use Rattle.pldm_message.specs.InstanceIds.{IdSet}
-use Rattle.pldm_message.specs.Pdrs.{PartRequest}
-use Rattle.pdr_repository.specs.declared.walk_fault.Step.{Step as WalkStep}
-use Rattle.pdr_repository.specs.declared.walk_fault.WalkFault.{WalkFault}
-use Rattle.pdr_repository.specs.declared.walk_fault.WalkFault.TheVariants.{FailedBefore, NotAsked}
-use Rattle.pdr_repository.specs.Walkers.{WalkState, fresh}
-use Rattle.plan_values.specs.declared.plan.Plan.{Plan}
-use Rattle.plan_values.specs.declared.certificate.Certificate.{Certificate}
+use Rattle.std.specs.Prelude.{◌≡◌, ◌⊎◌, ℕ, ◌-◌, ◌*◌, ◌<◌, ◌≤◌, ◌==◌, if◌then◌else◌, min, false, true, length, List, slice_get, Option, Some, None, IsSomeAnd, Result, Ok, Err}
+use Rattle.mctp_transport.{specs.PacketValues.{KeyValue}, specs.Hearing.{Whole}}
+use Rattle.pldm_message.{specs.InstanceIds.{IdSet}, specs.Pdrs.{PartRequest}}
+use Rattle.pdr_repository.{specs.declared.walk_fault.Step.{Step as WalkStep}, specs.declared.walk_fault.WalkFault.{WalkFault}, specs.declared.walk_fault.WalkFault.TheVariants.{FailedBefore, NotAsked}, specs.Walkers.{WalkState, fresh}}
+use Rattle.plan_values.{specs.declared.plan.Plan.{Plan}, specs.declared.certificate.Certificate.{Certificate}}
 use Rattle.net_tables.specs.Routing.{Holds}
-use Rattle.net_runs.specs.States.{NetworkState, at_start, unit_of}
-use Rattle.net_runs.specs.Events.{EventValue, OutcomeValue, Entered, Refusal, N01, N06, most_flights}
+use Rattle.net_runs.{specs.States.{NetworkState, at_start, unit_of}, specs.Events.{EventValue, OutcomeValue, Entered, Refusal, N01, N06, most_flights}, specs.ExactMessages.{IsSettled}}
 use Rattle.net_runs.specs.Events as event
-use Rattle.net_runs.specs.ExactMessages.{IsSettled}
 
 -- the most bytes of a part whose answer is of five packets at most: 16 bytes stand before them and one after
 abbrev pub five_packets : ℕ → ℕ

@@ -2,23 +2,9 @@
 ghost use Rattle.std.specs.Prelude.{◌≡◌, ◌↔◌, ℕ, List, Some};
 ghost use Rattle.mctp_transport.specs.PacketValues.{KeyValue};
 ghost use Rattle.pdr_repository.specs.Walks.{Exchange};
-ghost use Rattle.plan_values.specs.declared.plan.Plan.{Plan};
-ghost use Rattle.plan_values.specs.declared.certificate.Certificate.{Certificate};
-ghost use Rattle.net_runs.specs.Termini.{TerminusState, HoldsBytes};
-ghost use Rattle.net_runs.specs.States.{NetworkState, at_start, unit_of};
+ghost use Rattle.plan_values.{specs.declared.plan.Plan.{Plan}, specs.declared.certificate.Certificate.{Certificate}};
+ghost use Rattle.net_runs.{specs.Termini.{TerminusState, HoldsBytes}, specs.States.{NetworkState, at_start, unit_of}, specs.Runs.{Turn, Run, RunOf, NoneSwitches}, specs.Events.{EventValue}, specs.Networks.{HasStep}, specs.ByteRuns.{RunsGoOn}, specs.Requests.{RequestsCanBeAnswered}, specs.Walkers.{WalkedState, WalkedEvent}, specs.WalkedMessages.{WalkedRunsAsSent}, specs.WalkedGoing.{CanGoOn, WalkedGoesOn, WalkedRunsGoOn}, specs.NetworkWalks.{AreTakenIn, CanAsk, CanSwitchAndAsk}, specs.Below.{RunsBelow}, specs.WalkedRuns.{WalkedTurn, WalkedRun, WalkedRunOf, NoneSwitchesWalked}, specs.ExactMessages.{IsQuiet, TellsWhatComes, CanBeSent, SixAreTooMany, RunsAsSentBy}};
 ghost use Rattle.net_tables.specs.TwoPlans.{Tables, moving};
-ghost use Rattle.net_runs.specs.Runs.{Turn, Run, RunOf, NoneSwitches};
-ghost use Rattle.net_runs.specs.Events.{EventValue};
-ghost use Rattle.net_runs.specs.Networks.{HasStep};
-ghost use Rattle.net_runs.specs.ByteRuns.{RunsGoOn};
-ghost use Rattle.net_runs.specs.Requests.{RequestsCanBeAnswered};
-ghost use Rattle.net_runs.specs.Walkers.{WalkedState, WalkedEvent};
-ghost use Rattle.net_runs.specs.WalkedMessages.{WalkedRunsAsSent};
-ghost use Rattle.net_runs.specs.WalkedGoing.{CanGoOn, WalkedGoesOn, WalkedRunsGoOn};
-ghost use Rattle.net_runs.specs.NetworkWalks.{AreTakenIn, CanAsk, CanSwitchAndAsk};
-ghost use Rattle.net_runs.specs.Below.{RunsBelow};
-ghost use Rattle.net_runs.specs.WalkedRuns.{WalkedTurn, WalkedRun, WalkedRunOf, NoneSwitchesWalked};
-ghost use Rattle.net_runs.specs.ExactMessages.{IsQuiet, TellsWhatComes, CanBeSent, SixAreTooMany, RunsAsSentBy};
 
 /// Whatever the event, the network has an outcome and a next state for it, where its termini hold bytes.
 #[tactic(auto, using(crate::proofs::Steps::some_step))]

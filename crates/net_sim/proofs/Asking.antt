@@ -1,10 +1,8 @@
 -- A terminus is asked for its oldest message.
 use Rattle.std.proofs.Common.{◌≡◌, ℕ, List, ◌∷◌, map, Option, Some, refl, ap, subst}
-use Rattle.pdr_repository.specs.Records.{Entry}
-use Rattle.pdr_repository.specs.Answers.{Answers}
+use Rattle.pdr_repository.{specs.Records.{Entry}, specs.Answers.{Answers}}
 use Rattle.net_runs.specs.Termini.{TerminusState}
-use Rattle.net_sim.specs.TerminusQueues.{AnswersOldest, waiting_value}
-use Rattle.net_sim.specs.declared.waiting.Waiting.{Waiting}
+use Rattle.net_sim.{specs.TerminusQueues.{AnswersOldest, waiting_value}, specs.declared.waiting.Waiting.{Waiting}}
 
 pub answers_oldest : (tid : ℕ) (records others : List Entry) (waiting rest : List Waiting) (oldest : Waiting) (bytes : List ℕ) (answer : Option (List ℕ)) (next : ℕ) → waiting ≡ oldest ∷ rest
     → others ≡ records → bytes ≡ oldest.bytes.items → Answers tid records bytes answer next

@@ -1,17 +1,8 @@
 -- A walker asks: its request is put in, or why it isn't.
-use Rattle.std.proofs.Common.{◌≡◌, ℕ, ◌+◌, ◌-◌, ◌<◌, ◌≤◌, List, length, Option, Some, None, refl, sym, ◌∙◌, ap, subst, inl, inr, arith}
-use Rattle.std.specs.Prelude.{slice_get, slice_set, IsSomeAnd}
-use Rattle.std.proofs.lemmas.Option.{none-some, slice_get_within}
-use Rattle.net_tables.specs.Routing.{Holds}
-use Rattle.net_tables.specs.TwoPlans.{Tables}
-use Rattle.net_runs.specs.States.{NetworkState}
-use Rattle.net_runs.specs.Events.{N01, N02, N03, N04, N05, N06, N07, most_flights}
-use Rattle.net_runs.specs.Walkers.{WalkerValue, WalkedState, Ask, Asked, WalkRefused, WalkRefusal, Also, N08, N09, N10, N11, N12, N13, MustWait, IsOver, IsWalkRefused, IsFirstWalkRefusal, walk_refusal_number, with_walker}
-use Rattle.net_runs.specs.WalkedRuns.{IsAsking}
-use Rattle.net_sim.specs.Standing.{TrafficValue, HasNetworkState}
-use Rattle.net_sim.specs.WalkedStanding.{NetworkValue, StandsForWalked, WalkedPlays, WalkedWants}
-use Rattle.net_sim.specs.Requests.{MayAsk, MayNotAsk, PutsRequest}
-use Rattle.net_sim.proofs.Walking.{walk_refused, walkers_stay, walker_changes}
+use Rattle.std.{proofs.Common.{◌≡◌, ℕ, ◌+◌, ◌-◌, ◌<◌, ◌≤◌, List, length, Option, Some, None, refl, sym, ◌∙◌, ap, subst, inl, inr, arith}, specs.Prelude.{slice_get, slice_set, IsSomeAnd}, proofs.lemmas.Option.{none-some, slice_get_within}}
+use Rattle.net_tables.{specs.Routing.{Holds}, specs.TwoPlans.{Tables}}
+use Rattle.net_runs.{specs.States.{NetworkState}, specs.Events.{N01, N02, N03, N04, N05, N06, N07, most_flights}, specs.Walkers.{WalkerValue, WalkedState, Ask, Asked, WalkRefused, WalkRefusal, Also, N08, N09, N10, N11, N12, N13, MustWait, IsOver, IsWalkRefused, IsFirstWalkRefusal, walk_refusal_number, with_walker}, specs.WalkedRuns.{IsAsking}}
+use Rattle.net_sim.{specs.Standing.{TrafficValue, HasNetworkState}, specs.WalkedStanding.{NetworkValue, StandsForWalked, WalkedPlays, WalkedWants}, specs.Requests.{MayAsk, MayNotAsk, PutsRequest}, proofs.Walking.{walk_refused, walkers_stay, walker_changes}}
 
 -- the same over another name of the tables
 pub puts_in : (tables tables' : Tables) (m u : TrafficValue) (x next : WalkerValue) (flight : ℕ) → tables ≡ tables' → PutsRequest tables m x flight u next → PutsRequest tables' m x flight u next

@@ -1,27 +1,12 @@
 -- What the rules say of an owned node of an accepted plan.
-use Rattle.std.proofs.Common.{◌≡◌, ℕ, ◌<◌, List, [], ◌∷◌, Bool, true, false, cond, find, Option, Some, None, option_map, unwrap_or, refl, sym, ap, ◌∙◌, arith, true≢false}
-use Rattle.std.specs.Prelude.{◌==◌, ◌||◌, IsTrue}
-use Rattle.std.specs.Option.{option_and_then}
-use Rattle.std.specs.List.{list_any}
-use Rattle.std.proofs.lemmas.Bool.{eqb-true}
-use Rattle.plan_values.specs.declared.plan.Plan.{Plan}
-use Rattle.plan_values.specs.declared.certificate.Certificate.{Certificate}
-use Rattle.plan_values.specs.declared.nodes.Kind.TheVariants as kind
-use Rattle.plan_values.specs.declared.nodes.Node.{Node}
-use Rattle.plan_values.specs.declared.nodes.Pool.{Pool}
-use Rattle.plan_values.specs.declared.nodes.Port.{Port}
-use Rattle.mctp_transport.specs.declared.device_kind.DeviceKind.TheVariants as device
+use Rattle.std.{proofs.Common.{◌≡◌, ℕ, ◌<◌, List, [], ◌∷◌, Bool, true, false, cond, find, Option, Some, None, option_map, unwrap_or, refl, sym, ap, ◌∙◌, arith, true≢false}, specs.Prelude.{◌==◌, ◌||◌, IsTrue}, specs.Option.{option_and_then}, specs.List.{list_any}, proofs.lemmas.Bool.{eqb-true}}
+use Rattle.plan_values.{specs.declared.plan.Plan.{Plan}, specs.declared.certificate.Certificate.{Certificate}, specs.declared.nodes.Node.{Node}, specs.declared.nodes.Pool.{Pool}, specs.declared.nodes.Port.{Port}}
 use Rattle.mctp_control.specs.Ranges.{IsAssignableRange}
-use Rattle.net_tables.specs.Routing.{node_at, Holds}
-use Rattle.net_tables.specs.Ownership.{owner_of, pool_of}
-use Rattle.net_rules.specs.Owners.{ShareBus, HasBridgeAsOwner}
-use Rattle.net_rules.specs.Pools.{IsPoolInRange, IsLawfulPool, HasLawfulPool}
-use Rattle.net_rules.specs.Rules.{Accepts}
-use Rattle.net_rules.specs.declared.rule.Rule.TheVariants.{C02, C07, C09}
-use Rattle.net_sim.specs.Assignments.{is_on_bus, shared_bus, requests_by, requests_of, requests_to, requests_over}
-use Rattle.net_tables.specs.Names.{device_kind}
-use Rattle.net_sim.specs.AssignmentRuns.{planned_size}
-use Rattle.net_sim.proofs.AssignOne.{IsGiven}
+use Rattle.net_tables.{specs.Routing.{node_at, Holds}, specs.Ownership.{owner_of, pool_of}, specs.Names.{device_kind}}
+use Rattle.net_rules.{specs.Owners.{ShareBus, HasBridgeAsOwner}, specs.Pools.{IsPoolInRange, IsLawfulPool, HasLawfulPool}, specs.Rules.{Accepts}, specs.declared.rule.Rule.TheVariants.{C02, C07, C09}}
+use Rattle.net_sim.{specs.Assignments.{is_on_bus, shared_bus, requests_by, requests_of, requests_to, requests_over}, specs.AssignmentRuns.{planned_size}, proofs.AssignOne.{IsGiven}}
+use Rattle.plan_values.specs.declared.nodes.Kind.TheVariants as kind
+use Rattle.mctp_transport.specs.declared.device_kind.DeviceKind.TheVariants as device
 
 -- where one of the ports passes, a first one does
 found_first : (test : ℕ → Bool) (ports : List Port) (bus : ℕ) → IsTrue (test bus) → IsTrue (list_any (λ port. port.bus == bus) ports)

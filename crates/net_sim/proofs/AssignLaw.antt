@@ -1,9 +1,6 @@
 -- A plan and a certificate have one assignment at most.
-use Rattle.std.proofs.Common.{◌≡◌, ◌⊎◌, inl, inr, ℕ, zero, suc, List, [], ◌∷◌, refl, sym, ap, ◌∙◌, subst, arith}
-use Rattle.std.specs.Prelude.{AllPairs, Contains}
-use Rattle.std.specs.List.{flat_map}
-use Rattle.plan_values.specs.declared.plan.Plan.{Plan}
-use Rattle.plan_values.specs.declared.certificate.Certificate.{Certificate}
+use Rattle.std.{proofs.Common.{◌≡◌, ◌⊎◌, inl, inr, ℕ, zero, suc, List, [], ◌∷◌, refl, sym, ap, ◌∙◌, subst, arith}, specs.Prelude.{AllPairs, Contains}, specs.List.{flat_map}}
+use Rattle.plan_values.{specs.declared.plan.Plan.{Plan}, specs.declared.certificate.Certificate.{Certificate}}
 use Rattle.net_sim.specs.Assignments.{AssignmentValue, requests_to, IsAskedBefore, IsAssignmentOf}
 
 pub first : (n : ℕ) (ns : List ℕ) → Contains (n ∷ ns) n

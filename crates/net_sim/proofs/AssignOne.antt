@@ -1,19 +1,10 @@
 -- The requests to one node of an assignment are replied to.
-use Rattle.std.proofs.Common.{◌≡◌, ◌≢◌, ℕ, zero, suc, ◌<◌, List, [], ◌∷◌, ◌++◌, length, Option, Some, None, refl, sym, ap, ◌∙◌, subst}
-use Rattle.std.specs.Prelude.{slice_get, slice_set}
-use Rattle.std.proofs.lemmas.List.{length-set}
+use Rattle.std.{proofs.Common.{◌≡◌, ◌≢◌, ℕ, zero, suc, ◌<◌, List, [], ◌∷◌, ◌++◌, length, Option, Some, None, refl, sym, ap, ◌∙◌, subst}, specs.Prelude.{slice_get, slice_set}, proofs.lemmas.List.{length-set}}
 use Rattle.plan_values.specs.declared.nodes.Pool.{Pool}
-use Rattle.mctp_transport.specs.PacketValues.{IsAssignable}
-use Rattle.mctp_transport.specs.declared.device_kind.DeviceKind.{DeviceKind}
+use Rattle.mctp_transport.{specs.PacketValues.{IsAssignable}, specs.declared.device_kind.DeviceKind.{DeviceKind}}
+use Rattle.mctp_control.{specs.Ranges.{IsAssignableRange}, specs.RouteEntries.{EntryValue}, specs.Requests.{request_bytes}, specs.Devices.{DeviceValue}, specs.Replies.{Replies}}
+use Rattle.net_sim.{specs.Assignments.{AssignmentValue, sets_eid, allocates_pool, pool_requests}, specs.AssignmentRuns.{planned_pool, IsReplied, AssignRun, IsAccepted, AreAccepted}, proofs.AssignReplies.{set_told, set_can_be_told, set_accepts, set_reply, pool_told, pool_can_be_told, pool_accepts, pool_reply}}
 use Rattle.mctp_transport.specs.declared.device_kind.DeviceKind.TheVariants as device
-use Rattle.mctp_control.specs.Ranges.{IsAssignableRange}
-use Rattle.mctp_control.specs.RouteEntries.{EntryValue}
-use Rattle.mctp_control.specs.Requests.{request_bytes}
-use Rattle.mctp_control.specs.Devices.{DeviceValue}
-use Rattle.mctp_control.specs.Replies.{Replies}
-use Rattle.net_sim.specs.Assignments.{AssignmentValue, sets_eid, allocates_pool, pool_requests}
-use Rattle.net_sim.specs.AssignmentRuns.{planned_pool, IsReplied, AssignRun, IsAccepted, AreAccepted}
-use Rattle.net_sim.proofs.AssignReplies.{set_told, set_can_be_told, set_accepts, set_reply, pool_told, pool_can_be_told, pool_accepts, pool_reply}
 
 -- a place that was written
 pub get_set_same : {A : Type 0} (xs : List A) (i : ℕ) (old new : A) → slice_get xs i ≡ Some old → slice_get (slice_set xs i new) i ≡ Some new

@@ -1,15 +1,8 @@
 -- An EID lies in a bridge's pool exactly where its holder is behind the bridge.
-use Rattle.std.proofs.Common.{◌≡◌, ◌⊎◌, inl, inr, ◌↔◌, ℕ, zero, suc, ◌<◌, Option, Some, None, refl, sym, ap, ◌∙◌, subst, arith}
-use Rattle.std.proofs.lemmas.Bool.{cases_order}
-use Rattle.plan_values.specs.declared.plan.Plan.{Plan}
-use Rattle.plan_values.specs.declared.certificate.Certificate.{Certificate}
-use Rattle.plan_values.specs.declared.nodes.Pool.{Pool}
-use Rattle.net_tables.specs.Routing.{Holds, IsBridge}
-use Rattle.net_tables.specs.Ownership.{owner_of, IsOwnedBy, level, pool_of, IsInPoolOf}
-use Rattle.net_rules.specs.Owners.{IsBelowItsOwner}
-use Rattle.net_rules.specs.Pools.{IsInOwnersPool, IsInNoPeersPool, IsInItsPool, IsLawfulPool, HasLawfulPool, LiesInOwnersPool, LiesApartFromEarlierPools}
-use Rattle.net_rules.specs.Rules.{Accepts}
-use Rattle.net_rules.specs.declared.rule.Rule.TheVariants.{C07, C08, C09}
+use Rattle.std.{proofs.Common.{◌≡◌, ◌⊎◌, inl, inr, ◌↔◌, ℕ, zero, suc, ◌<◌, Option, Some, None, refl, sym, ap, ◌∙◌, subst, arith}, proofs.lemmas.Bool.{cases_order}}
+use Rattle.plan_values.{specs.declared.plan.Plan.{Plan}, specs.declared.certificate.Certificate.{Certificate}, specs.declared.nodes.Pool.{Pool}}
+use Rattle.net_tables.{specs.Routing.{Holds, IsBridge}, specs.Ownership.{owner_of, IsOwnedBy, level, pool_of, IsInPoolOf}}
+use Rattle.net_rules.{specs.Owners.{IsBelowItsOwner}, specs.Pools.{IsInOwnersPool, IsInNoPeersPool, IsInItsPool, IsLawfulPool, HasLawfulPool, LiesInOwnersPool, LiesApartFromEarlierPools}, specs.Rules.{Accepts}, specs.declared.rule.Rule.TheVariants.{C07, C08, C09}}
 use Rattle.net_sim.specs.AssignmentRuns.{IsBehind, owned, further}
 
 module _ (plan : Plan) (cert : Certificate) (accepts : Accepts plan cert) where

@@ -1,19 +1,10 @@
 -- What an empty device replies to the requests of an assignment.
 use Rattle.std.proofs.Common.{◌≡◌, inl, inr, ℕ, zero, suc, ◌<◌, List, [], ◌∷◌, Option, Some, None, refl, sym, ap, ◌∙◌, subst, arith}
 use Rattle.plan_values.specs.declared.nodes.Pool.{Pool}
-use Rattle.mctp_transport.specs.PacketValues.{IsAssignable}
-use Rattle.mctp_transport.specs.declared.device_kind.DeviceKind.{DeviceKind}
+use Rattle.mctp_transport.{specs.PacketValues.{IsAssignable}, specs.declared.device_kind.DeviceKind.{DeviceKind}}
+use Rattle.mctp_control.{specs.Ranges.{IsAssignableRange}, specs.RouteEntries.{EntryValue}, specs.Statuses.{Pairs, pairs_byte, PoolStatusValue}, specs.Requests.{RequestValue, IsRequest, request_bytes}, specs.RequestLaws.{one_request}, specs.Responses.{EidSet, PoolTold, ResponseValue, SpellsResponse}, specs.Devices.{PoolHeld, DeviceValue, MayGiveEid, MayGivePool, allocation_of, pool_wanted}, specs.Replies.{IsAsked, Supports, reply_bytes, SetReplies, AllocateReplies, CommandReplies, Replies}}
+use Rattle.net_sim.{specs.Assignments.{plain_header, sets_eid, allocates_pool}, specs.AssignmentRuns.{AcceptsCommand}}
 use Rattle.mctp_transport.specs.declared.device_kind.DeviceKind.TheVariants as device
-use Rattle.mctp_control.specs.Ranges.{IsAssignableRange}
-use Rattle.mctp_control.specs.RouteEntries.{EntryValue}
-use Rattle.mctp_control.specs.Statuses.{Pairs, pairs_byte, PoolStatusValue}
-use Rattle.mctp_control.specs.Requests.{RequestValue, IsRequest, request_bytes}
-use Rattle.mctp_control.specs.RequestLaws.{one_request}
-use Rattle.mctp_control.specs.Responses.{EidSet, PoolTold, ResponseValue, SpellsResponse}
-use Rattle.mctp_control.specs.Devices.{PoolHeld, DeviceValue, MayGiveEid, MayGivePool, allocation_of, pool_wanted}
-use Rattle.mctp_control.specs.Replies.{IsAsked, Supports, reply_bytes, SetReplies, AllocateReplies, CommandReplies, Replies}
-use Rattle.net_sim.specs.Assignments.{plain_header, sets_eid, allocates_pool}
-use Rattle.net_sim.specs.AssignmentRuns.{AcceptsCommand}
 
 -- a reply, and the device afterwards
 pub record Told (reply : Option (List ℕ)) (new : DeviceValue) (bytes : List ℕ) (later : DeviceValue) : Type 0 where

@@ -1,30 +1,10 @@
 -- Each run of an assignment accepts all and assigns all, and there is one.
-use Rattle.std.proofs.Common.{◌≡◌, ◌≢◌, ◌⊎◌, inl, inr, ℕ, suc, ◌<◌, ◌≤◌, List, [], ◌∷◌, ◌++◌, length, get_or, Option, Some, None, option_map, refl, sym, ap, ◌∙◌, subst, arith}
-use Rattle.std.proofs.lemmas.Bool.{cases_order}
-use Rattle.std.specs.Prelude.{slice_get, AllPairs, Contains, IsSomeAnd}
-use Rattle.std.specs.Option.{option_and_then}
-use Rattle.std.specs.List.{flat_map}
-use Rattle.std.proofs.lemmas.List.{length-map}
-use Rattle.std.proofs.lemmas.Option.{slice_get-map, slice_get_within, slice_get_cases}
-use Rattle.plan_values.specs.declared.plan.Plan.{Plan}
-use Rattle.plan_values.specs.declared.certificate.Certificate.{Certificate}
-use Rattle.plan_values.specs.declared.nodes.Node.{Node}
-use Rattle.plan_values.specs.declared.nodes.Pool.{Pool}
-use Rattle.mctp_control.specs.RouteEntries.{EntryValue}
-use Rattle.mctp_control.specs.Ranges.{IsWithin}
-use Rattle.mctp_control.specs.Devices.{PoolHeld, DeviceValue}
-use Rattle.net_tables.specs.Routing.{node_at, Holds}
-use Rattle.net_rules.specs.Eids.{IsNewlyHeld}
-use Rattle.net_tables.specs.Ownership.{pool_of, IsInPoolOf, owner_of, level}
-use Rattle.net_rules.specs.Rules.{Accepts}
-use Rattle.net_rules.specs.declared.rule.Rule.TheVariants.{C03}
-use Rattle.net_sim.specs.Assignments.{AssignmentValue, requests_to, requests_over, IsOwned, IsAskedBefore, IsAssignmentOf}
-use Rattle.net_tables.specs.Names.{device_kind}
-use Rattle.net_sim.specs.AssignmentRuns.{planned_size, planned_pool, holding, empty, starting, devices_at_start, AssignRun, AreAccepted, HoldsEid, HasInPool, AreAssigned, CanBeCarriedOut, IsAcceptedThroughout, AssignsAll}
-use Rattle.net_sim.proofs.AssignPools.{pool_behind}
-use Rattle.net_sim.proofs.AssignOne.{Changed, after_asked, start_asked}
-use Rattle.net_sim.proofs.AssignGiven.{owner_is, asked_over, given, holds, pool_is}
-use Rattle.net_sim.proofs.AssignLaw.{first, in_tail, head_or_tail}
+use Rattle.std.{proofs.Common.{◌≡◌, ◌≢◌, ◌⊎◌, inl, inr, ℕ, suc, ◌<◌, ◌≤◌, List, [], ◌∷◌, ◌++◌, length, get_or, Option, Some, None, option_map, refl, sym, ap, ◌∙◌, subst, arith}, proofs.lemmas.Bool.{cases_order}, specs.Prelude.{slice_get, AllPairs, Contains, IsSomeAnd}, specs.Option.{option_and_then}, specs.List.{flat_map}, proofs.lemmas.List.{length-map}, proofs.lemmas.Option.{slice_get-map, slice_get_within, slice_get_cases}}
+use Rattle.plan_values.{specs.declared.plan.Plan.{Plan}, specs.declared.certificate.Certificate.{Certificate}, specs.declared.nodes.Node.{Node}, specs.declared.nodes.Pool.{Pool}}
+use Rattle.mctp_control.{specs.RouteEntries.{EntryValue}, specs.Ranges.{IsWithin}, specs.Devices.{PoolHeld, DeviceValue}}
+use Rattle.net_tables.{specs.Routing.{node_at, Holds}, specs.Ownership.{pool_of, IsInPoolOf, owner_of, level}, specs.Names.{device_kind}}
+use Rattle.net_rules.{specs.Eids.{IsNewlyHeld}, specs.Rules.{Accepts}, specs.declared.rule.Rule.TheVariants.{C03}}
+use Rattle.net_sim.{specs.Assignments.{AssignmentValue, requests_to, requests_over, IsOwned, IsAskedBefore, IsAssignmentOf}, specs.AssignmentRuns.{planned_size, planned_pool, holding, empty, starting, devices_at_start, AssignRun, AreAccepted, HoldsEid, HasInPool, AreAssigned, CanBeCarriedOut, IsAcceptedThroughout, AssignsAll}, proofs.AssignPools.{pool_behind}, proofs.AssignOne.{Changed, after_asked, start_asked}, proofs.AssignGiven.{owner_is, asked_over, given, holds, pool_is}, proofs.AssignLaw.{first, in_tail, head_or_tail}}
 
 -- each differs from all later ones
 abbrev AreApart : List ℕ → Type 0

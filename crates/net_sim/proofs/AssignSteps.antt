@@ -1,22 +1,9 @@
 -- Beginnings of an assignment grow by one node at a time.
-use Rattle.std.proofs.Common.{◌≡◌, ◌≢◌, ◌⊎◌, inl, inr, ℕ, ◌+◌, ◌<◌, ◌≤◌, List, [], ◌∷◌, ◌++◌, length, get_or, Option, Some, None, option_map, unwrap_or, find, refl, sym, ap, ◌∙◌, subst, arith}
-use Rattle.std.specs.Prelude.{◌==◌, Contains}
-use Rattle.std.specs.Option.{option_and_then}
-use Rattle.std.proofs.lemmas.List.{flat_map_more}
-use Rattle.std.proofs.lemmas.Option.{slice_get_past}
-use Rattle.std.proofs.lemmas.List.Elements.{Contains-get_or, Contains-append_left, Contains-push, Contains-push_cases}
-use Rattle.std.proofs.lemmas.List.Quantifiers.{all_pairs_push}
-use Rattle.plan_values.specs.declared.plan.Plan.{Plan}
-use Rattle.plan_values.specs.declared.certificate.Certificate.{Certificate}
-use Rattle.plan_values.specs.declared.certificate.NodeLevel.{NodeLevel}
-use Rattle.plan_values.specs.declared.nodes.Node.{Node}
-use Rattle.net_tables.specs.Routing.{node_at}
-use Rattle.net_tables.specs.Ownership.{owner_of, IsOwnedBy, given_level, level}
-use Rattle.net_rules.specs.Owners.{IsBelowItsOwner}
-use Rattle.net_rules.specs.declared.rule.Rule.TheVariants.{C07}
-use Rattle.net_rules.specs.Rules.{Accepts}
-use Rattle.net_sim.specs.Assignments.{AssignmentValue, shared_bus, requests_by, requests_of, requests_to, IsOwned, IsAskedBefore, AsksInOrder, IsAssignmentOf}
-use Rattle.net_sim.specs.AssignmentSteps.{IsAskedUpTo, HasAskedUpTo}
+use Rattle.std.{proofs.Common.{◌≡◌, ◌≢◌, ◌⊎◌, inl, inr, ℕ, ◌+◌, ◌<◌, ◌≤◌, List, [], ◌∷◌, ◌++◌, length, get_or, Option, Some, None, option_map, unwrap_or, find, refl, sym, ap, ◌∙◌, subst, arith}, specs.Prelude.{◌==◌, Contains}, specs.Option.{option_and_then}, proofs.lemmas.List.{flat_map_more}, proofs.lemmas.Option.{slice_get_past}, proofs.lemmas.List.Elements.{Contains-get_or, Contains-append_left, Contains-push, Contains-push_cases}, proofs.lemmas.List.Quantifiers.{all_pairs_push}}
+use Rattle.plan_values.{specs.declared.plan.Plan.{Plan}, specs.declared.certificate.Certificate.{Certificate}, specs.declared.certificate.NodeLevel.{NodeLevel}, specs.declared.nodes.Node.{Node}}
+use Rattle.net_tables.{specs.Routing.{node_at}, specs.Ownership.{owner_of, IsOwnedBy, given_level, level}}
+use Rattle.net_rules.{specs.Owners.{IsBelowItsOwner}, specs.declared.rule.Rule.TheVariants.{C07}, specs.Rules.{Accepts}}
+use Rattle.net_sim.{specs.Assignments.{AssignmentValue, shared_bus, requests_by, requests_of, requests_to, IsOwned, IsAskedBefore, AsksInOrder, IsAssignmentOf}, specs.AssignmentSteps.{IsAskedUpTo, HasAskedUpTo}}
 
 -- nothing is asked of nobody
 pub asks_none : (plan : Plan) (cert : Certificate) (P : ℕ → Type 0) → ((n : ℕ) → ¬ P n) → AsksInOrder plan cert P []

@@ -1,17 +1,8 @@
 -- A walk begins, or why it doesn't.
-use Rattle.std.proofs.Common.{◌≡◌, ◌⊎◌, ℕ, ◌+◌, ◌<◌, ◌≤◌, List, [], ◌∷◌, ◌++◌, length, map, Some, None, sym, ◌∙◌, ap, subst, inl, inr, arith}
-use Rattle.std.specs.Prelude.{slice_get, option_map, Any}
-use Rattle.std.proofs.lemmas.Option.{slice_get-map, slice_get-get_or, get_or_from_slice_get, slice_get_within}
-use Rattle.net_tables.specs.Routing.{Holds}
-use Rattle.net_tables.specs.TwoPlans.{Tables}
-use Rattle.net_runs.specs.States.{unit_of}
-use Rattle.net_runs.specs.Events.{N01, N02, N03, N04, N05, N06, N07}
-use Rattle.net_runs.specs.Walkers.{WalkerValue, WalkedState, BeginWalk, Begun, WalkRefusal, Also, N08, N09, N10, N11, N12, N13, IsThere, IsWalkRefused, IsFirstWalkRefusal, walk_refusal_number, with_walker, fresh_walker, five_packets}
-use Rattle.net_sim.specs.declared.network_walker.NetworkWalker.{NetworkWalker}
-use Rattle.net_sim.specs.NetworkWalkers.{walker_value, IsAt}
-use Rattle.net_sim.specs.WalkedStanding.{NetworkValue, StandsForWalked, WalkedPlays, WalkedWants}
-use Rattle.net_sim.proofs.Finding.{walker_place, mapped_there}
-use Rattle.net_sim.proofs.Walking.{walker_begins, walkers_stay}
+use Rattle.std.{proofs.Common.{◌≡◌, ◌⊎◌, ℕ, ◌+◌, ◌<◌, ◌≤◌, List, [], ◌∷◌, ◌++◌, length, map, Some, None, sym, ◌∙◌, ap, subst, inl, inr, arith}, specs.Prelude.{slice_get, option_map, Any}, proofs.lemmas.Option.{slice_get-map, slice_get-get_or, get_or_from_slice_get, slice_get_within}}
+use Rattle.net_tables.{specs.Routing.{Holds}, specs.TwoPlans.{Tables}}
+use Rattle.net_runs.{specs.States.{unit_of}, specs.Events.{N01, N02, N03, N04, N05, N06, N07}, specs.Walkers.{WalkerValue, WalkedState, BeginWalk, Begun, WalkRefusal, Also, N08, N09, N10, N11, N12, N13, IsThere, IsWalkRefused, IsFirstWalkRefusal, walk_refusal_number, with_walker, fresh_walker, five_packets}}
+use Rattle.net_sim.{specs.declared.network_walker.NetworkWalker.{NetworkWalker}, specs.NetworkWalkers.{walker_value, IsAt}, specs.WalkedStanding.{NetworkValue, StandsForWalked, WalkedPlays, WalkedWants}, proofs.Finding.{walker_place, mapped_there}, proofs.Walking.{walker_begins, walkers_stay}}
 
 -- a walker among those of the network is one of the state's, and conversely
 module _ (v : NetworkValue) (w : WalkedState) (s : StandsForWalked v w) (walkers : List NetworkWalker) (are : v.walkers ≡ map walker_value walkers) (node eid tag : ℕ) where

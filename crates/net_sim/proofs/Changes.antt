@@ -1,17 +1,10 @@
 -- What a network stands for after one of its parts has changed.
-use Rattle.std.proofs.Common.{◌≡◌, ℕ, ◌+◌, ◌<◌, Bool, cond, eqb, List, [], ◌∷◌, ◌++◌, length, Option, Some, None, sym, ◌∙◌, ap, subst, inl, inr, arith}
-use Rattle.std.specs.Prelude.{slice_get, slice_set}
-use Rattle.std.proofs.lemmas.Bool.Decides.{eqb_tells}
-use Rattle.std.proofs.lemmas.List.{length_push, length-set}
-use Rattle.mctp_transport.specs.declared.assembler.Assembler.{Assembler}
-use Rattle.mctp_transport.specs.Assembly as assembly
-use Rattle.mctp_transport.specs.Histories.{Input, after}
-use Rattle.net_runs.specs.Termini.{TerminusState}
-use Rattle.net_runs.specs.States.{NetworkState, Flight, with_made, with_input, with_terminus}
+use Rattle.std.{proofs.Common.{◌≡◌, ℕ, ◌+◌, ◌<◌, Bool, cond, eqb, List, [], ◌∷◌, ◌++◌, length, Option, Some, None, sym, ◌∙◌, ap, subst, inl, inr, arith}, specs.Prelude.{slice_get, slice_set}, proofs.lemmas.Bool.Decides.{eqb_tells}, proofs.lemmas.List.{length_push, length-set}}
+use Rattle.mctp_transport.{specs.declared.assembler.Assembler.{Assembler}, specs.Histories.{Input, after}}
+use Rattle.net_runs.{specs.Termini.{TerminusState}, specs.States.{NetworkState, Flight, with_made, with_input, with_terminus}}
 use Rattle.net_tables.proofs.Elements.{in_set}
-use Rattle.net_sim.specs.Routers.{RouterValue, has_switched}
-use Rattle.net_sim.specs.Standing.{TrafficValue, HasNetworkState, at_place}
-use Rattle.net_sim.proofs.Slots.{set_slot, push_slot, push_none}
+use Rattle.net_sim.{specs.Routers.{RouterValue, has_switched}, specs.Standing.{TrafficValue, HasNetworkState, at_place}, proofs.Slots.{set_slot, push_slot, push_none}}
+use Rattle.mctp_transport.specs.Assembly as assembly
 
 -- the same marks in the same router
 pub same_marks : (r q : RouterValue) → r ≡ q → r.switched ≡ q.switched

@@ -1,12 +1,6 @@
 -- How many termini a plan has.
-use Rattle.std.proofs.Common.{◌≡◌, ℕ, suc, ◌+◌, cond, List, [], ◌∷◌, length, Option, Some, None, refl, ◌∙◌, ap, arith}
-use Rattle.std.specs.Prelude.{slice_get, option_map, is_some, count_by}
-use Rattle.std.specs.List.{cons_option, filter_map, range_with_len}
-use Rattle.plan_values.specs.declared.nodes.Node.{Node}
-use Rattle.plan_values.specs.declared.plan.Plan.{Plan}
-use Rattle.plan_values.specs.declared.certificate.Certificate.{Certificate}
-use Rattle.plan_values.specs.declared.terminus.PlannedTerminus.{PlannedTerminus}
-use Rattle.std.proofs.lemmas.List.Recursion.{is_count_by}
+use Rattle.std.{proofs.Common.{◌≡◌, ℕ, suc, ◌+◌, cond, List, [], ◌∷◌, length, Option, Some, None, refl, ◌∙◌, ap, arith}, specs.Prelude.{slice_get, option_map, is_some, count_by}, specs.List.{cons_option, filter_map, range_with_len}, proofs.lemmas.List.Recursion.{is_count_by}}
+use Rattle.plan_values.{specs.declared.nodes.Node.{Node}, specs.declared.plan.Plan.{Plan}, specs.declared.certificate.Certificate.{Certificate}, specs.declared.terminus.PlannedTerminus.{PlannedTerminus}}
 use Rattle.net_tables.specs.Repositories.{terminus_of, records_by_place}
 use Rattle.net_runs.specs.Termini.{TerminusState, terminus_at_start}
 use Rattle.net_sim.specs.Dealing.{planned_termini}

@@ -1,18 +1,8 @@
 -- What a counter of a key tells after a write.
-use Rattle.std.proofs.Common.{◌≡◌, ◌≢◌, ℕ, All, ◌+◌, ◌*◌, ◌<◌, ◌≤◌, List, length, map, get_or, Result, Ok, Err, Bool, true, false, Option, Some, None, is_some, inl, inr, refl, sym, ap, ◌∙◌, subst, arith, true≢false, ◌==◌, ◌&&◌, nat_lt}
-use Rattle.std.specs.Prelude.{option_map, option_and_then, slice_get, slice_set, if◌then◌else◌, IfOk}
-use Rattle.std.specs.Bool.{beq}
-use Rattle.std.specs.Cmp.{booleans_Decides}
-use Rattle.std.proofs.lemmas.Bool.{cases_lt, lt-ltb}
-use Rattle.std.proofs.lemmas.Bool.Decides.{eqb_tells, Decides-eqb}
-use Rattle.std.proofs.lemmas.List.{get_or-map, length-map, get_or_default, get_or-set_same, get_or-set_other, length-set}
-use Rattle.std.proofs.lemmas.Option.{slice_get-get_or, slice_get_past, slice_get_within, same_Some}
-use Rattle.mctp_transport.specs.PacketValues.{KeyValue, bit}
-use Rattle.mctp_transport.specs.Histories.{same_key}
-use Rattle.mctp_transport.specs.declared.address.Eid.{Eid}
+use Rattle.std.{proofs.Common.{◌≡◌, ◌≢◌, ℕ, All, ◌+◌, ◌*◌, ◌<◌, ◌≤◌, List, length, map, get_or, Result, Ok, Err, Bool, true, false, Option, Some, None, is_some, inl, inr, refl, sym, ap, ◌∙◌, subst, arith, true≢false, ◌==◌, ◌&&◌, nat_lt}, specs.Prelude.{option_map, option_and_then, slice_get, slice_set, if◌then◌else◌, IfOk}, specs.Bool.{beq}, specs.Cmp.{booleans_Decides}, proofs.lemmas.Bool.{cases_lt, lt-ltb}, proofs.lemmas.Bool.Decides.{eqb_tells, Decides-eqb}, proofs.lemmas.List.{get_or-map, length-map, get_or_default, get_or-set_same, get_or-set_other, length-set}, proofs.lemmas.Option.{slice_get-get_or, slice_get_past, slice_get_within, same_Some}}
+use Rattle.mctp_transport.{specs.PacketValues.{KeyValue, bit}, specs.Histories.{same_key}, specs.declared.address.Eid.{Eid}}
 use Rattle.plan_values.specs.declared.nodes.Node.{Node}
-use Rattle.net_sim.specs.declared.key_counts.KnownEids.{KnownEids}
-use Rattle.net_sim.specs.KeyCounts.{if_there, known_at, place_of, are_these}
+use Rattle.net_sim.{specs.declared.key_counts.KnownEids.{KnownEids}, specs.KeyCounts.{if_there, known_at, place_of, are_these}}
 
 -- ---- options
 

@@ -1,22 +1,11 @@
 -- Termini dealt one after another.
-use Rattle.std.proofs.Common.{◌≡◌, All, ◌⊎◌, ℕ, false, zero, suc, ◌+◌, ◌<◌, ◌≤◌, List, [], ◌∷◌, ◌++◌, length, map, drop, get_or, Option, Some, None, refl, sym, ◌∙◌, ap, subst, arith, inl, inr}
-use Rattle.std.specs.Prelude.{slice_get}
-use Rattle.std.specs.List.{filter_map, range_with_len}
-use Rattle.std.proofs.lemmas.Option.{slice_get_past, slice_get_within, get_or_from_slice_get, none-some}
-use Rattle.std.proofs.lemmas.List.{length-map, map-append, append-nil, append_assoc, drop_more, drop_all}
-use Rattle.plan_values.specs.declared.nodes.Node.{Node}
+use Rattle.std.{proofs.Common.{◌≡◌, All, ◌⊎◌, ℕ, false, zero, suc, ◌+◌, ◌<◌, ◌≤◌, List, [], ◌∷◌, ◌++◌, length, map, drop, get_or, Option, Some, None, refl, sym, ◌∙◌, ap, subst, arith, inl, inr}, specs.Prelude.{slice_get}, specs.List.{filter_map, range_with_len}, proofs.lemmas.Option.{slice_get_past, slice_get_within, get_or_from_slice_get, none-some}, proofs.lemmas.List.{length-map, map-append, append-nil, append_assoc, drop_more, drop_all}}
+use Rattle.plan_values.{specs.declared.nodes.Node.{Node}, specs.declared.plan.Plan.{Plan}, specs.declared.certificate.Certificate.{Certificate}, specs.declared.terminus.PlannedTerminus.{PlannedTerminus}}
 use Rattle.mctp_transport.specs.declared.assembler.Assembler.{Assembler}
-use Rattle.mctp_transport.specs.Assembly as assembly
-use Rattle.plan_values.specs.declared.plan.Plan.{Plan}
-use Rattle.plan_values.specs.declared.certificate.Certificate.{Certificate}
-use Rattle.plan_values.specs.declared.terminus.PlannedTerminus.{PlannedTerminus}
 use Rattle.net_tables.specs.Repositories.{records_by_place}
-use Rattle.net_runs.specs.Termini.{TerminusState, terminus_at_start}
-use Rattle.net_runs.specs.States.{Flight, at_start}
-use Rattle.net_sim.specs.Flights.{flight_at}
-use Rattle.net_sim.specs.Routers.{has_switched}
-use Rattle.net_sim.specs.Standing.{TrafficValue, HasNetworkState, at_place}
-use Rattle.net_sim.specs.Dealing.{dealt_to, left_by, dealt, at_rest, planned_termini}
+use Rattle.net_runs.{specs.Termini.{TerminusState, terminus_at_start}, specs.States.{Flight, at_start}}
+use Rattle.net_sim.{specs.Flights.{flight_at}, specs.Routers.{has_switched}, specs.Standing.{TrafficValue, HasNetworkState, at_place}, specs.Dealing.{dealt_to, left_by, dealt, at_rest, planned_termini}}
+use Rattle.mctp_transport.specs.Assembly as assembly
 
 module _ {D : Type 0} (see : D → Option TerminusState) (nodes : List Node) where
   pub none_dealt : (queues : List D) (termini : List TerminusState) → queues ≡ [] → map see queues ++ dealt (drop 0 nodes) termini ≡ dealt nodes termini

@@ -1,27 +1,11 @@
 -- A packet that enters its node, and the message that may come with it.
-use Rattle.std.proofs.Common.{◌≡◌, ℕ, zero, suc, ◌<◌, ◌≤◌, Bool, true, false, cond, eqb, List, [], ◌∷◌, length, map, Option, Some, None, refl, sym, ◌∙◌, ap, subst, inl, inr, arith}
-use Rattle.std.specs.Prelude.{slice_get, slice_set, option_map, option_and_then, unwrap_or, find, ◌==◌}
-use Rattle.std.proofs.lemmas.List.{map-set, length-map}
-use Rattle.plan_values.specs.declared.certificate.Certificate.{Certificate}
-use Rattle.plan_values.specs.declared.certificate.NodeRanks.{NodeRanks}
-use Rattle.plan_values.specs.declared.certificate.RankRange.{RankRange}
+use Rattle.std.{proofs.Common.{◌≡◌, ℕ, zero, suc, ◌<◌, ◌≤◌, Bool, true, false, cond, eqb, List, [], ◌∷◌, length, map, Option, Some, None, refl, sym, ◌∙◌, ap, subst, inl, inr, arith}, specs.Prelude.{slice_get, slice_set, option_map, option_and_then, unwrap_or, find, ◌==◌}, proofs.lemmas.List.{map-set, length-map}, proofs.lemmas.Bool.{cases_Bool}, proofs.lemmas.Bool.Decides.{eqb_tells}, proofs.lemmas.Option.{same_Some, slice_get-map}}
+use Rattle.plan_values.{specs.declared.certificate.Certificate.{Certificate}, specs.declared.certificate.NodeRanks.{NodeRanks}, specs.declared.certificate.RankRange.{RankRange}}
 use Rattle.net_tables.specs.Ranks.{rank, rank_in, is_in_range}
-use Rattle.std.proofs.lemmas.Bool.{cases_Bool}
-use Rattle.std.proofs.lemmas.Bool.Decides.{eqb_tells}
-use Rattle.std.proofs.lemmas.Option.{same_Some, slice_get-map}
-use Rattle.mctp_transport.specs.PacketValues.{PacketValue, KeyValue, key_of}
-use Rattle.mctp_transport.specs.Histories.{History, Arrived, after, Comes}
-use Rattle.mctp_transport.proofs.Openness.{comes_start, comes_more}
-use Rattle.mctp_transport.specs.Hearing.{Answer, Whole, Held, Dropped, Hears}
+use Rattle.mctp_transport.{specs.PacketValues.{PacketValue, KeyValue, key_of}, specs.Histories.{History, Arrived, after, Comes}, proofs.Openness.{comes_start, comes_more}, specs.Hearing.{Answer, Whole, Held, Dropped, Hears}, specs.declared.assembler.Assembler.{Assembler}, specs.declared.drop_cause.DropCause.{DropCause}}
+use Rattle.net_runs.{specs.Termini.{TerminusState, WaitingMessage, with_waiting}, specs.States.{NetworkState, Flight, with_input, with_terminus, with_received, slots, limit}, specs.Events.{Entered}}
+use Rattle.net_sim.{specs.TerminusQueues.{with_message}, specs.Standing.{TrafficValue, HasNetworkState, Receives, at_place}, proofs.Changes.{input_stands, terminus_stands}}
 use Rattle.mctp_transport.specs.Assembly as assembly
-use Rattle.mctp_transport.specs.declared.assembler.Assembler.{Assembler}
-use Rattle.mctp_transport.specs.declared.drop_cause.DropCause.{DropCause}
-use Rattle.net_runs.specs.Termini.{TerminusState, WaitingMessage, with_waiting}
-use Rattle.net_runs.specs.States.{NetworkState, Flight, with_input, with_terminus, with_received, slots, limit}
-use Rattle.net_runs.specs.Events.{Entered}
-use Rattle.net_sim.specs.TerminusQueues.{with_message}
-use Rattle.net_sim.specs.Standing.{TrafficValue, HasNetworkState, Receives, at_place}
-use Rattle.net_sim.proofs.Changes.{input_stands, terminus_stands}
 
 -- a message comes with a packet that ends it
 pub comes_ends : (slots limit : ℕ) (h : History) (p : PacketValue) (message : List ℕ) → Comes slots limit (after h (Arrived p)) message → p.eom ≡ true

@@ -1,9 +1,6 @@
 -- Elements of a list that is mapped, and the walkers of a network by number.
-use Rattle.std.proofs.Common.{◌≡◌, ◌⊎◌, ℕ, zero, suc, ◌+◌, ◌-◌, ◌<◌, List, length, map, Some, None, sym, ◌∙◌, ap, inl, inr, arith}
-use Rattle.std.specs.Prelude.{slice_get, option_map}
-use Rattle.std.proofs.lemmas.Option.{slice_get_cases, slice_get-map, slice_get_past, none-some, same_Some}
-use Rattle.plan_values.specs.declared.plan.Plan.{Plan}
-use Rattle.plan_values.specs.declared.nodes.Node.{Node}
+use Rattle.std.{proofs.Common.{◌≡◌, ◌⊎◌, ℕ, zero, suc, ◌+◌, ◌-◌, ◌<◌, List, length, map, Some, None, sym, ◌∙◌, ap, inl, inr, arith}, specs.Prelude.{slice_get, option_map}, proofs.lemmas.Option.{slice_get_cases, slice_get-map, slice_get_past, none-some, same_Some}}
+use Rattle.plan_values.{specs.declared.plan.Plan.{Plan}, specs.declared.nodes.Node.{Node}}
 use Rattle.net_tables.specs.Routing.{Holds}
 use Rattle.net_runs.specs.Walkers.{WalkerValue, WalkedState}
 use Rattle.net_sim.specs.WalkedStanding.{NetworkValue, StandsForWalked}

@@ -1,10 +1,7 @@
 -- What a message does to the walker that takes it, and to its outstanding request.
-use Rattle.std.proofs.Common.{◌≡◌, ◌≢◌, ℕ, List, true, Option, Some, None, Ok, Err, refl, sym, ◌∙◌, inl, inr}
-use Rattle.std.proofs.lemmas.Bool.Decides.{eqb_tells}
+use Rattle.std.{proofs.Common.{◌≡◌, ◌≢◌, ℕ, List, true, Option, Some, None, Ok, Err, refl, sym, ◌∙◌, inl, inr}, proofs.lemmas.Bool.Decides.{eqb_tells}}
 use Rattle.pldm_message.specs.InstanceIds.{IdSet, TakesBack}
-use Rattle.pdr_repository.specs.declared.walk_fault.Step.{Step as WalkStep}
-use Rattle.pdr_repository.specs.declared.walk_fault.WalkFault.TheVariants.{OutOfMemory}
-use Rattle.pdr_repository.specs.Walkers.{WalkState, Takes}
+use Rattle.pdr_repository.{specs.declared.walk_fault.Step.{Step as WalkStep}, specs.declared.walk_fault.WalkFault.TheVariants.{OutOfMemory}, specs.Walkers.{WalkState, Takes}}
 use Rattle.net_runs.specs.Walkers.{WalkerValue}
 use Rattle.net_sim.specs.NetworkWalkers.{HasTakenMessage}
 

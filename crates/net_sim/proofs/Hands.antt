@@ -1,29 +1,10 @@
 -- A message that comes with a move is handed to the walker that it is for.
-use Rattle.std.proofs.Common.{◌≡◌, ℕ, ◌+◌, ◌<◌, Bool, MatchOption, All, List, length, map, Option, Some, None, inr, refl, sym, ◌∙◌, ap, subst}
-use Rattle.std.specs.Prelude.{slice_get, slice_set, IfSome}
-use Rattle.std.proofs.lemmas.List.{set-get_or}
-use Rattle.std.proofs.lemmas.Option.{slice_get_within, get_or_from_slice_get}
-use Rattle.mctp_transport.specs.PacketValues.{KeyValue}
-use Rattle.mctp_transport.specs.Packets.{key_value}
-use Rattle.mctp_transport.specs.Hearing.{Whole}
+use Rattle.std.{proofs.Common.{◌≡◌, ℕ, ◌+◌, ◌<◌, Bool, MatchOption, All, List, length, map, Option, Some, None, inr, refl, sym, ◌∙◌, ap, subst}, specs.Prelude.{slice_get, slice_set, IfSome}, proofs.lemmas.List.{set-get_or}, proofs.lemmas.Option.{slice_get_within, get_or_from_slice_get}}
+use Rattle.mctp_transport.{specs.PacketValues.{KeyValue}, specs.Packets.{key_value}, specs.Hearing.{Whole}}
 use Rattle.mctp_routing.specs.declared.decision.Decision.TheVariants.{Here}
-use Rattle.net_runs.specs.Events.{Move, OutcomeValue, Entered, Refused, Refusal}
-use Rattle.net_runs.specs.Networks.{Step}
-use Rattle.net_runs.specs.Walkers.{WalkerValue, Happening, Happened, Handed, with_walker, answering_key}
-use Rattle.net_runs.specs.WalkedRuns.{IsHanded}
+use Rattle.net_runs.{specs.Events.{Move, OutcomeValue, Entered, Refused, Refusal}, specs.Networks.{Step}, specs.Walkers.{WalkerValue, Happening, Happened, Handed, with_walker, answering_key}, specs.WalkedRuns.{IsHanded}, proofs.FirstAsks.{never_refused}}
 use Rattle.net_tables.specs.TwoPlans.{Tables}
-use Rattle.net_sim.specs.declared.traffic.moving.DecidedMove.{DecidedMove}
-use Rattle.net_sim.specs.declared.network_walker.NetworkWalker.{NetworkWalker}
-use Rattle.net_sim.specs.Moves.{HasNumberFor, IsDecidedMove, FindsListener}
-use Rattle.net_sim.specs.NetworkWalkers.{walker_value, Listens, ListensAt, HandsOver}
-use Rattle.net_sim.specs.Routers.{RouterValue}
-use Rattle.net_sim.specs.Standing.{TrafficValue, Plays}
-use Rattle.net_sim.specs.WalkedStanding.{NetworkValue, WalkedPlays, WalkedWants}
-use Rattle.net_sim.proofs.Dealt.{all_at}
-use Rattle.net_sim.proofs.Finding.{walker_place, mapped_there}
-use Rattle.net_sim.proofs.Moving.{enters_there, decided_as, wants_move}
-use Rattle.net_runs.proofs.FirstAsks.{never_refused}
-use Rattle.net_sim.proofs.Walking.{walker_changes, happens, happens_wants}
+use Rattle.net_sim.{specs.declared.traffic.moving.DecidedMove.{DecidedMove}, specs.declared.network_walker.NetworkWalker.{NetworkWalker}, specs.Moves.{HasNumberFor, IsDecidedMove, FindsListener}, specs.NetworkWalkers.{walker_value, Listens, ListensAt, HandsOver}, specs.Routers.{RouterValue}, specs.Standing.{TrafficValue, Plays}, specs.WalkedStanding.{NetworkValue, WalkedPlays, WalkedWants}, proofs.Dealt.{all_at}, proofs.Finding.{walker_place, mapped_there}, proofs.Moving.{enters_there, decided_as, wants_move}, proofs.Walking.{walker_changes, happens, happens_wants}}
 
 -- a write of the element that is there changes nothing
 pub set_same : {A : Type 0} (xs : List A) (i : ℕ) (x : A) → slice_get xs i ≡ Some x → slice_set xs i x ≡ xs

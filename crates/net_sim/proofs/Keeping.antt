@@ -1,26 +1,7 @@
 -- The flights that are kept by number: what finds one, and what a push, a write and a sweep do to all of them.
-use Rattle.std.proofs.Common.{Bor, ◌≡◌, ◌≢◌, ℕ, zero, suc, ◌+◌, ◌<◌, ◌≤◌, true, false, Bool, cond, not, eqb, List, [], ◌∷◌, ◌++◌, length, map, get_or, All, Option, Some, None, option_map, option_and_then, is_some, is_none, refl, sym, ap, ◌∙◌, subst, inl, inr, arith}
-use Rattle.std.specs.Prelude.{slice_set, ◌==◌, if◌then◌else◌, AllPairs, IfSome, option_copied}
-use Rattle.std.specs.List.{range_with_len, filter, count_by, HoldsAt}
-use Rattle.std.specs.List.Sorted.{IsSortedByKey, IsNonDecreasingBy, IsPartitionPoint}
-use Rattle.std.specs.Int.{from_bool}
-use Rattle.std.specs.Ordering.{nat_cmp, ordering_index, is_lt}
-use Rattle.std.specs.declared.cmp.Ordering.TheVariants.{Less, Equal, Greater}
-use Rattle.std.proofs.lemmas.Bool.{cases_lt, cases_eq, le-ltb, eq-eqb, ne_eqb}
-use Rattle.std.proofs.lemmas.Bool.Decides.{eqb_tells}
-use Rattle.std.proofs.lemmas.Cmp.{nat_cmp_total, ranked}
-use Rattle.std.proofs.lemmas.List.{get_or_push, get_or-set_same, get_or-set_other, length-set, length_push}
-use Rattle.std.proofs.lemmas.List.Elements.{All-head, All-tail, All-push, All-filter}
-use Rattle.std.proofs.lemmas.List.FromFn.{length-map-range_with_len, get_or-map-range_with_len, map-range_with_len_more, fill_by_all}
-use Rattle.std.proofs.lemmas.List.Kept.{AllPairs-filter}
-use Rattle.std.proofs.lemmas.List.Quantifiers.{all_pairs_push}
-use Rattle.std.proofs.lemmas.List.Sorted.{searchable_from_sorted}
-use Rattle.std.proofs.lemmas.List.Sums.{sum_by-cons, sum_by_push, sum_by-set}
-use Rattle.std.proofs.lemmas.Option.{slice_get-get_or, slice_get_past}
-use Rattle.net_sim.specs.declared.flights.Flight.{Flight}
-use Rattle.net_sim.specs.declared.flights.Slot.{Slot}
+use Rattle.std.{proofs.Common.{Bor, ◌≡◌, ◌≢◌, ℕ, zero, suc, ◌+◌, ◌<◌, ◌≤◌, true, false, Bool, cond, not, eqb, List, [], ◌∷◌, ◌++◌, length, map, get_or, All, Option, Some, None, option_map, option_and_then, is_some, is_none, refl, sym, ap, ◌∙◌, subst, inl, inr, arith}, specs.Prelude.{slice_set, ◌==◌, if◌then◌else◌, AllPairs, IfSome, option_copied}, specs.List.{range_with_len, filter, count_by, HoldsAt}, specs.List.Sorted.{IsSortedByKey, IsNonDecreasingBy, IsPartitionPoint}, specs.Int.{from_bool}, specs.Ordering.{nat_cmp, ordering_index, is_lt}, specs.declared.cmp.Ordering.TheVariants.{Less, Equal, Greater}, proofs.lemmas.Bool.{cases_lt, cases_eq, le-ltb, eq-eqb, ne_eqb}, proofs.lemmas.Bool.Decides.{eqb_tells}, proofs.lemmas.Cmp.{nat_cmp_total, ranked}, proofs.lemmas.List.{get_or_push, get_or-set_same, get_or-set_other, length-set, length_push}, proofs.lemmas.List.Elements.{All-head, All-tail, All-push, All-filter}, proofs.lemmas.List.FromFn.{length-map-range_with_len, get_or-map-range_with_len, map-range_with_len_more, fill_by_all}, proofs.lemmas.List.Kept.{AllPairs-filter}, proofs.lemmas.List.Quantifiers.{all_pairs_push}, proofs.lemmas.List.Sorted.{searchable_from_sorted}, proofs.lemmas.List.Sums.{sum_by-cons, sum_by_push, sum_by-set}, proofs.lemmas.Option.{slice_get-get_or, slice_get_past}}
+use Rattle.net_sim.{specs.declared.flights.Flight.{Flight}, specs.declared.flights.Slot.{Slot}, specs.Flights.{flight_value, kept, flight_at}}
 use Rattle.net_runs.specs.States as state
-use Rattle.net_sim.specs.Flights.{flight_value, kept, flight_at}
 
 abbrev pub Ascend : List Slot → Type 0
 Ascend slots = AllPairs (λ slot later. slot.number < later.number) slots

@@ -1,6 +1,5 @@
 -- Where memory is wanted, room was lacking.
-use Rattle.std.proofs.Common.{Result, Ok, Err}
-use Rattle.std.specs.Prelude.{OnErr, IsErr}
+use Rattle.std.{proofs.Common.{Result, Ok, Err}, specs.Prelude.{OnErr, IsErr}}
 
 -- what is lacked where a call answers that memory ran out
 pub err_lacks : {A E : Type 0} (P : Type 0) (r : Result A E) → IsErr r → P → OnErr r P

@@ -2,13 +2,8 @@
 use Rattle.std.proofs.Common.{◌≡◌, ℕ, List, true, false, inl, inr, ◌∙◌}
 use Rattle.net_tables.specs.TwoPlans.{Tables}
 use Rattle.pdr_repository.specs.Records.{Entry}
-use Rattle.net_runs.specs.Events.{Put, Move, Lose, Expire, AnswerAt, Switch}
-use Rattle.net_runs.specs.Walkers.{WalkedState, WalkedEvent, Happening, BeginWalk, Ask, TellWalk}
-use Rattle.net_sim.specs.declared.network.Network.{Network}
-use Rattle.net_sim.specs.LackingRooms.{NetworkLacksRoom}
-use Rattle.net_sim.specs.MemoryFree.{TakesNoRoom, NeverWants}
-use Rattle.net_sim.specs.Networks.{network_value, checked_of}
-use Rattle.net_sim.specs.WalkedStanding.{StandsForWalked}
+use Rattle.net_runs.{specs.Events.{Put, Move, Lose, Expire, AnswerAt, Switch}, specs.Walkers.{WalkedState, WalkedEvent, Happening, BeginWalk, Ask, TellWalk}}
+use Rattle.net_sim.{specs.declared.network.Network.{Network}, specs.LackingRooms.{NetworkLacksRoom}, specs.MemoryFree.{TakesNoRoom, NeverWants}, specs.Networks.{network_value, checked_of}, specs.WalkedStanding.{StandsForWalked}}
 
 pub never_wants : (tables : Tables) (w : WalkedState) (event : WalkedEvent) → NeverWants tables w event
 never_wants tables w (Happening event) (inl (why, refused)) (may, room) = may why refused

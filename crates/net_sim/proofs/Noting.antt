@@ -1,24 +1,9 @@
 -- The index of a network's walkers, as they begin and change.
-use Rattle.std.proofs.Common.{◌≡◌, ◌≢◌, ◌↔◌, ℕ, ◌<◌, List, [], ◌∷◌, ◌++◌, length, All, get_or, Bool, IsTrue, true, false, true≢false, is_some, MatchOption, Option, Some, None, refl, sym, ◌∙◌, ap, subst, inl, inr}
-use Rattle.std.specs.Prelude.{slice_get, slice_set, Any}
-use Rattle.std.specs.Ordering.{nat_cmp, is_eq, ordering_then}
-use Rattle.std.specs.declared.cmp.Ordering.{Ordering}
-use Rattle.std.specs.declared.cmp.Ordering.TheVariants.{Less, Equal, Greater}
-use Rattle.std.specs.BTreeMap.{is_at}
-use Rattle.std.proofs.lemmas.Map.Lookups.{exact_unsigned}
-use Rattle.std.proofs.lemmas.Option.{same_Some, none-some, slice_get_within, slice_get-get_or, get_or_from_slice_get}
+use Rattle.std.{proofs.Common.{◌≡◌, ◌≢◌, ◌↔◌, ℕ, ◌<◌, List, [], ◌∷◌, ◌++◌, length, All, get_or, Bool, IsTrue, true, false, true≢false, is_some, MatchOption, Option, Some, None, refl, sym, ◌∙◌, ap, subst, inl, inr}, specs.Prelude.{slice_get, slice_set, Any}, specs.Ordering.{nat_cmp, is_eq, ordering_then}, specs.declared.cmp.Ordering.{Ordering}, specs.declared.cmp.Ordering.TheVariants.{Less, Equal, Greater}, specs.BTreeMap.{is_at}, proofs.lemmas.Map.Lookups.{exact_unsigned}, proofs.lemmas.Option.{same_Some, none-some, slice_get_within, slice_get-get_or, get_or_from_slice_get}}
 use Rattle.mctp_transport.specs.PacketValues.{KeyValue}
-use Rattle.net_runs.specs.Events.{OutcomeValue}
-use Rattle.net_runs.specs.Walkers.{WalkerValue, Handed}
-use Rattle.net_tables.specs.TwoPlans.{Tables}
-use Rattle.net_tables.proofs.Elements.{in_push, in_set}
-use Rattle.net_sim.specs.declared.network_walker.NetworkWalker.{NetworkWalker}
-use Rattle.net_sim.specs.declared.walker_index.WalkerIndex.{WalkerIndex}
-use Rattle.net_sim.specs.NetworkWalkers.{walker_value, IsAt, StandsAt, Listens, ListensAt, HandsOver, TellsRequest}
-use Rattle.net_sim.specs.Standing.{TrafficValue}
-use Rattle.net_sim.specs.Requests.{PutsRequest}
-use Rattle.net_sim.proofs.Dealt.{all_at}
-use Rattle.net_sim.specs.WalkerIndexes.{place_cmp, index_at, AreNoted}
+use Rattle.net_runs.{specs.Events.{OutcomeValue}, specs.Walkers.{WalkerValue, Handed}}
+use Rattle.net_tables.{specs.TwoPlans.{Tables}, proofs.Elements.{in_push, in_set}}
+use Rattle.net_sim.{specs.declared.network_walker.NetworkWalker.{NetworkWalker}, specs.declared.walker_index.WalkerIndex.{WalkerIndex}, specs.NetworkWalkers.{walker_value, IsAt, StandsAt, Listens, ListensAt, HandsOver, TellsRequest}, specs.Standing.{TrafficValue}, specs.Requests.{PutsRequest}, proofs.Dealt.{all_at}, specs.WalkerIndexes.{place_cmp, index_at, AreNoted}}
 
 then_equal : (a b : Ordering) → ordering_then a b ≡ Equal → (a ≡ Equal) × (b ≡ Equal)
 then_equal Less b e = absurd (cc e)

@@ -1,16 +1,9 @@
 -- Whole lists of events that are played, one after another.
-use Rattle.std.proofs.Common.{◌≡◌, ℕ, ◌+◌, ◌<◌, List, [], ◌∷◌, ◌++◌, length, map, take, get_or, Some, refl, sym, ◌∙◌, ap, subst, arith}
-use Rattle.std.specs.Prelude.{Option, IsSomeAnd, slice_get, option_map}
-use Rattle.std.proofs.lemmas.List.{length-map, map-append, take_more, length_push}
-use Rattle.std.proofs.lemmas.Option.{slice_get-map, slice_get-get_or, get_or_from_slice_get}
+use Rattle.std.{proofs.Common.{◌≡◌, ℕ, ◌+◌, ◌<◌, List, [], ◌∷◌, ◌++◌, length, map, take, get_or, Some, refl, sym, ◌∙◌, ap, subst, arith}, specs.Prelude.{Option, IsSomeAnd, slice_get, option_map}, proofs.lemmas.List.{length-map, map-append, take_more, length_push}, proofs.lemmas.Option.{slice_get-map, slice_get-get_or, get_or_from_slice_get}}
 use Rattle.plan_values.specs.declared.event.Event.{Event}
 use Rattle.net_tables.specs.TwoPlans.{Tables}
-use Rattle.net_runs.specs.Walkers.{WalkedState, WalkedEvent, WalkedOutcome}
-use Rattle.net_runs.specs.WalkedRuns.{WalkedStep, WalkedTurn, WalkedRunFrom, walked_after}
-use Rattle.net_sim.specs.declared.outcome.Outcome.{Outcome}
-use Rattle.net_sim.specs.Outcomes.{event_value, outcome_value}
-use Rattle.net_sim.specs.WalkedStanding.{NetworkValue, StandsForWalked, WalkedPlays, WalkedWants, WalkedMayWant}
-use Rattle.net_sim.specs.Played.{IsRunOf, PlaysAll, StopsAfter}
+use Rattle.net_runs.{specs.Walkers.{WalkedState, WalkedEvent, WalkedOutcome}, specs.WalkedRuns.{WalkedStep, WalkedTurn, WalkedRunFrom, walked_after}}
+use Rattle.net_sim.{specs.declared.outcome.Outcome.{Outcome}, specs.Outcomes.{event_value, outcome_value}, specs.WalkedStanding.{NetworkValue, StandsForWalked, WalkedPlays, WalkedWants, WalkedMayWant}, specs.Played.{IsRunOf, PlaysAll, StopsAfter}}
 
 run_more : (tables : Tables) (w : WalkedState) (turns : List WalkedTurn) (turn : WalkedTurn) → WalkedRunFrom tables w turns → WalkedStep tables (walked_after w turns) turn.event turn.outcome turn.after → WalkedRunFrom tables w (turns ++ turn ∷ [])
 run_more tables w [] turn run step = (step, tt)

@@ -1,20 +1,10 @@
 -- What is played goes on with the walks of the run before it.
-use Rattle.std.proofs.Common.{List, [], ◌∷◌, ◌++◌, Result, subst, MatchResult}
-use Rattle.std.specs.Prelude.{IfOk, Ok, Err}
+use Rattle.std.{proofs.Common.{List, [], ◌∷◌, ◌++◌, Result, subst, MatchResult}, specs.Prelude.{IfOk, Ok, Err}}
 use Rattle.plan_values.specs.declared.certificate.Certificate.{Certificate}
 use Rattle.net_tables.specs.TwoPlans.{Tables}
-use Rattle.net_runs.specs.Walkers.{WalkedState, WalkedEvent, WalkedOutcome, walked_at_start}
-use Rattle.net_runs.specs.WalkedRuns.{WalkedTurn, WalkedRunFrom, WalkedRunOf, walked_after, walked_reached}
-use Rattle.net_runs.proofs.Below.{walked_splits}
-use Rattle.net_check.proofs.Whole.{accepted_walked_headline, accepted_walked_delivers, accepted_walks}
-use Rattle.net_sim.specs.declared.outcome.Outcome.{Outcome}
-use Rattle.net_check.specs.Accepted.{IsAccepted}
-use Rattle.net_sim.specs.Outcomes.{outcome_value}
-use Rattle.net_sim.specs.WalkedStanding.{NetworkValue, WalkedPlays, WalkedWants}
-use Rattle.net_sim.specs.Played.{PlaysAll}
-use Rattle.net_sim.specs.Promised.{IsPromised}
-use Rattle.net_sim.specs.Walks.{HaveWalked, PlaysWalks}
-use Rattle.net_sim.proofs.PlayedRuns.{one_played}
+use Rattle.net_runs.{specs.Walkers.{WalkedState, WalkedEvent, WalkedOutcome, walked_at_start}, specs.WalkedRuns.{WalkedTurn, WalkedRunFrom, WalkedRunOf, walked_after, walked_reached}, proofs.Below.{walked_splits}}
+use Rattle.net_check.{proofs.Whole.{accepted_walked_headline, accepted_walked_delivers, accepted_walks}, specs.Accepted.{IsAccepted}}
+use Rattle.net_sim.{specs.declared.outcome.Outcome.{Outcome}, specs.Outcomes.{outcome_value}, specs.WalkedStanding.{NetworkValue, WalkedPlays, WalkedWants}, specs.Played.{PlaysAll}, specs.Promised.{IsPromised}, specs.Walks.{HaveWalked, PlaysWalks}, proofs.PlayedRuns.{one_played}}
 
 -- a run goes on from where another ends
 pub run_joins : (tables : Tables) (w : WalkedState) (xs ys : List WalkedTurn) → WalkedRunFrom tables w xs → WalkedRunFrom tables (walked_after w xs) ys

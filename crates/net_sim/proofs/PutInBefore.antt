@@ -1,27 +1,11 @@
 -- What is told joins packets that were put in before.
-use Rattle.std.proofs.Common.{◌≡◌, ◌⊎◌, ℕ, zero, suc, ◌<◌, List, [], ◌∷◌, ◌++◌, length, Some, refl, sym, ◌∙◌, ap, subst, inl, inr, arith}
-use Rattle.std.specs.Prelude.{slice_get, option_map}
-use Rattle.std.proofs.lemmas.List.{append_assoc}
-use Rattle.std.proofs.lemmas.List.Elements.{All-weaker}
-use Rattle.std.proofs.lemmas.Option.{slice_get-map, none-some, same_Some}
-use Rattle.mctp_transport.specs.PacketValues.{PacketValue, key_of}
-use Rattle.mctp_transport.specs.Hearing.{Whole}
-use Rattle.plan_values.specs.declared.plan.Plan.{Plan}
-use Rattle.plan_values.specs.declared.certificate.Certificate.{Certificate}
-use Rattle.net_tables.specs.Routing.{Holds}
-use Rattle.net_tables.specs.TwoPlans.{Tables}
-use Rattle.net_runs.specs.Events.{Entered}
-use Rattle.net_runs.specs.Walkers.{WalkedEvent, WalkedOutcome, Happened, walked_at_start}
-use Rattle.net_runs.specs.WalkedRuns.{WalkedTurn, WalkedRunFrom, WalkedRunOf, walked_reached}
-use Rattle.net_runs.specs.WalkedMessages.{IsPutOfWalked}
-use Rattle.net_runs.specs.WalkedPromises.{WasPutInWalked, WalkedHeadline}
-use Rattle.net_runs.proofs.Below.{walked_splits}
+use Rattle.std.{proofs.Common.{◌≡◌, ◌⊎◌, ℕ, zero, suc, ◌<◌, List, [], ◌∷◌, ◌++◌, length, Some, refl, sym, ◌∙◌, ap, subst, inl, inr, arith}, specs.Prelude.{slice_get, option_map}, proofs.lemmas.List.{append_assoc}, proofs.lemmas.List.Elements.{All-weaker}, proofs.lemmas.Option.{slice_get-map, none-some, same_Some}}
+use Rattle.mctp_transport.{specs.PacketValues.{PacketValue, key_of}, specs.Hearing.{Whole}}
+use Rattle.plan_values.{specs.declared.plan.Plan.{Plan}, specs.declared.certificate.Certificate.{Certificate}}
+use Rattle.net_tables.{specs.Routing.{Holds}, specs.TwoPlans.{Tables}}
+use Rattle.net_runs.{specs.Events.{Entered}, specs.Walkers.{WalkedEvent, WalkedOutcome, Happened, walked_at_start}, specs.WalkedRuns.{WalkedTurn, WalkedRunFrom, WalkedRunOf, walked_reached}, specs.WalkedMessages.{IsPutOfWalked}, specs.WalkedPromises.{WasPutInWalked, WalkedHeadline}, proofs.Below.{walked_splits}}
 use Rattle.net_check.specs.Accepted.{IsAccepted}
-use Rattle.net_sim.specs.WalkedStanding.{NetworkValue}
-use Rattle.net_sim.specs.Played.{IsRunOf, PlaysAll}
-use Rattle.net_sim.specs.PutInBefore.{WasPutInBefore, TellWhatWasPutIn, PlaysWhatWasPutIn}
-use Rattle.net_sim.proofs.AsSent.{turn_at}
-use Rattle.net_sim.proofs.PlayedWalks.{run_joins, promised}
+use Rattle.net_sim.{specs.WalkedStanding.{NetworkValue}, specs.Played.{IsRunOf, PlaysAll}, specs.PutInBefore.{WasPutInBefore, TellWhatWasPutIn, PlaysWhatWasPutIn}, proofs.AsSent.{turn_at}, proofs.PlayedWalks.{run_joins, promised}}
 
 -- the turns before an index, and those after it
 split_at : (turns : List WalkedTurn) (i : ℕ) (turn : WalkedTurn) → slice_get turns i ≡ Some turn

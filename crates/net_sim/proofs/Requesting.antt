@@ -1,16 +1,9 @@
 -- A walker's request is one packet, which is put in at its node.
 use Rattle.std.proofs.Common.{◌≡◌, ℕ, ◌<◌, ◌≤◌, List, [], ◌∷◌, ◌++◌, length, map, refl, ap, subst, arith}
-use Rattle.mctp_transport.specs.PacketValues.{PacketValue, KeyValue, IsPacketValue, packet_value_bytes}
-use Rattle.mctp_transport.specs.Cutting.{ArePacketsOf}
-use Rattle.mctp_transport.proofs.Sending.{few_packets, many_packets}
+use Rattle.mctp_transport.{specs.PacketValues.{PacketValue, KeyValue, IsPacketValue, packet_value_bytes}, specs.Cutting.{ArePacketsOf}, proofs.Sending.{few_packets, many_packets}}
 use Rattle.net_tables.specs.TwoPlans.{Tables}
-use Rattle.net_runs.specs.States.{unit_of}
-use Rattle.net_runs.proofs.Units.{least_unit}
-use Rattle.net_runs.specs.Events.{most_flights}
-use Rattle.net_sim.specs.Flights.{begun}
-use Rattle.net_sim.specs.Standing.{TrafficValue}
-use Rattle.net_sim.specs.Sending.{PutsOne}
-use Rattle.net_sim.proofs.Putting.{puts}
+use Rattle.net_runs.{specs.States.{unit_of}, proofs.Units.{least_unit}, specs.Events.{most_flights}}
+use Rattle.net_sim.{specs.Flights.{begun}, specs.Standing.{TrafficValue}, specs.Sending.{PutsOne}, proofs.Putting.{puts}}
 
 -- packets of one unit are those of the same unit
 pub as_cut : {unit same : ℕ} {message : List ℕ} {d : ℕ} {key : KeyValue} {start : ℕ} {ps : List PacketValue} → unit ≡ same → ArePacketsOf unit message d key start ps → ArePacketsOf same message d key start ps

@@ -1,14 +1,6 @@
 -- The rooms for the payloads of packets that are cut: how many they take, and what is left once one is taken.
-use Rattle.std.proofs.Common.{◌≡◌, ℕ, zero, suc, ◌+◌, ◌*◌, ◌<◌, ◌≤◌, All, List, [], ◌∷◌, ◌++◌, length, map, get_or, Some, refl, ap, ◌∙◌, subst, inl, inr, arith, length-append}
-use Rattle.std.specs.Prelude.{Vec, option_map, slice_get}
-use Rattle.std.specs.List.{concat}
-use Rattle.std.proofs.lemmas.Bool.{cases_eq}
-use Rattle.std.proofs.lemmas.List.{length_push, get_or_push, get_or_append_left}
-use Rattle.std.proofs.lemmas.List.Elements.{All-head, All-tail}
-use Rattle.std.proofs.lemmas.Option.{same_Some, none-some, slice_get-map, slice_get-get_or, slice_get_within}
-use Rattle.mctp_transport.specs.PacketValues.{PacketValue, KeyValue}
-use Rattle.mctp_transport.specs.Cutting.{IsCut, ArePacketsOf}
-use Rattle.mctp_transport.proofs.Sending.{few_packets}
+use Rattle.std.{proofs.Common.{◌≡◌, ℕ, zero, suc, ◌+◌, ◌*◌, ◌<◌, ◌≤◌, All, List, [], ◌∷◌, ◌++◌, length, map, get_or, Some, refl, ap, ◌∙◌, subst, inl, inr, arith, length-append}, specs.Prelude.{Vec, option_map, slice_get}, specs.List.{concat}, proofs.lemmas.Bool.{cases_eq}, proofs.lemmas.List.{length_push, get_or_push, get_or_append_left}, proofs.lemmas.List.Elements.{All-head, All-tail}, proofs.lemmas.Option.{same_Some, none-some, slice_get-map, slice_get-get_or, slice_get_within}}
+use Rattle.mctp_transport.{specs.PacketValues.{PacketValue, KeyValue}, specs.Cutting.{IsCut, ArePacketsOf}, proofs.Sending.{few_packets}}
 use Rattle.net_sim.specs.Payloads.{IsRoomFor, HaveRooms}
 
 -- a part is no longer than the whole

@@ -1,19 +1,10 @@
 -- A key is settled where each place of the numbers, and each node that holds the destination, is clear of it.
-use Rattle.std.proofs.Common.{◌≡◌, ◌≢◌, ◌↔◌, ℕ, ◌<◌, List, length, map, get_or, All, Option, Some, None, refl, sym, ◌∙◌, ap, subst}
-use Rattle.std.specs.Prelude.{slice_get, option_map, option_and_then}
-use Rattle.std.proofs.lemmas.List.Elements.{All-map}
-use Rattle.std.proofs.lemmas.Option.{slice_get-map, slice_get-get_or, none-some}
+use Rattle.std.{proofs.Common.{◌≡◌, ◌≢◌, ◌↔◌, ℕ, ◌<◌, List, length, map, get_or, All, Option, Some, None, refl, sym, ◌∙◌, ap, subst}, specs.Prelude.{slice_get, option_map, option_and_then}, proofs.lemmas.List.Elements.{All-map}, proofs.lemmas.Option.{slice_get-map, slice_get-get_or, none-some}}
 use Rattle.mctp_transport.specs.PacketValues.{KeyValue}
 use Rattle.plan_values.specs.declared.plan.Plan.{Plan}
-use Rattle.net_tables.specs.Routing.{Holds}
-use Rattle.net_runs.specs.Termini.{TerminusState, WaitingMessage}
-use Rattle.net_runs.specs.States.{NetworkState, Flight}
-use Rattle.net_runs.specs.ExactMessages.{IsSettled}
-use Rattle.net_sim.specs.Flights.{flight_at}
-use Rattle.net_sim.specs.Standing.{TrafficValue, HasNetworkState}
-use Rattle.net_sim.specs.Settling.{IsTo, IsNotTo, NoneWaits, IsClearAt}
-use Rattle.net_sim.proofs.Dealt.{all_at}
-use Rattle.net_tables.proofs.Elements.{holder_within}
+use Rattle.net_tables.{specs.Routing.{Holds}, proofs.Elements.{holder_within}}
+use Rattle.net_runs.{specs.Termini.{TerminusState, WaitingMessage}, specs.States.{NetworkState, Flight}, specs.ExactMessages.{IsSettled}}
+use Rattle.net_sim.{specs.Flights.{flight_at}, specs.Standing.{TrafficValue, HasNetworkState}, specs.Settling.{IsTo, IsNotTo, NoneWaits, IsClearAt}, proofs.Dealt.{all_at}}
 
 module _ {F : Type 0} (see : F → Option Flight) (fs : List F) (key : KeyValue) (d : ℕ) where
   abbrev seen : Option F → Option Flight

@@ -1,16 +1,9 @@
 -- A node's switch is a step of the network.
-use Rattle.std.proofs.Common.{◌≡◌, ◌≢◌, ℕ, ◌<◌, Bool, true, false, cond, eqb, List, length, Option, Some, None, refl, sym, ◌∙◌, ap, subst, inl, inr, arith}
-use Rattle.std.specs.Prelude.{slice_get, slice_set, unwrap_or}
-use Rattle.std.proofs.lemmas.Bool.Decides.{eqb_tells}
-use Rattle.std.proofs.lemmas.Option.{slice_get_within}
+use Rattle.std.{proofs.Common.{◌≡◌, ◌≢◌, ℕ, ◌<◌, Bool, true, false, cond, eqb, List, length, Option, Some, None, refl, sym, ◌∙◌, ap, subst, inl, inr, arith}, specs.Prelude.{slice_get, slice_set, unwrap_or}, proofs.lemmas.Bool.Decides.{eqb_tells}, proofs.lemmas.Option.{slice_get_within}}
 use Rattle.mctp_transport.specs.declared.assembler.Assembler.{Assembler}
-use Rattle.net_tables.specs.TwoPlans.{Tables}
-use Rattle.net_runs.specs.Termini.{TerminusState}
-use Rattle.net_runs.specs.States.{NetworkState, Flight, with_switched}
-use Rattle.net_runs.specs.Events.{Switch, Switched, Refusal, N01, N02, N03, N04, N05, N06, N07, IsRefused}
-use Rattle.net_tables.proofs.Elements.{set_there, set_elsewhere}
-use Rattle.net_sim.specs.Routers.{has_switched}
-use Rattle.net_sim.specs.Standing.{TrafficValue, HasNetworkState, Plays, at_place}
+use Rattle.net_tables.{specs.TwoPlans.{Tables}, proofs.Elements.{set_there, set_elsewhere}}
+use Rattle.net_runs.{specs.Termini.{TerminusState}, specs.States.{NetworkState, Flight, with_switched}, specs.Events.{Switch, Switched, Refusal, N01, N02, N03, N04, N05, N06, N07, IsRefused}}
+use Rattle.net_sim.{specs.Routers.{has_switched}, specs.Standing.{TrafficValue, HasNetworkState, Plays, at_place}}
 
 -- the marks after one is set
 set_mark : (marks : List Bool) (i k : ℕ) → i < length marks → has_switched (slice_set marks i true) k ≡ cond (eqb k i) true (has_switched marks k)

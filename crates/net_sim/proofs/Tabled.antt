@@ -1,20 +1,12 @@
 -- The rows of an accepted plan make routing tables, node after node.
-use Rattle.std.proofs.Common.{◌≡◌, ℕ, zero, suc, ◌<◌, Bool, true, false, List, length, map, replicate, Option, Some, None, refl, sym, ◌∙◌, subst, arith}
-use Rattle.std.specs.Prelude.{slice_get, unwrap_or}
-use Rattle.std.proofs.lemmas.Option.{slice_get_within}
-use Rattle.mctp_routing.specs.declared.row.TableRow as bridge
+use Rattle.std.{proofs.Common.{◌≡◌, ℕ, zero, suc, ◌<◌, Bool, true, false, List, length, map, replicate, Option, Some, None, refl, sym, ◌∙◌, subst, arith}, specs.Prelude.{slice_get, unwrap_or}, proofs.lemmas.Option.{slice_get_within}}
 use Rattle.mctp_routing.specs.Rows.{HasSameRoutes}
-use Rattle.plan_values.specs.declared.plan.Plan.{Plan}
-use Rattle.plan_values.specs.declared.certificate.Certificate.{Certificate}
-use Rattle.net_rules.specs.declared.rule.Rule.TheVariants.{C04, C05}
-use Rattle.net_tables.specs.Rows.{RowsAreApart, RowsAreInRange}
-use Rattle.net_tables.specs.TwoPlans.{rows_by}
-use Rattle.net_rules.specs.Rules.{RuleHolds}
-use Rattle.net_rules.specs.MoveRules.{Before, After, AcceptsMove}
-use Rattle.net_tables.specs.Tables.{AreTabled, table_row}
+use Rattle.plan_values.{specs.declared.plan.Plan.{Plan}, specs.declared.certificate.Certificate.{Certificate}}
+use Rattle.net_rules.{specs.declared.rule.Rule.TheVariants.{C04, C05}, specs.Rules.{RuleHolds}, specs.MoveRules.{Before, After, AcceptsMove}}
+use Rattle.net_tables.{specs.Rows.{RowsAreApart, RowsAreInRange}, specs.TwoPlans.{rows_by}, specs.Tables.{AreTabled, table_row}}
 use Rattle.net_check.specs.Accepted.{AreAccepted}
-use Rattle.net_sim.specs.Routers.{AreTabledAfter, has_switched}
-use Rattle.net_sim.proofs.Deciding.{same_count}
+use Rattle.net_sim.{specs.Routers.{AreTabledAfter, has_switched}, proofs.Deciding.{same_count}}
+use Rattle.mctp_routing.specs.declared.row.TableRow as bridge
 
 -- by C04 and C05 they are lawful and lie apart
 are_rows : (plan : Plan) (cert : Certificate) → RuleHolds plan cert C04 → RuleHolds plan cert C05 → RowsAreApart plan × RowsAreInRange plan

@@ -1,24 +1,8 @@
 -- What the counters tell after a push, a write and a sweep.
-use Rattle.std.proofs.Common.{◌≡◌, ◌≢◌, ℕ, zero, suc, ◌+◌, ◌-◌, ◌<◌, ◌≤◌, List, [], ◌∷◌, ◌++◌, length, get_or, All, Bool, true, false, cond, Option, Some, None, option_map, is_some, is_none, refl, sym, ap, ◌∙◌, arith, true≢false}
-use Rattle.std.specs.Prelude.{slice_set, IfSome, ◌^◌, if◌then◌else◌}
-use Rattle.std.specs.List.{count_by, filter}
-use Rattle.std.proofs.lemmas.Bool.Decides.{Decides-eqb}
-use Rattle.std.proofs.lemmas.List.Sums.{count_by-le-length, sum_by-cons, sum_by_push, sum_by-set}
-use Rattle.std.proofs.lemmas.List.Elements.{All-head, All-tail}
-use Rattle.std.specs.Cmp.{booleans_Decides}
-use Rattle.mctp_transport.specs.PacketValues.{KeyValue, key_of}
-use Rattle.mctp_transport.specs.Packets.{key_value}
+use Rattle.std.{proofs.Common.{◌≡◌, ◌≢◌, ℕ, zero, suc, ◌+◌, ◌-◌, ◌<◌, ◌≤◌, List, [], ◌∷◌, ◌++◌, length, get_or, All, Bool, true, false, cond, Option, Some, None, option_map, is_some, is_none, refl, sym, ap, ◌∙◌, arith, true≢false}, specs.Prelude.{slice_set, IfSome, ◌^◌, if◌then◌else◌}, specs.List.{count_by, filter}, proofs.lemmas.Bool.Decides.{Decides-eqb}, proofs.lemmas.List.Sums.{count_by-le-length, sum_by-cons, sum_by_push, sum_by-set}, proofs.lemmas.List.Elements.{All-head, All-tail}, specs.Cmp.{booleans_Decides}}
+use Rattle.mctp_transport.{specs.PacketValues.{KeyValue, key_of}, specs.Packets.{key_value}}
+use Rattle.net_sim.{specs.FlightValues.{flight_value}, specs.Flights.{gone_on}, specs.KeyCounts.{count_of, are_these}, specs.Settling.{IsNotTo, goes_to}, specs.Tallies.{IsTally, slot_goes_to, AreTallied, waits_under, AreCounted}, specs.declared.flights.Flight.{Flight}, specs.declared.flights.Slot.{Slot}, specs.declared.waiting.Waiting.{Waiting}, specs.declared.key_counts.KeyCounts.{KeyCounts}, proofs.Counting.{map_some, these_are}}
 use Rattle.net_runs.specs.States as state
-use Rattle.net_sim.specs.FlightValues.{flight_value}
-use Rattle.net_sim.specs.Flights.{gone_on}
-use Rattle.net_sim.specs.KeyCounts.{count_of, are_these}
-use Rattle.net_sim.specs.Settling.{IsNotTo, goes_to}
-use Rattle.net_sim.specs.Tallies.{IsTally, slot_goes_to, AreTallied, waits_under, AreCounted}
-use Rattle.net_sim.specs.declared.flights.Flight.{Flight}
-use Rattle.net_sim.specs.declared.flights.Slot.{Slot}
-use Rattle.net_sim.specs.declared.waiting.Waiting.{Waiting}
-use Rattle.net_sim.specs.declared.key_counts.KeyCounts.{KeyCounts}
-use Rattle.net_sim.proofs.Counting.{map_some, these_are}
 
 abbrev pub one_if : Bool → ℕ
 one_if b = cond b 1 0

@@ -1,10 +1,8 @@
 -- A walker's records are told.
-use Rattle.std.proofs.Common.{◌≡◌, ℕ, ◌<◌, length, Some, None, refl, sym, ◌∙◌, arith}
-use Rattle.std.proofs.lemmas.Option.{none-some}
+use Rattle.std.{proofs.Common.{◌≡◌, ℕ, ◌<◌, length, Some, None, refl, sym, ◌∙◌, arith}, proofs.lemmas.Option.{none-some}}
 use Rattle.net_tables.specs.TwoPlans.{Tables}
 use Rattle.net_runs.specs.Walkers.{WalkerValue, WalkedState, TellWalk, ToldWalk, WalkRefused, WalkRefusal, Also, N08, N09, N10, N11, N12, N13, IsWalkRefused, walk_refusal_number, Standing, standing_of}
-use Rattle.net_sim.specs.WalkedStanding.{NetworkValue, StandsForWalked, WalkedPlays}
-use Rattle.net_sim.proofs.Walking.{walk_refused}
+use Rattle.net_sim.{specs.WalkedStanding.{NetworkValue, StandsForWalked, WalkedPlays}, proofs.Walking.{walk_refused}}
 
 module _ (tables : Tables) (v : NetworkValue) (number : ℕ) where
   pub tells_none : ((w : WalkedState) → StandsForWalked v w → w.walker number ≡ None) → WalkedPlays tables v (TellWalk number) (WalkRefused N11) v

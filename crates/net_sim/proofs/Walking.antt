@@ -1,23 +1,9 @@
 -- What a network with walkers stands for after its traffic or one of its walkers has changed.
-use Rattle.std.proofs.Common.{◌≡◌, ◌≢◌, ℕ, ◌+◌, ◌<◌, MatchResult, Ok, Err, true, false, cond, eqb, List, [], ◌∷◌, ◌++◌, length, Bool, Option, Some, None, refl, sym, ◌∙◌, ap, subst, inl, inr, arith}
-use Rattle.std.specs.Prelude.{slice_get, slice_set}
-use Rattle.std.specs.declared.result.Result.{Result}
-use Rattle.std.specs.Result.{IsErr}
-use Rattle.std.proofs.lemmas.Bool.Decides.{eqb_tells}
-use Rattle.std.proofs.lemmas.List.{length_push, length-set}
-use Rattle.mctp_transport.specs.PacketValues.{KeyValue}
-use Rattle.mctp_transport.specs.Hearing.{Answer}
-use Rattle.net_tables.specs.TwoPlans.{Tables}
-use Rattle.net_runs.specs.States.{NetworkState}
-use Rattle.net_runs.specs.Events.{EventValue, Put, Move, Lose, Expire, AnswerAt, Switch, OutcomeValue, Entered}
-use Rattle.net_runs.specs.Networks.{Step}
-use Rattle.net_runs.specs.Walkers.{WalkerValue, WalkedState, WalkedEvent, WalkedOutcome, Happening, Happened, WalkRefused, WalkRefusal, IsFirstWalkRefusal, with_walker}
-use Rattle.net_runs.specs.WalkedRuns.{IsForNone}
-use Rattle.net_tables.proofs.Elements.{set_there, set_elsewhere, push_last}
-use Rattle.net_sim.specs.Standing.{TrafficValue, HasNetworkState, Plays, Wants}
-use Rattle.net_sim.specs.WalkedStanding.{NetworkValue, StandsForWalked, WalkedPlays, WalkedWants}
-use Rattle.net_sim.proofs.Slots.{push_elsewhere}
-use Rattle.net_runs.proofs.FirstAsks.{never_refused}
+use Rattle.std.{proofs.Common.{◌≡◌, ◌≢◌, ℕ, ◌+◌, ◌<◌, MatchResult, Ok, Err, true, false, cond, eqb, List, [], ◌∷◌, ◌++◌, length, Bool, Option, Some, None, refl, sym, ◌∙◌, ap, subst, inl, inr, arith}, specs.Prelude.{slice_get, slice_set}, specs.declared.result.Result.{Result}, specs.Result.{IsErr}, proofs.lemmas.Bool.Decides.{eqb_tells}, proofs.lemmas.List.{length_push, length-set}}
+use Rattle.mctp_transport.{specs.PacketValues.{KeyValue}, specs.Hearing.{Answer}}
+use Rattle.net_tables.{specs.TwoPlans.{Tables}, proofs.Elements.{set_there, set_elsewhere, push_last}}
+use Rattle.net_runs.{specs.States.{NetworkState}, specs.Events.{EventValue, Put, Move, Lose, Expire, AnswerAt, Switch, OutcomeValue, Entered}, specs.Networks.{Step}, specs.Walkers.{WalkerValue, WalkedState, WalkedEvent, WalkedOutcome, Happening, Happened, WalkRefused, WalkRefusal, IsFirstWalkRefusal, with_walker}, specs.WalkedRuns.{IsForNone}, proofs.FirstAsks.{never_refused}}
+use Rattle.net_sim.{specs.Standing.{TrafficValue, HasNetworkState, Plays, Wants}, specs.WalkedStanding.{NetworkValue, StandsForWalked, WalkedPlays, WalkedWants}, proofs.Slots.{push_elsewhere}}
 
 -- the number after two that are the same, or not
 next_eqb : (k i : ℕ) → eqb (k + 1) (i + 1) ≡ eqb k i

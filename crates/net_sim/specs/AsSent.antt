@@ -1,15 +1,10 @@
 -- Where what is sent keeps apart, the whole messages that a network tells are those that were sent.
-use Rattle.std.specs.Prelude.{◌≡◌, ℕ, ◌*◌, ◌≤◌, List, length, slice_get, Option, Some}
-use Rattle.std.specs.List.{zip}
+use Rattle.std.{specs.Prelude.{◌≡◌, ℕ, ◌*◌, ◌≤◌, List, length, slice_get, Option, Some}, specs.List.{zip}}
 use Rattle.mctp_transport.specs.PacketValues.{KeyValue}
 use Rattle.plan_values.specs.declared.plan.Plan.{Plan}
-use Rattle.net_tables.specs.Routing.{Holds}
-use Rattle.net_tables.specs.TwoPlans.{Tables}
-use Rattle.net_runs.specs.ExactMessages.{Epoch, IsQuiet}
-use Rattle.net_runs.specs.Walkers.{WalkedState, WalkedEvent, WalkedOutcome, Handed, BringsWholeAt}
-use Rattle.net_runs.specs.WalkedMessages.{IsWalkedTidyFrom}
-use Rattle.net_sim.specs.WalkedStanding.{NetworkValue, StandsForWalked}
-use Rattle.net_sim.specs.Played.{IsRunOf}
+use Rattle.net_tables.{specs.Routing.{Holds}, specs.TwoPlans.{Tables}}
+use Rattle.net_runs.{specs.ExactMessages.{Epoch, IsQuiet}, specs.Walkers.{WalkedState, WalkedEvent, WalkedOutcome, Handed, BringsWholeAt}, specs.WalkedMessages.{IsWalkedTidyFrom}}
+use Rattle.net_sim.{specs.WalkedStanding.{NetworkValue, StandsForWalked}, specs.Played.{IsRunOf}}
 
 -- Each whole message that the outcomes tell under the key, at a node that holds d, is the message of the epoch at the
 -- outcome's index, where that is of five packets at most.

@@ -1,21 +1,11 @@
 -- The devices of a plan while an assignment is carried out, and what they reply.
-use Rattle.std.specs.Prelude.{◌≡◌, ◌↔◌, ℕ, List, [], ◌∷◌, length, map, slice_get}
-use Rattle.std.specs.Prelude.{slice_set, Option, Some, None, option_map, IsSomeAnd}
-use Rattle.plan_values.specs.declared.plan.Plan.{Plan}
-use Rattle.plan_values.specs.declared.nodes.Kind.TheVariants as planned
-use Rattle.plan_values.specs.declared.nodes.Node.{Node}
-use Rattle.plan_values.specs.declared.nodes.Pool.{Pool}
-use Rattle.mctp_transport.specs.declared.device_kind.DeviceKind.TheVariants as device
-use Rattle.mctp_control.specs.Ranges.{IsWithin}
-use Rattle.mctp_control.specs.RouteEntries.{EntryValue}
-use Rattle.mctp_control.specs.Requests.{CommandValue, SetsEid, AllocatesEids, request_bytes}
-use Rattle.mctp_control.specs.Responses.{AnswerValue, EidSet, PoolTold, ResponseValue, SpellsResponse}
-use Rattle.mctp_control.specs.Devices.{PoolHeld, DeviceValue}
-use Rattle.mctp_control.specs.Replies.{Replies}
-use Rattle.net_tables.specs.Names.{device_kind}
-use Rattle.net_tables.specs.Routing.{node_at}
-use Rattle.net_tables.specs.Ownership.{IsOwnedBy}
+use Rattle.std.specs.Prelude.{◌≡◌, ◌↔◌, ℕ, List, [], ◌∷◌, length, map, slice_get, slice_set, Option, Some, None, option_map, IsSomeAnd}
+use Rattle.plan_values.{specs.declared.plan.Plan.{Plan}, specs.declared.nodes.Node.{Node}, specs.declared.nodes.Pool.{Pool}}
+use Rattle.mctp_control.{specs.Ranges.{IsWithin}, specs.RouteEntries.{EntryValue}, specs.Requests.{CommandValue, SetsEid, AllocatesEids, request_bytes}, specs.Responses.{AnswerValue, EidSet, PoolTold, ResponseValue, SpellsResponse}, specs.Devices.{PoolHeld, DeviceValue}, specs.Replies.{Replies}}
+use Rattle.net_tables.{specs.Names.{device_kind}, specs.Routing.{node_at}, specs.Ownership.{IsOwnedBy}}
 use Rattle.net_sim.specs.Assignments.{AssignmentValue}
+use Rattle.plan_values.specs.declared.nodes.Kind.TheVariants as planned
+use Rattle.mctp_transport.specs.declared.device_kind.DeviceKind.TheVariants as device
 
 -- the size of a planned pool, 0 where there is none
 abbrev pub planned_size : Option Pool → ℕ

@@ -1,7 +1,6 @@
 -- The beginnings of an assignment.
 use Rattle.std.specs.Prelude.{◌≡◌, ◌⊎◌, ℕ, ◌<◌, List}
-use Rattle.plan_values.specs.declared.plan.Plan.{Plan}
-use Rattle.plan_values.specs.declared.certificate.Certificate.{Certificate}
+use Rattle.plan_values.{specs.declared.plan.Plan.{Plan}, specs.declared.certificate.Certificate.{Certificate}}
 use Rattle.net_tables.specs.Ownership.{level}
 use Rattle.net_sim.specs.Assignments.{AssignmentValue, IsOwned, AsksInOrder}
 

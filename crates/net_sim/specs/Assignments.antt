@@ -1,15 +1,8 @@
 -- The requests that give the owned nodes of a plan their endpoint IDs and pools.
-use Rattle.std.specs.Prelude.{◌≡◌, ◌⊎◌, ◌↔◌, ◌==◌, ℕ, ◌<◌, Bool, false, List, [], ◌∷◌, Option}
-use Rattle.std.specs.Prelude.{Some, None, option_map, option_and_then, find, AllPairs, Contains}
-use Rattle.std.specs.List.{list_any, flat_map}
-use Rattle.plan_values.specs.declared.plan.Plan.{Plan}
-use Rattle.plan_values.specs.declared.certificate.Certificate.{Certificate}
-use Rattle.plan_values.specs.declared.nodes.Node.{Node}
-use Rattle.plan_values.specs.declared.nodes.Pool.{Pool}
-use Rattle.mctp_control.specs.Headers.{HeaderValue}
-use Rattle.mctp_control.specs.Requests.{SetsEid, AllocatesEids, RequestValue, request_value}
-use Rattle.net_tables.specs.Routing.{node_at, ports_of}
-use Rattle.net_tables.specs.Ownership.{IsOwnedBy, level}
+use Rattle.std.{specs.Prelude.{◌≡◌, ◌⊎◌, ◌↔◌, ◌==◌, ℕ, ◌<◌, Bool, false, List, [], ◌∷◌, Option, Some, None, option_map, option_and_then, find, AllPairs, Contains}, specs.List.{list_any, flat_map}}
+use Rattle.plan_values.{specs.declared.plan.Plan.{Plan}, specs.declared.certificate.Certificate.{Certificate}, specs.declared.nodes.Node.{Node}, specs.declared.nodes.Pool.{Pool}}
+use Rattle.mctp_control.{specs.Headers.{HeaderValue}, specs.Requests.{SetsEid, AllocatesEids, RequestValue, request_value}}
+use Rattle.net_tables.{specs.Routing.{node_at, ports_of}, specs.Ownership.{IsOwnedBy, level}}
 use Rattle.net_sim.specs.declared.assigning.assignment.Assignment.{Assignment}
 
 -- a request to a node, over a bus; both are places in the plan's lists

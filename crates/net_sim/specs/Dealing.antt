@@ -1,13 +1,8 @@
 -- How termini are dealt to the nodes of a plan.
-use Rattle.std.specs.Prelude.{ℕ, List, [], ◌∷◌, length, Option, Some, None, false}
-use Rattle.std.specs.List.{filter_map, range_with_len}
-use Rattle.plan_values.specs.declared.plan.Plan.{Plan}
-use Rattle.plan_values.specs.declared.certificate.Certificate.{Certificate}
-use Rattle.plan_values.specs.declared.nodes.Node.{Node}
-use Rattle.plan_values.specs.declared.terminus.PlannedTerminus.{PlannedTerminus}
+use Rattle.std.{specs.Prelude.{ℕ, List, [], ◌∷◌, length, Option, Some, None, false}, specs.List.{filter_map, range_with_len}}
+use Rattle.plan_values.{specs.declared.plan.Plan.{Plan}, specs.declared.certificate.Certificate.{Certificate}, specs.declared.nodes.Node.{Node}, specs.declared.terminus.PlannedTerminus.{PlannedTerminus}}
 use Rattle.pdr_repository.specs.Records.{Entry}
-use Rattle.net_runs.specs.Termini.{TerminusState, terminus_at_start}
-use Rattle.net_runs.specs.States.{NetworkState}
+use Rattle.net_runs.{specs.Termini.{TerminusState, terminus_at_start}, specs.States.{NetworkState}}
 use Rattle.net_sim.specs.Standing.{at_place}
 
 -- a terminus at which nothing waits

@@ -1,13 +1,10 @@
 -- What an event does to the packets of a network, as plain values.
 use Rattle.std.specs.Prelude.{ℕ, List, codes}
 use Rattle.mctp_transport.specs.Packets.{key_value}
-use Rattle.mctp_transport.specs.Hearing as heard
 use Rattle.net_runs.specs.Events.{OutcomeValue, N01, N02, N03, N04, N05, N06, N07}
+use Rattle.net_sim.{specs.declared.refusal.Refusal.{Refusal}, specs.declared.refusal.Refusal.TheVariants.{NoNode, NoPacket, NoFlight, NoTerminus, NothingWaits, NoNumbers, NoSwitch}, specs.declared.effect.Effect.{Effect}}
+use Rattle.mctp_transport.specs.Hearing as heard
 use Rattle.net_runs.specs.Events as value
-use Rattle.net_sim.specs.declared.refusal.Refusal.{Refusal}
-use Rattle.net_sim.specs.declared.refusal.Refusal.TheVariants.{NoNode, NoPacket, NoFlight, NoTerminus}
-use Rattle.net_sim.specs.declared.refusal.Refusal.TheVariants.{NothingWaits, NoNumbers, NoSwitch}
-use Rattle.net_sim.specs.declared.effect.Effect.{Effect}
 use Rattle.net_sim.specs.declared.effect.Effect.TheVariants as effect
 
 abbrev pub refusal_value : Refusal → value.Refusal

@@ -1,13 +1,9 @@
 -- The flights that a network holds, each under its number.
-use Rattle.std.specs.Prelude.{ℕ, ◌+◌, ◌-◌, ◌==◌, if◌then◌else◌, List, [], ◌∷◌, map, length, slice_get}
-use Rattle.std.specs.Prelude.{Option, Some, None, option_map, option_and_then, vec_capacity}
-use Rattle.std.specs.List.{range_with_len}
+use Rattle.std.{specs.Prelude.{ℕ, ◌+◌, ◌-◌, ◌==◌, if◌then◌else◌, List, [], ◌∷◌, map, length, slice_get, Option, Some, None, option_map, option_and_then, vec_capacity}, specs.List.{range_with_len}}
 use Rattle.mctp_transport.specs.PacketValues.{PacketValue}
-use Rattle.net_runs.specs.States as state
 pub use Rattle.net_sim.specs.FlightValues.{flight_value}
-use Rattle.net_sim.specs.declared.flights.Flight.{Flight}
-use Rattle.net_sim.specs.declared.flights.Slot.{Slot}
-use Rattle.net_sim.specs.declared.flights.Flights.{Flights}
+use Rattle.net_sim.{specs.declared.flights.Flight.{Flight}, specs.declared.flights.Slot.{Slot}, specs.declared.flights.Flights.{Flights}}
+use Rattle.net_runs.specs.States as state
 
 -- the flight that is kept under a number
 abbrev pub kept : List Slot → ℕ → Option Flight

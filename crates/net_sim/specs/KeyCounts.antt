@@ -1,11 +1,7 @@
 -- How many there are of each message key and destination, of endpoint IDs that are known.
-use Rattle.std.specs.Prelude.{ℕ, ◌+◌, ◌*◌, ◌==◌, ◌&&◌, nat_lt, if◌then◌else◌, List, Bool}
-use Rattle.std.specs.Prelude.{Option, Some, None, option_map, option_and_then, slice_get}
-use Rattle.mctp_transport.specs.PacketValues.{KeyValue, bit}
-use Rattle.mctp_transport.specs.Histories.{same_key}
-use Rattle.mctp_transport.specs.declared.address.Eid.{Eid}
-use Rattle.net_sim.specs.declared.key_counts.KnownEids.{KnownEids}
-use Rattle.net_sim.specs.declared.key_counts.KeyCounts.{KeyCounts}
+use Rattle.std.specs.Prelude.{ℕ, ◌+◌, ◌*◌, ◌==◌, ◌&&◌, nat_lt, if◌then◌else◌, List, Bool, Option, Some, None, option_map, option_and_then, slice_get}
+use Rattle.mctp_transport.{specs.PacketValues.{KeyValue, bit}, specs.Histories.{same_key}, specs.declared.address.Eid.{Eid}}
+use Rattle.net_sim.{specs.declared.key_counts.KnownEids.{KnownEids}, specs.declared.key_counts.KeyCounts.{KeyCounts}}
 
 -- an index below 64, where the endpoint ID stands there
 abbrev pub if_there : List Eid → ℕ → ℕ → Option ℕ

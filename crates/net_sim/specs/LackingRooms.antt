@@ -2,15 +2,8 @@
 use Rattle.std.specs.Prelude.{◌≡◌, ◌⊎◌, ◌<◌, ℕ, length, true, Some, slice_get}
 use Rattle.mctp_transport.specs.PacketValues.{PacketValue, KeyValue, key_of, Spelled}
 use Rattle.net_tables.specs.Routing.{Holds}
-use Rattle.net_runs.specs.States.{Flight, destination, unit_of}
-use Rattle.net_runs.specs.Events.{EventValue, Put, Move, Lose, Expire, AnswerAt, Switch}
-use Rattle.net_runs.specs.Walkers.{WalkedEvent, Happening, BeginWalk, Ask, TellWalk}
-use Rattle.net_sim.specs.Flights.{slots_of, flight_at, room_of}
-use Rattle.net_sim.specs.Traffics.{HasRoomAt}
-use Rattle.net_sim.specs.NetworkWalkers.{walker_value, IsReady, Listens}
-use Rattle.net_sim.specs.declared.traffic.Traffic.{Traffic}
-use Rattle.net_sim.specs.declared.network.Network.{Network}
-use Rattle.net_sim.specs.declared.network_walker.NetworkWalker.{NetworkWalker}
+use Rattle.net_runs.{specs.States.{Flight, destination, unit_of}, specs.Events.{EventValue, Put, Move, Lose, Expire, AnswerAt, Switch}, specs.Walkers.{WalkedEvent, Happening, BeginWalk, Ask, TellWalk}}
+use Rattle.net_sim.{specs.Flights.{slots_of, flight_at, room_of}, specs.Traffics.{HasRoomAt}, specs.NetworkWalkers.{walker_value, IsReady, Listens}, specs.declared.traffic.Traffic.{Traffic}, specs.declared.network.Network.{Network}, specs.declared.network_walker.NetworkWalker.{NetworkWalker}}
 
 -- so many flights more can't be made without growing
 abbrev pub LacksFlights : {T : Type 0} → Traffic T → ℕ → Type 0

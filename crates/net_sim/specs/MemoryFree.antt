@@ -1,11 +1,8 @@
 -- Events that take no memory.
 use Rattle.std.specs.Prelude.{◌≡◌, ◌⊎◌, ℕ, Some, false}
 use Rattle.plan_values.specs.declared.plan.Plan.{Plan}
-use Rattle.net_tables.specs.Routing.{Holds}
-use Rattle.net_tables.specs.TwoPlans.{Tables}
-use Rattle.net_runs.specs.States.{NetworkState, Flight, destination}
-use Rattle.net_runs.specs.Events.{Move, Lose, Expire, Switch, Refusal, IsRefused}
-use Rattle.net_runs.specs.Walkers.{WalkedState, WalkedEvent, Happening, TellWalk, WalkRefusal, IsWalkRefused}
+use Rattle.net_tables.{specs.Routing.{Holds}, specs.TwoPlans.{Tables}}
+use Rattle.net_runs.{specs.States.{NetworkState, Flight, destination}, specs.Events.{Move, Lose, Expire, Switch, Refusal, IsRefused}, specs.Walkers.{WalkedState, WalkedEvent, Happening, TellWalk, WalkRefusal, IsWalkRefused}}
 use Rattle.net_sim.specs.WalkedStanding.{WalkedMayWant}
 
 -- the flight of this number, if there is one, is not at its destination, so a move of it enters no node

@@ -1,21 +1,9 @@
 -- What is decided on a move before anything has changed.
 use Rattle.std.specs.Prelude.{◌≡◌, ◌≤◌, ℕ, All, Bool, true, List, [], length, MatchOption, Option, Some}
-use Rattle.mctp_transport.specs.PacketValues.{key_of}
-use Rattle.mctp_transport.specs.Packets.{key_value}
-use Rattle.mctp_transport.specs.declared.packet.Header.{Header}
+use Rattle.mctp_transport.{specs.PacketValues.{key_of}, specs.Packets.{key_value}, specs.declared.packet.Header.{Header}}
 use Rattle.mctp_routing.specs.declared.decision.Decision.TheVariants.{Here}
-use Rattle.net_runs.specs.States.{Flight}
-use Rattle.net_runs.specs.Events.{most_flights}
-use Rattle.net_runs.specs.Networks.{IsDecided}
-use Rattle.net_sim.specs.Flights.{flight_at}
-use Rattle.net_sim.specs.Routers.{RouterValue, rows_in_force, GoesOnWithinRank}
-use Rattle.net_sim.specs.Receiving.{HasRoomAfter}
-use Rattle.net_sim.specs.Traffics.{HasRoomAt}
-use Rattle.net_sim.specs.NetworkWalkers.{walker_value, Listens, ListensAt}
-use Rattle.net_sim.specs.declared.traffic.Traffic.{Traffic}
-use Rattle.net_sim.specs.declared.traffic.moving.DecidedMove.{DecidedMove}
-use Rattle.net_sim.specs.declared.traffic.moving.Room.{Room}
-use Rattle.net_sim.specs.declared.network_walker.NetworkWalker.{NetworkWalker}
+use Rattle.net_runs.{specs.States.{Flight}, specs.Events.{most_flights}, specs.Networks.{IsDecided}}
+use Rattle.net_sim.{specs.Flights.{flight_at}, specs.Routers.{RouterValue, rows_in_force, GoesOnWithinRank}, specs.Receiving.{HasRoomAfter}, specs.Traffics.{HasRoomAt}, specs.NetworkWalkers.{walker_value, Listens, ListensAt}, specs.declared.traffic.Traffic.{Traffic}, specs.declared.traffic.moving.DecidedMove.{DecidedMove}, specs.declared.traffic.moving.Room.{Room}, specs.declared.network_walker.NetworkWalker.{NetworkWalker}}
 
 -- What is said of a move of the flight is so: where it is, the key of its packet, whether that ends a message, its
 -- hops, and what is decided by the rows in force.

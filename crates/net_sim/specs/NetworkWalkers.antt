@@ -1,17 +1,9 @@
 -- The walkers that a network holds.
 use Rattle.std.specs.Prelude.{◌≡◌, ◌≢◌, ◌⊎◌, ℕ, List, Option, Some, None, Result, Err, MatchResult, slice_get}
-use Rattle.mctp_transport.specs.PacketValues.{KeyValue}
-use Rattle.mctp_transport.specs.Hearing.{Whole}
-use Rattle.pldm_message.specs.InstanceIds.{IdSet, Gives, TakesBack}
-use Rattle.pldm_message.specs.InstanceIdValues.{ids_of}
-use Rattle.pdr_repository.specs.declared.walk_fault.Step.{Step as WalkStep}
-use Rattle.pdr_repository.specs.declared.walk_fault.WalkFault.{WalkFault}
-use Rattle.pdr_repository.specs.declared.walk_fault.WalkFault.TheVariants.{OutOfMemory}
-use Rattle.pdr_repository.specs.Walkers.{WalkState, Asks, Takes}
-use Rattle.pdr_repository.specs.WalkerRooms.{HasRoom}
-use Rattle.pdr_repository.specs.WalkerStates.{state_of}
-use Rattle.net_runs.specs.Events.{OutcomeValue, Brings}
-use Rattle.net_runs.specs.Walkers.{WalkerValue, Handed, answering_key, ended_after}
+use Rattle.mctp_transport.{specs.PacketValues.{KeyValue}, specs.Hearing.{Whole}}
+use Rattle.pldm_message.{specs.InstanceIds.{IdSet, Gives, TakesBack}, specs.InstanceIdValues.{ids_of}}
+use Rattle.pdr_repository.{specs.declared.walk_fault.Step.{Step as WalkStep}, specs.declared.walk_fault.WalkFault.{WalkFault}, specs.declared.walk_fault.WalkFault.TheVariants.{OutOfMemory}, specs.Walkers.{WalkState, Asks, Takes}, specs.WalkerRooms.{HasRoom}, specs.WalkerStates.{state_of}}
+use Rattle.net_runs.{specs.Events.{OutcomeValue, Brings}, specs.Walkers.{WalkerValue, Handed, answering_key, ended_after}}
 use Rattle.net_sim.specs.declared.network_walker.NetworkWalker.{NetworkWalker}
 
 abbrev pub walker_value : NetworkWalker → WalkerValue

@@ -1,20 +1,10 @@
 -- What a network holds with its walkers, as plain lists, and what its calls do to that.
 use Rattle.std.specs.Prelude.{◌≡◌, ℕ, List, map, take, length, Result, MatchResult}
-use Rattle.plan_values.specs.declared.certificate.Certificate.{Certificate}
-use Rattle.plan_values.specs.declared.event.Event.{Event}
-use Rattle.plan_values.specs.declared.plan.Plan.{Plan}
+use Rattle.plan_values.{specs.declared.certificate.Certificate.{Certificate}, specs.declared.event.Event.{Event}, specs.declared.plan.Plan.{Plan}}
 use Rattle.net_tables.specs.TwoPlans.{Tables}
 use Rattle.pdr_repository.specs.Records.{Entry}
-use Rattle.net_runs.specs.States.{at_start}
-use Rattle.net_runs.specs.Walkers.{WalkedEvent, WalkedOutcome}
-use Rattle.net_sim.specs.declared.network.Network.{Network}
-use Rattle.net_sim.specs.declared.network.Played.{Played}
-use Rattle.net_sim.specs.declared.outcome.Outcome.{Outcome}
-use Rattle.net_sim.specs.Dealing.{resting, at_rest, planned_termini}
-use Rattle.net_sim.specs.NetworkWalkers.{walker_value}
-use Rattle.net_sim.specs.Outcomes.{event_value, outcome_value}
-use Rattle.net_sim.specs.Traffics.{traffic_value, traffic_checked}
-use Rattle.net_sim.specs.WalkedStanding.{NetworkValue, StandsForWalked, WalkedPlays, WalkedWants, without_walkers}
+use Rattle.net_runs.{specs.States.{at_start}, specs.Walkers.{WalkedEvent, WalkedOutcome}}
+use Rattle.net_sim.{specs.declared.network.Network.{Network}, specs.declared.network.Played.{Played}, specs.declared.outcome.Outcome.{Outcome}, specs.Dealing.{resting, at_rest, planned_termini}, specs.NetworkWalkers.{walker_value}, specs.Outcomes.{event_value, outcome_value}, specs.Traffics.{traffic_value, traffic_checked}, specs.WalkedStanding.{NetworkValue, StandsForWalked, WalkedPlays, WalkedWants, without_walkers}}
 
 -- the tables of the network, of one plan or of two, and the certificate for them
 abbrev pub checked_of : {T : Type 0} → Network T → Tables × Certificate

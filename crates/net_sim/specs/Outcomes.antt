@@ -2,20 +2,11 @@
 use Rattle.std.specs.Prelude.{ℕ, List, codes, option_map}
 use Rattle.mctp_transport.specs.Packets.{key_value}
 use Rattle.plan_values.specs.declared.event.Event.{Event}
+use Rattle.net_runs.{specs.Events.{Put, Move, Lose, Expire, AnswerAt, Switch}, specs.Walkers.{WalkedEvent, Happening, BeginWalk, Ask, TellWalk, WalkedOutcome, Happened, Begun, Asked, ToldWalk, WalkRefused}}
+use Rattle.net_sim.{specs.declared.handed.Handed.{Handed}, specs.declared.standing.Standing.{Standing}, specs.declared.standing.Standing.TheVariants.{Open, Done, Ended}, specs.declared.walk_refusal.WalkRefusal.{WalkRefusal}, specs.declared.walk_refusal.WalkRefusal.TheVariants.{Shared, WalkerThere, NoTerminusThere, WrongCount, NoWalker, Unsettled, WalkOver}, specs.declared.outcome.Outcome.{Outcome}, specs.Effects.{effect_value, refusal_value, refusal_code}}
 use Rattle.plan_values.specs.declared.event.Event.TheVariants as event
-use Rattle.net_runs.specs.Events.{Put, Move, Lose, Expire, AnswerAt, Switch}
-use Rattle.net_runs.specs.Walkers.{WalkedEvent, Happening, BeginWalk, Ask, TellWalk}
-use Rattle.net_runs.specs.Walkers.{WalkedOutcome, Happened, Begun, Asked, ToldWalk, WalkRefused}
 use Rattle.net_runs.specs.Walkers as value
-use Rattle.net_sim.specs.declared.handed.Handed.{Handed}
-use Rattle.net_sim.specs.declared.standing.Standing.{Standing}
-use Rattle.net_sim.specs.declared.standing.Standing.TheVariants.{Open, Done, Ended}
-use Rattle.net_sim.specs.declared.walk_refusal.WalkRefusal.{WalkRefusal}
-use Rattle.net_sim.specs.declared.walk_refusal.WalkRefusal.TheVariants.{Shared, WalkerThere, NoTerminusThere}
-use Rattle.net_sim.specs.declared.walk_refusal.WalkRefusal.TheVariants.{WrongCount, NoWalker, Unsettled, WalkOver}
-use Rattle.net_sim.specs.declared.outcome.Outcome.{Outcome}
 use Rattle.net_sim.specs.declared.outcome.Outcome.TheVariants as outcome
-use Rattle.net_sim.specs.Effects.{effect_value, refusal_value, refusal_code}
 
 abbrev pub event_value : Event → WalkedEvent
 event_value (event.Put node bytes) = Happening (Put node bytes.items)

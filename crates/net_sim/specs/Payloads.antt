@@ -1,8 +1,7 @@
 -- The payloads of the packets that a network keeps, and the rooms that they take.
 use Rattle.std.specs.Prelude.{◌≡◌, ℕ, ◌<◌, ◌≤◌, List, [], length, All, Vec, vec_capacity}
 use Rattle.mctp_transport.specs.PacketValues.{PacketValue}
-use Rattle.net_sim.specs.declared.payload.Payload.{Payload}
-use Rattle.net_sim.specs.declared.payload.Payload.TheVariants.{Short, Long}
+use Rattle.net_sim.{specs.declared.payload.Payload.{Payload}, specs.declared.payload.Payload.TheVariants.{Short, Long}}
 
 abbrev pub payload_bytes : Payload → List ℕ
 payload_bytes (Short bytes) = bytes.items

@@ -1,7 +1,6 @@
 -- Where flights are in a network of an accepted plan.
 use Rattle.std.specs.Prelude.{◌+◌, ◌<◌, ◌≤◌, length}
-use Rattle.plan_values.specs.declared.plan.Plan.{Plan}
-use Rattle.plan_values.specs.declared.certificate.Certificate.{Certificate}
+use Rattle.plan_values.{specs.declared.plan.Plan.{Plan}, specs.declared.certificate.Certificate.{Certificate}}
 use Rattle.net_tables.specs.Ranks.{rank}
 use Rattle.net_runs.specs.States.{Flight, destination}
 

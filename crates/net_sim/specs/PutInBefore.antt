@@ -1,17 +1,10 @@
 -- Each whole message that a network tells joins packets that were put in before it.
 use Rattle.std.specs.Prelude.{◌≡◌, ◌⊎◌, ℕ, ◌<◌, List, slice_get, Option, Some, All}
-use Rattle.mctp_transport.specs.PacketValues.{PacketValue, KeyValue, key_of}
-use Rattle.mctp_transport.specs.Messages.{Joined}
-use Rattle.plan_values.specs.declared.plan.Plan.{Plan}
-use Rattle.plan_values.specs.declared.certificate.Certificate.{Certificate}
-use Rattle.net_tables.specs.Routing.{Holds}
-use Rattle.net_tables.specs.TwoPlans.{Tables}
-use Rattle.net_runs.specs.Walkers.{WalkedState, WalkedEvent, WalkedOutcome, Handed, BringsWholeAt}
-use Rattle.net_runs.specs.WalkedRuns.{WalkedTurn, WalkedRunOf, walked_reached}
-use Rattle.net_runs.specs.WalkedMessages.{IsPutOfWalked}
-use Rattle.net_runs.specs.WalkedPromises.{WasPutInWalked}
-use Rattle.net_sim.specs.WalkedStanding.{NetworkValue, StandsForWalked}
-use Rattle.net_sim.specs.Played.{IsRunOf}
+use Rattle.mctp_transport.{specs.PacketValues.{PacketValue, KeyValue, key_of}, specs.Messages.{Joined}}
+use Rattle.plan_values.{specs.declared.plan.Plan.{Plan}, specs.declared.certificate.Certificate.{Certificate}}
+use Rattle.net_tables.{specs.Routing.{Holds}, specs.TwoPlans.{Tables}}
+use Rattle.net_runs.{specs.Walkers.{WalkedState, WalkedEvent, WalkedOutcome, Handed, BringsWholeAt}, specs.WalkedRuns.{WalkedTurn, WalkedRunOf, walked_reached}, specs.WalkedMessages.{IsPutOfWalked}, specs.WalkedPromises.{WasPutInWalked}}
+use Rattle.net_sim.{specs.WalkedStanding.{NetworkValue, StandsForWalked}, specs.Played.{IsRunOf}}
 
 -- The event at the index puts the packet in: it is a put of the packet's bytes, or an answer or a walker's request that
 -- has made a flight of the packet.

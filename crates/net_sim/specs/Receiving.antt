@@ -1,7 +1,6 @@
 -- What an assembler made of a packet, as its answer, and the room that a message takes.
 use Rattle.std.specs.Prelude.{◌≡◌, ℕ, ◌≤◌, true, Vec, vec_capacity}
-use Rattle.mctp_transport.specs.declared.packet.Header.{Header}
-use Rattle.mctp_transport.specs.Hearing.{Answer, Whole, Held, Dropped}
+use Rattle.mctp_transport.{specs.declared.packet.Header.{Header}, specs.Hearing.{Answer, Whole, Held, Dropped}}
 use Rattle.net_sim.specs.declared.receiving.Receipt.{Receipt}
 use Rattle.net_sim.specs.declared.receiving.Receipt.TheVariants as receipt
 

@@ -1,14 +1,9 @@
 -- Why an event of a walk is refused, and the requests of walkers, which are put in at their nodes.
 use Rattle.std.specs.Prelude.{◌≡◌, ℕ, List, Option, Some, None}
 use Rattle.plan_values.specs.declared.plan.Plan.{Plan}
-use Rattle.net_tables.specs.Routing.{Holds}
-use Rattle.net_tables.specs.TwoPlans.{Tables}
-use Rattle.net_runs.specs.States.{NetworkState}
-use Rattle.net_runs.specs.Walkers.{WalkerValue, WalkedState, WalkedEvent, WalkRefusal, N12, N13, MustWait}
-use Rattle.net_runs.specs.Walkers.{IsOver, AreSettled, IsWalkRefused, IsFirstWalkRefusal, asking_key}
-use Rattle.net_sim.specs.Standing.{TrafficValue}
-use Rattle.net_sim.specs.NetworkWalkers.{TellsRequest}
-use Rattle.net_sim.specs.Sending.{PutsOne}
+use Rattle.net_tables.{specs.Routing.{Holds}, specs.TwoPlans.{Tables}}
+use Rattle.net_runs.{specs.States.{NetworkState}, specs.Walkers.{WalkerValue, WalkedState, WalkedEvent, WalkRefusal, N12, N13, MustWait, IsOver, AreSettled, IsWalkRefused, IsFirstWalkRefusal, asking_key}}
+use Rattle.net_sim.{specs.Standing.{TrafficValue}, specs.NetworkWalkers.{TellsRequest}, specs.Sending.{PutsOne}}
 
 -- this is why the event is refused, if it is
 abbrev pub WhyNot : Plan → WalkedState → WalkedEvent → Option WalkRefusal → Type 0

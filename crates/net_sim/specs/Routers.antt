@@ -1,17 +1,11 @@
 -- Routing tables of a network's nodes, and what going on by them keeps.
-use Rattle.std.specs.Prelude.{◌≡◌, ◌≢◌, ◌⊎◌, ℕ, ◌<◌, List, length, slice_get}
-use Rattle.std.specs.Prelude.{Bool, true, false, Option, Some, None, unwrap_or}
-use Rattle.mctp_routing.specs.declared.row.TableRow as bridge
-use Rattle.mctp_routing.specs.declared.decision.Decision.{Decision}
-use Rattle.mctp_routing.specs.declared.decision.Decision.TheVariants.{Here, Drop, Forward}
-use Rattle.plan_values.specs.declared.plan.Plan.{Plan}
-use Rattle.plan_values.specs.declared.nodes.Row.{Row}
-use Rattle.plan_values.specs.declared.certificate.Certificate.{Certificate}
-use Rattle.net_tables.specs.Ranks.{rank}
-use Rattle.net_tables.specs.Tables.{AreTabled}
-use Rattle.net_tables.specs.TwoPlans.{Tables, rows_by}
+use Rattle.std.specs.Prelude.{◌≡◌, ◌≢◌, ◌⊎◌, ℕ, ◌<◌, List, length, slice_get, Bool, true, false, Option, Some, None, unwrap_or}
+use Rattle.mctp_routing.{specs.declared.decision.Decision.{Decision}, specs.declared.decision.Decision.TheVariants.{Here, Drop, Forward}}
+use Rattle.plan_values.{specs.declared.plan.Plan.{Plan}, specs.declared.nodes.Row.{Row}, specs.declared.certificate.Certificate.{Certificate}}
+use Rattle.net_tables.{specs.Ranks.{rank}, specs.Tables.{AreTabled}, specs.TwoPlans.{Tables, rows_by}}
 use Rattle.net_runs.specs.States.{Flight, destination}
 use Rattle.net_check.specs.Accepted.{IsAccepted}
+use Rattle.mctp_routing.specs.declared.row.TableRow as bridge
 
 -- The tables of a network, the certificate for them, and where there is a plan after, whether each node has switched.
 pub record RouterValue : Type 0 where

@@ -1,15 +1,10 @@
 -- The packets of an answer, or the one packet of a request, are put in at a node.
 use Rattle.std.specs.Prelude.{◌≡◌, ℕ, ◌+◌, List, [], ◌∷◌, ◌++◌, length, map, Option}
-use Rattle.mctp_transport.specs.PacketValues.{PacketValue, KeyValue, Spelled}
-use Rattle.mctp_transport.specs.Cutting.{ArePacketsOf}
+use Rattle.mctp_transport.{specs.PacketValues.{PacketValue, KeyValue, Spelled}, specs.Cutting.{ArePacketsOf}}
 use Rattle.plan_values.specs.declared.plan.Plan.{Plan}
-use Rattle.net_tables.specs.Routing.{Holds}
-use Rattle.net_tables.specs.TwoPlans.{Tables}
-use Rattle.net_runs.specs.States.{Flight, unit_of}
-use Rattle.net_runs.specs.Networks.{answer_key}
-use Rattle.net_runs.specs.Events.{Put, OutcomeValue, Answered, PutIn}
-use Rattle.net_sim.specs.Flights.{begun}
-use Rattle.net_sim.specs.Standing.{TrafficValue, Plays}
+use Rattle.net_tables.{specs.Routing.{Holds}, specs.TwoPlans.{Tables}}
+use Rattle.net_runs.{specs.States.{Flight, unit_of}, specs.Networks.{answer_key}, specs.Events.{Put, OutcomeValue, Answered, PutIn}}
+use Rattle.net_sim.{specs.Flights.{begun}, specs.Standing.{TrafficValue, Plays}}
 
 -- The packets of the answer to a message of this key are put in at the node, which holds the key's source,
 -- as the flights that the outcome tells.

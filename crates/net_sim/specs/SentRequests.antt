@@ -2,16 +2,9 @@
 use Rattle.std.specs.Prelude.{◌≡◌, ℕ, ◌*◌, ◌≤◌, List, length, Option, true, All}
 use Rattle.mctp_transport.specs.PacketValues.{PacketValue, KeyValue, key_of, Spelled}
 use Rattle.plan_values.specs.declared.plan.Plan.{Plan}
-use Rattle.net_tables.specs.Routing.{Holds}
-use Rattle.net_tables.specs.TwoPlans.{Tables}
-use Rattle.net_runs.specs.States.{unit_of}
-use Rattle.net_runs.specs.Events.{Put}
-use Rattle.net_runs.specs.ExactMessages.{Epoch, IsOfEpoch, IsQuiet}
-use Rattle.net_runs.specs.Walkers.{WalkedState, WalkedEvent, Happening, Ask, WalkedOutcome, Handed, BringsWholeAt}
-use Rattle.net_runs.specs.WalkedRuns.{WalkedTurn}
-use Rattle.net_runs.specs.WalkedMessages.{IsPutOfWalked}
-use Rattle.net_sim.specs.WalkedStanding.{NetworkValue}
-use Rattle.net_sim.specs.Played.{IsRunOf}
+use Rattle.net_tables.{specs.Routing.{Holds}, specs.TwoPlans.{Tables}}
+use Rattle.net_runs.{specs.States.{unit_of}, specs.Events.{Put}, specs.ExactMessages.{Epoch, IsOfEpoch, IsQuiet}, specs.Walkers.{WalkedState, WalkedEvent, Happening, Ask, WalkedOutcome, Handed, BringsWholeAt}, specs.WalkedRuns.{WalkedTurn}, specs.WalkedMessages.{IsPutOfWalked}}
+use Rattle.net_sim.{specs.WalkedStanding.{NetworkValue}, specs.Played.{IsRunOf}}
 
 -- a packet that the turn puts in under the key for d, by a put or as a walker's request, is one of the message's
 abbrev pub PutsOnly : Plan → KeyValue → ℕ → Epoch → WalkedTurn → Type 0

@@ -1,10 +1,8 @@
 -- What a network that has settled for a key and a destination holds, part by part.
 use Rattle.std.specs.Prelude.{◌≡◌, ◌≢◌, ℕ, Bool, false, Option, Some, None, All}
-use Rattle.mctp_transport.specs.PacketValues.{KeyValue, key_of}
-use Rattle.mctp_transport.specs.Histories.{IsOpen}
+use Rattle.mctp_transport.{specs.PacketValues.{KeyValue, key_of}, specs.Histories.{IsOpen}}
 use Rattle.net_sim.specs.KeyCounts.{are_these}
-use Rattle.net_runs.specs.Termini.{TerminusState}
-use Rattle.net_runs.specs.States.{NetworkState, Flight, destination, slots, limit}
+use Rattle.net_runs.{specs.Termini.{TerminusState}, specs.States.{NetworkState, Flight, destination, slots, limit}}
 
 -- its packet is of the key and goes to d
 abbrev pub IsTo : KeyValue → ℕ → Flight → Type 0

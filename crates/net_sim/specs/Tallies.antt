@@ -1,13 +1,7 @@
 -- What the counters of a network tell.
 use Rattle.std.specs.Prelude.{◌≡◌, ℕ, ◌<◌, List, count_by, Bool, option_map, Some}
-use Rattle.mctp_transport.specs.PacketValues.{KeyValue}
-use Rattle.mctp_transport.specs.Packets.{key_value}
-use Rattle.net_sim.specs.FlightValues.{flight_value}
-use Rattle.net_sim.specs.KeyCounts.{count_of, are_these}
-use Rattle.net_sim.specs.Settling.{goes_to}
-use Rattle.net_sim.specs.declared.flights.Slot.{Slot}
-use Rattle.net_sim.specs.declared.key_counts.KeyCounts.{KeyCounts}
-use Rattle.net_sim.specs.declared.waiting.Waiting.{Waiting}
+use Rattle.mctp_transport.{specs.PacketValues.{KeyValue}, specs.Packets.{key_value}}
+use Rattle.net_sim.{specs.FlightValues.{flight_value}, specs.KeyCounts.{count_of, are_these}, specs.Settling.{goes_to}, specs.declared.flights.Slot.{Slot}, specs.declared.key_counts.KeyCounts.{KeyCounts}, specs.declared.waiting.Waiting.{Waiting}}
 
 -- where a key to d is counted, it is as often as there are such elements
 abbrev pub IsTally : {X : Type 0} → (KeyValue → ℕ → X → Bool) → KeyCounts → List X → Type 0

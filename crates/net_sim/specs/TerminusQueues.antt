@@ -1,15 +1,9 @@
 -- Termini with the messages that wait at them.
-use Rattle.std.specs.Prelude.{◌≡◌, ◌≢◌, ◌⊎◌, ℕ, ◌<◌, List, [], ◌∷◌, map, Option, Some, None, option_map, if◌then◌else◌}
-use Rattle.std.specs.VecDeque.{deque_len, deque_capacity}
-use Rattle.mctp_transport.specs.Packets.{key_value}
-use Rattle.mctp_transport.specs.PacketValues.{KeyValue}
-use Rattle.pdr_repository.specs.Records.{Entry}
-use Rattle.pdr_repository.specs.Answers.{Answers}
+use Rattle.std.{specs.Prelude.{◌≡◌, ◌≢◌, ◌⊎◌, ℕ, ◌<◌, List, [], ◌∷◌, map, Option, Some, None, option_map, if◌then◌else◌}, specs.VecDeque.{deque_len, deque_capacity}}
+use Rattle.mctp_transport.{specs.Packets.{key_value}, specs.PacketValues.{KeyValue}}
+use Rattle.pdr_repository.{specs.Records.{Entry}, specs.Answers.{Answers}}
 use Rattle.net_runs.specs.Termini.{TerminusState, WaitingMessage, with_waiting}
-use Rattle.net_sim.specs.declared.refusal.Refusal.{Refusal}
-use Rattle.net_sim.specs.declared.refusal.Refusal.TheVariants.{NoTerminus, NothingWaits}
-use Rattle.net_sim.specs.declared.waiting.Waiting.{Waiting}
-use Rattle.net_sim.specs.declared.terminus_queue.TerminusQueue.{TerminusQueue}
+use Rattle.net_sim.{specs.declared.refusal.Refusal.{Refusal}, specs.declared.refusal.Refusal.TheVariants.{NoTerminus, NothingWaits}, specs.declared.waiting.Waiting.{Waiting}, specs.declared.terminus_queue.TerminusQueue.{TerminusQueue}}
 
 abbrev pub waiting_value : Waiting → WaitingMessage
 waiting_value m = record { key = key_value m.key; bytes = m.bytes.items }

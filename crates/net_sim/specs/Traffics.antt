@@ -1,17 +1,10 @@
 -- What a network holds, as plain lists.
-use Rattle.std.specs.Prelude.{◌≡◌, ◌<◌, ◌≤◌, ℕ, length, List, map, option_map, Option, Some, slice_get}
-use Rattle.std.specs.Prelude.{Result, MatchResult}
+use Rattle.std.specs.Prelude.{◌≡◌, ◌<◌, ◌≤◌, ℕ, length, List, map, option_map, Option, Some, slice_get, Result, MatchResult}
 use Rattle.plan_values.specs.declared.certificate.Certificate.{Certificate}
 use Rattle.net_tables.specs.TwoPlans.{Tables}
 use Rattle.pdr_repository.specs.Records.{Entry}
-use Rattle.net_sim.specs.declared.effect.Effect.{Effect}
-use Rattle.net_sim.specs.declared.terminus_queue.TerminusQueue.{TerminusQueue}
-use Rattle.net_sim.specs.declared.traffic.Traffic.{Traffic}
+use Rattle.net_sim.{specs.declared.effect.Effect.{Effect}, specs.declared.terminus_queue.TerminusQueue.{TerminusQueue}, specs.declared.traffic.Traffic.{Traffic}, specs.Effects.{effect_value}, specs.Flights.{slots_of, room_of}, specs.TerminusQueues.{queue_state, HasRoomFor}, specs.Standing.{TrafficValue, Plays, Wants}}
 use Rattle.net_runs.specs.Events.{EventValue, most_flights}
-use Rattle.net_sim.specs.Effects.{effect_value}
-use Rattle.net_sim.specs.Flights.{slots_of, room_of}
-use Rattle.net_sim.specs.TerminusQueues.{queue_state, HasRoomFor}
-use Rattle.net_sim.specs.Standing.{TrafficValue, Plays, Wants}
 
 -- the tables of the network, of one plan or of two, and the certificate for them
 abbrev pub traffic_checked : {T : Type 0} → Traffic T → Tables × Certificate

@@ -1,10 +1,7 @@
 -- What a network with walkers stands for, and what its calls do to that.
 use Rattle.std.specs.Prelude.{◌≡◌, ℕ, ◌+◌, List, length, slice_get, None}
 use Rattle.net_tables.specs.TwoPlans.{Tables}
-use Rattle.net_runs.specs.States.{NetworkState}
-use Rattle.net_runs.specs.Walkers.{WalkerValue, WalkedState, WalkedEvent, Happening, BeginWalk}
-use Rattle.net_runs.specs.Walkers.{Ask, TellWalk, WalkedOutcome, WalkRefusal, IsWalkRefused}
-use Rattle.net_runs.specs.WalkedRuns.{WalkedStep}
+use Rattle.net_runs.{specs.States.{NetworkState}, specs.Walkers.{WalkerValue, WalkedState, WalkedEvent, Happening, BeginWalk, Ask, TellWalk, WalkedOutcome, WalkRefusal, IsWalkRefused}, specs.WalkedRuns.{WalkedStep}}
 use Rattle.net_sim.specs.Standing.{TrafficValue, HasNetworkState, MayWant}
 
 -- what a network holds, and its walkers in the order in which they began

@@ -1,10 +1,6 @@
 -- Where a walker stands, by its node, by the endpoint ID that it asks and by its tag.
-use Rattle.std.specs.Prelude.{◌≡◌, ℕ, List, Option, Some, slice_get}
-use Rattle.std.specs.Ordering.{nat_cmp, ordering_then}
-use Rattle.std.specs.declared.cmp.Ordering.{Ordering}
-use Rattle.std.specs.BTreeMap.{get}
-use Rattle.net_sim.specs.declared.network_walker.NetworkWalker.{NetworkWalker}
-use Rattle.net_sim.specs.declared.walker_index.WalkerIndex.{WalkerIndex}
+use Rattle.std.{specs.Prelude.{◌≡◌, ℕ, List, Option, Some, slice_get}, specs.Ordering.{nat_cmp, ordering_then}, specs.declared.cmp.Ordering.{Ordering}, specs.BTreeMap.{get}}
+use Rattle.net_sim.{specs.declared.network_walker.NetworkWalker.{NetworkWalker}, specs.declared.walker_index.WalkerIndex.{WalkerIndex}}
 
 -- places in their order: by node, then by endpoint ID, then by tag
 abbrev pub place_cmp : ℕ × ℕ × ℕ → ℕ × ℕ × ℕ → Ordering

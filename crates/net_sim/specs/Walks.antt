@@ -1,14 +1,9 @@
 -- What is promised of the walks over a network that is played.
 use Rattle.std.specs.Prelude.{◌≡◌, ◌≢◌, ℕ, List, ◌∷◌, ◌++◌, None, All}
 use Rattle.plan_values.specs.declared.certificate.Certificate.{Certificate}
-use Rattle.net_tables.specs.Routing.{Holds}
-use Rattle.net_tables.specs.Repositories.{terminus_of, records_by_place}
-use Rattle.net_tables.specs.TwoPlans.{Tables}
-use Rattle.net_runs.specs.Walkers.{WalkedEvent, WalkedOutcome, BeginWalk, Begun, fresh_walker}
-use Rattle.net_runs.specs.WalkedRuns.{WalkedTurn, WalkedRunOf, walked_reached}
-use Rattle.net_runs.specs.NetworkWalks.{KeepsOff, WalksThere}
-use Rattle.net_sim.specs.WalkedStanding.{NetworkValue, StandsForWalked}
-use Rattle.net_sim.specs.Played.{IsRunOf}
+use Rattle.net_tables.{specs.Routing.{Holds}, specs.Repositories.{terminus_of, records_by_place}, specs.TwoPlans.{Tables}}
+use Rattle.net_runs.{specs.Walkers.{WalkedEvent, WalkedOutcome, BeginWalk, Begun, fresh_walker}, specs.WalkedRuns.{WalkedTurn, WalkedRunOf, walked_reached}, specs.NetworkWalks.{KeepsOff, WalksThere}}
+use Rattle.net_sim.{specs.WalkedStanding.{NetworkValue, StandsForWalked}, specs.Played.{IsRunOf}}
 
 -- At each moment of the turns, each walker that began before it, to whose keys no other put came since, has walked over
 -- the planned records of the terminus that it asks.

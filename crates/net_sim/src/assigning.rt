@@ -1,8 +1,6 @@
 //! The requests that give the owned nodes of a plan their endpoint IDs and pools.
 ghost use Rattle.std.specs.Prelude.{◌≡◌, ℕ, ◌++◌, ◌<◌, length, map, option_and_then, IfOk, OnOk};
-ghost use Rattle.net_sim.specs.Assignments.{assignment_value, shared_bus, requests_over, requests_to, IsAssignmentOf};
-ghost use Rattle.net_sim.specs.AssignmentRuns.{CanBeCarriedOut, IsAcceptedThroughout, AssignsAll};
-ghost use Rattle.net_sim.specs.AssignmentSteps.{HasAskedUpTo};
+ghost use Rattle.net_sim.{specs.Assignments.{assignment_value, shared_bus, requests_over, requests_to, IsAssignmentOf}, specs.AssignmentRuns.{CanBeCarriedOut, IsAcceptedThroughout, AssignsAll}, specs.AssignmentSteps.{HasAskedUpTo}};
 
 mod assignment;
 mod laws;

@@ -1,10 +1,7 @@
 //! Termini dealt to the nodes of a plan.
-ghost use Rattle.std.specs.Prelude.{◌≡◌, ◌∷◌, List, IfOk, count_by, is_some, length, map, option_map};
-ghost use Rattle.std.specs.Vec.Iter.{into_iter_items};
-ghost use Rattle.plan_values.specs.declared.nodes.Node.{Node};
-ghost use Rattle.plan_values.specs.declared.certificate.Certificate.{Certificate};
-ghost use Rattle.net_sim.specs.TerminusQueues.{queue_state};
-ghost use Rattle.net_sim.specs.Dealing.{resting, dealt, planned_termini};
+ghost use Rattle.std.{specs.Prelude.{◌≡◌, ◌∷◌, List, IfOk, count_by, is_some, length, map, option_map}, specs.Vec.Iter.{into_iter_items}};
+ghost use Rattle.plan_values.{specs.declared.nodes.Node.{Node}, specs.declared.certificate.Certificate.{Certificate}};
+ghost use Rattle.net_sim.{specs.TerminusQueues.{queue_state}, specs.Dealing.{resting, dealt, planned_termini}};
 
 use crate::terminus_queue::TerminusQueue;
 use pdr_repository::Terminus;

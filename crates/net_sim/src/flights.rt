@@ -1,14 +1,8 @@
 //! The packets on their way, by number.
-ghost use Rattle.std.specs.Prelude.{◌≡◌, ◌↔◌, ◌≢◌, ◌+◌, ◌*◌, ◌<◌, ◌≤◌, ◌++◌, ◌∷◌, [], length, None, option_map, slice_set, is_some, is_none, All, AllPairs, IsTrue, ℕ, ◌-◌, ◌^◌, if◌then◌else◌, IfOk, IfSome, IfNone, OnOk, OnErr, true};
-ghost use Rattle.std.specs.List.{HoldsAt, count_by};
-ghost use Rattle.mctp_transport.specs.Packets.{key_value};
-ghost use Rattle.mctp_transport.specs.PacketValues.{KeyValue, key_of};
+ghost use Rattle.std.{specs.Prelude.{◌≡◌, ◌↔◌, ◌≢◌, ◌+◌, ◌*◌, ◌<◌, ◌≤◌, ◌++◌, ◌∷◌, [], length, None, option_map, slice_set, is_some, is_none, All, AllPairs, IsTrue, ℕ, ◌-◌, ◌^◌, if◌then◌else◌, IfOk, IfSome, IfNone, OnOk, OnErr, true}, specs.List.{HoldsAt, count_by}, proofs.Props.{props}};
+ghost use Rattle.mctp_transport.{specs.Packets.{key_value}, specs.PacketValues.{KeyValue, key_of}};
 ghost use Rattle.net_runs.specs.States.{destination};
-ghost use Rattle.net_sim.specs.Settling.{IsTo, IsNotTo, goes_to};
-ghost use Rattle.net_sim.specs.FlightValues.{flight_value};
-ghost use Rattle.net_sim.specs.KeyCounts.{count_of};
-ghost use Rattle.net_sim.specs.Tallies.{AreTallied};
-ghost use Rattle.std.proofs.Props.{props};
+ghost use Rattle.net_sim.{specs.Settling.{IsTo, IsNotTo, goes_to}, specs.FlightValues.{flight_value}, specs.KeyCounts.{count_of}, specs.Tallies.{AreTallied}};
 
 use crate::kept_packet::KeptPacket;
 use crate::key_counts::{KeyCounts, KnownEids};
@@ -30,11 +24,9 @@ pub struct Flight {
 }
 
 impl Flight {
-    ghost use Rattle.mctp_transport.specs.PacketValues.{key_of};
-    ghost use Rattle.mctp_transport.specs.Packets.{packet_value_of};
+    ghost use Rattle.mctp_transport.{specs.PacketValues.{key_of}, specs.Packets.{packet_value_of}};
     ghost use Rattle.net_runs.specs.States.{destination};
-    ghost use Rattle.net_sim.specs.Flights.{flight_value, gone_on};
-    ghost use Rattle.net_sim.specs.Payloads.{IsRoomFor};
+    ghost use Rattle.net_sim.{specs.Flights.{flight_value, gone_on}, specs.Payloads.{IsRoomFor}};
 
     /// A flight of this packet that begins at a node. A long payload is copied into the room.
     pub fn put_in(node: usize, packet: PacketView, room: Vec<u8>) -> Flight

@@ -17,8 +17,7 @@ pub struct KeptPacket {
 impl KeptPacket {
     ghost use Rattle.std.specs.Prelude.{◌≡◌};
     ghost use Rattle.mctp_transport.specs.Packets.{packet_value_of};
-    ghost use Rattle.net_sim.specs.Payloads.{IsRoomFor};
-    ghost use Rattle.net_sim.specs.KeptPackets.{kept_frame};
+    ghost use Rattle.net_sim.{specs.Payloads.{IsRoomFor}, specs.KeptPackets.{kept_frame}};
 
     /// The packet that a view shows, with its bytes. A long payload is copied into the room.
     pub fn of(view: PacketView, room: Vec<u8>) -> KeptPacket

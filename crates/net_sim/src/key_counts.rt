@@ -71,8 +71,7 @@ pub struct KeyCounts {
 
 impl KeyCounts {
     ghost use Rattle.std.specs.Prelude.{◌≡◌, ◌+◌, ◌-◌, ◌*◌, ◌<◌, ◌≤◌, ◌^◌, ℕ, All, IfOk, IfSome, Some, None, MatchOption, is_some, length, true, option_map, if◌then◌else◌};
-    ghost use Rattle.mctp_transport.specs.PacketValues.{KeyValue};
-    ghost use Rattle.mctp_transport.specs.Packets.{key_value};
+    ghost use Rattle.mctp_transport.{specs.PacketValues.{KeyValue}, specs.Packets.{key_value}};
     ghost use Rattle.net_sim.specs.KeyCounts.{known_at, place_of, count_of, are_these};
 
     /// None of any key yet, from these endpoint IDs to those.

@@ -1,8 +1,6 @@
 //! The network of a checked plan, or of a checked move, with its walkers.
 ghost use Rattle.std.specs.Prelude.{◌≡◌, ◌⊎◌, ◌∷◌, ◌+◌, ◌<◌, [], All, MatchOption, IfOk, IsSomeAnd, OnErr, take, length, map, slice_get, None, Some, false, true};
-ghost use Rattle.net_sim.specs.NetworkWalkers.{walker_value};
-ghost use Rattle.net_sim.specs.Traffics.{traffic_checked};
-ghost use Rattle.net_sim.specs.WalkerIndexes.{AreNoted};
+ghost use Rattle.net_sim.{specs.NetworkWalkers.{walker_value}, specs.Traffics.{traffic_checked}, specs.WalkerIndexes.{AreNoted}};
 
 mod laws;
 mod playing;
@@ -48,18 +46,8 @@ pub struct Network<'a, T = Box<dyn Terminus>> {
 impl<'a, T: Terminus> Network<'a, T> {
     ghost use Rattle.net_tables.specs.TwoPlans.{one_plan, moving};
     ghost use Rattle.mctp_transport.specs.Packets.{packet_value_of};
-    ghost use Rattle.net_runs.specs.States.{Flight, unit_of};
-    ghost use Rattle.net_runs.specs.Walkers.{WalkerValue, WalkedState};
-    ghost use Rattle.net_sim.specs.Outcomes.{outcome_value, event_value};
-    ghost use Rattle.net_sim.specs.WalkedStanding.{StandsForWalked};
-    ghost use Rattle.net_sim.specs.Networks.{network_value, checked_of, StandsAtRest, StandsAtStart, EndsInOutcome, OfPlayed};
-    ghost use Rattle.net_sim.specs.LackingRooms.{NetworkLacksRoom};
-    ghost use Rattle.net_sim.specs.Dealing.{planned_termini};
-    ghost use Rattle.net_sim.specs.Played.{PlaysAll, StopsAfter};
-    ghost use Rattle.net_sim.specs.Walks.{PlaysWalks};
-    ghost use Rattle.net_sim.specs.AsSent.{PlaysAsSent};
-    ghost use Rattle.net_sim.specs.Promised.{IsPromised};
-    ghost use Rattle.net_sim.specs.PutInBefore.{PlaysWhatWasPutIn};
+    ghost use Rattle.net_runs.{specs.States.{Flight, unit_of}, specs.Walkers.{WalkerValue, WalkedState}};
+    ghost use Rattle.net_sim.{specs.Outcomes.{outcome_value, event_value}, specs.WalkedStanding.{StandsForWalked}, specs.Networks.{network_value, checked_of, StandsAtRest, StandsAtStart, EndsInOutcome, OfPlayed}, specs.LackingRooms.{NetworkLacksRoom}, specs.Dealing.{planned_termini}, specs.Played.{PlaysAll, StopsAfter}, specs.Walks.{PlaysWalks}, specs.AsSent.{PlaysAsSent}, specs.Promised.{IsPromised}, specs.PutInBefore.{PlaysWhatWasPutIn}};
 
     /// The network of a checked plan, in which nothing has happened yet. The termini are dealt to the nodes that have
     /// one, in the plan's order, one to each, as many as `planned_termini_count` tells; where they are as planned, it

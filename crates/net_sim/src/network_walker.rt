@@ -1,7 +1,6 @@
 //! A walker at a node of a network (DSP0248, section 26.2).
 ghost use Rattle.std.specs.Prelude.{◌≡◌, ◌↔◌, ◌≤◌, ◌<◌, ℕ, IsTrue, IfOk, OnOk, OnErr, MatchOption, Some, None, Err, map, true};
-ghost use Rattle.pldm_message.specs.InstanceIds.{TakesBack};
-ghost use Rattle.pldm_message.specs.InstanceIdValues.{id_value, ids_of};
+ghost use Rattle.pldm_message.{specs.InstanceIds.{TakesBack}, specs.InstanceIdValues.{id_value, ids_of}};
 ghost use Rattle.pdr_repository.specs.WalkerStates.{state_of};
 ghost use Rattle.mctp_transport.specs.Packets.{key_value};
 ghost use Rattle.net_runs.specs.Walkers.{fresh_walker, asking_key, answering_key, ended_after};
@@ -34,8 +33,7 @@ pub struct NetworkWalker {
 
 impl NetworkWalker {
     ghost use Rattle.net_runs.specs.Walkers.{IsOver, standing_of};
-    ghost use Rattle.net_sim.specs.Outcomes.{standing_value};
-    ghost use Rattle.net_sim.specs.NetworkWalkers.{walker_value, IsReady, TellsRequest, HasTakenMessage};
+    ghost use Rattle.net_sim.{specs.Outcomes.{standing_value}, specs.NetworkWalkers.{walker_value, IsReady, TellsRequest, HasTakenMessage}};
 
     /// A walker that has asked nothing yet, for parts of at most `count` bytes, 8 to 4079.
     pub fn new(

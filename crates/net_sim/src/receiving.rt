@@ -1,10 +1,7 @@
 //! A packet that has come to its node (DSP0236, "Message assembly"), and the room that this takes.
 ghost use Rattle.std.specs.Prelude.{◌≡◌, ◌≤◌, [], length, vec_capacity, true, IfOk, OnErr};
-ghost use Rattle.mctp_transport.specs.Histories.{History, Arrived, after};
-ghost use Rattle.mctp_transport.specs.Hearing.{Hears};
-ghost use Rattle.mctp_transport.specs.Assembly.{HoldsHistory, assembler_slots, assembler_limit};
-ghost use Rattle.net_sim.specs.KeptPackets.{kept_frame};
-ghost use Rattle.net_sim.specs.Receiving.{receipt_value, HasRoomAfter};
+ghost use Rattle.mctp_transport.{specs.Histories.{History, Arrived, after}, specs.Hearing.{Hears}, specs.Assembly.{HoldsHistory, assembler_slots, assembler_limit}};
+ghost use Rattle.net_sim.{specs.KeptPackets.{kept_frame}, specs.Receiving.{receipt_value, HasRoomAfter}};
 
 use crate::kept_packet::KeptPacket;
 use mctp_transport::{Assembler, DropCause, Fed, Header, MAX_MESSAGE};

@@ -1,10 +1,8 @@
 //! The termini of nodes, and the messages that wait at them.
-ghost use Rattle.std.specs.Prelude.{◌≡◌, ◌≢◌, ◌↔◌, ◌<◌, ◌≤◌, [], length, vec_capacity, option_map, All, IsTrue, OnOk, OnErr, IfOk, IfSome, IfNone, Some};
+ghost use Rattle.std.{specs.Prelude.{◌≡◌, ◌≢◌, ◌↔◌, ◌<◌, ◌≤◌, [], length, vec_capacity, option_map, All, IsTrue, OnOk, OnErr, IfOk, IfSome, IfNone, Some}, specs.VecDeque.{deque_len, deque_capacity}};
 ghost use Rattle.mctp_transport.specs.Packets.{key_value};
 ghost use Rattle.net_runs.specs.Termini.{with_waiting};
-ghost use Rattle.std.specs.VecDeque.{deque_len, deque_capacity};
-ghost use Rattle.net_sim.specs.TerminusQueues.{queue_state, with_message, HasRoomFor, AnswersOldest, IsIdle, IsIdleFor};
-ghost use Rattle.net_sim.specs.Settling.{NoneWaits};
+ghost use Rattle.net_sim.{specs.TerminusQueues.{queue_state, with_message, HasRoomFor, AnswersOldest, IsIdle, IsIdleFor}, specs.Settling.{NoneWaits}};
 ghost use Rattle.pdr_repository.specs.Answers.{Answers, answer_of};
 
 use crate::receiving::kept;

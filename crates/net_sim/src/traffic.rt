@@ -1,11 +1,8 @@
 //! The packets of a network, and what they come to.
 ghost use Rattle.std.specs.Prelude.{◌≡◌, ℕ, ◌+◌, ◌-◌, ◌<◌, ◌≤◌, ◌↔◌, ◌++◌, ◌∷◌, [], ◌⊎◌, IsTrue, IfSome, None, IfOk, OnOk, OnErr, length, map, option_map, slice_get, slice_set, is_some, Some, true};
-ghost use Rattle.mctp_transport.specs.declared.assembler.Assembler.{Assembler};
-ghost use Rattle.mctp_transport.specs.Assembly.{assembler_slots, assembler_limit};
+ghost use Rattle.mctp_transport.{specs.declared.assembler.Assembler.{Assembler}, specs.Assembly.{assembler_slots, assembler_limit}};
 ghost use Rattle.net_runs.specs.States.{Flight, unit_of};
-ghost use Rattle.net_sim.specs.Flights.{slots_of, flight_at, flight_value, gone_on, room_of};
-ghost use Rattle.net_sim.specs.Payloads.{IsRoomFor};
-ghost use Rattle.net_sim.specs.Placing.{IsPlaced};
+ghost use Rattle.net_sim.{specs.Flights.{slots_of, flight_at, flight_value, gone_on, room_of}, specs.Payloads.{IsRoomFor}, specs.Placing.{IsPlaced}};
 
 mod answering;
 mod ending;
@@ -44,12 +41,9 @@ pub struct Traffic<'a, T> {
 }
 
 impl<'a, T: Terminus> Traffic<'a, T> {
-    ghost use Rattle.net_runs.specs.Events.{most_flights, Switch};
+    ghost use Rattle.net_runs.{specs.Events.{most_flights, Switch}, specs.States.{at_start}};
     ghost use Rattle.net_check.specs.Accepted.{IsAccepted};
-    ghost use Rattle.net_runs.specs.States.{at_start};
-    ghost use Rattle.net_sim.specs.Standing.{HasNetworkState};
-    ghost use Rattle.net_sim.specs.Traffics.{traffic_value, traffic_checked, HasEffect};
-    ghost use Rattle.net_sim.specs.Dealing.{resting, at_rest, planned_termini};
+    ghost use Rattle.net_sim.{specs.Standing.{HasNetworkState}, specs.Traffics.{traffic_value, traffic_checked, HasEffect}, specs.Dealing.{resting, at_rest, planned_termini}};
     ghost use Rattle.mctp_transport.specs.PacketValues.{IsUnit};
     ghost use Rattle.net_tables.specs.Routing.{Holds};
 

@@ -1,6 +1,5 @@
 //! Messages that wait at a terminus.
-ghost use Rattle.std.specs.Prelude.{◌≡◌, ◌≢◌, ◌↔◌, ◌<◌, ◌++◌, ◌∷◌, [], All, IsTrue, OnOk, OnErr, IfOk, MatchOption};
-ghost use Rattle.std.specs.VecDeque.{deque_len, deque_capacity};
+ghost use Rattle.std.{specs.Prelude.{◌≡◌, ◌≢◌, ◌↔◌, ◌<◌, ◌++◌, ◌∷◌, [], All, IsTrue, OnOk, OnErr, IfOk, MatchOption}, specs.VecDeque.{deque_len, deque_capacity}};
 ghost use Rattle.mctp_transport.specs.Packets.{key_value};
 ghost use Rattle.net_sim.specs.Tallies.{AreCounted};
 

@@ -1,9 +1,6 @@
 -- What lies in the pool of a node, where its pool is known.
-use Rattle.std.proofs.Common.{◌≡◌, ℕ, Some, None, sym, ◌∙◌, subst}
-use Rattle.std.specs.Prelude.{◌↔◌}
-use Rattle.std.proofs.lemmas.Option.{same_Some, none-some}
-use Rattle.plan_values.specs.declared.plan.Plan.{Plan}
-use Rattle.plan_values.specs.declared.nodes.Pool.{Pool}
+use Rattle.std.{proofs.Common.{◌≡◌, ℕ, Some, None, sym, ◌∙◌, subst}, specs.Prelude.{◌↔◌}, proofs.lemmas.Option.{same_Some, none-some}}
+use Rattle.plan_values.{specs.declared.plan.Plan.{Plan}, specs.declared.nodes.Pool.{Pool}}
 use Rattle.net_tables.specs.Ownership.{pool_of, IsInPool, IsInPoolOf}
 
 pub in_pool_of : (plan : Plan) (n e : ℕ) (pool : Pool) → Some pool ≡ pool_of plan n → IsInPool pool e ↔ IsInPoolOf plan n e

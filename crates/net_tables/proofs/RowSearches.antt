@@ -1,11 +1,7 @@
 -- From searches over rows to what is said of them: a row covers an EID or not, and one of several does or none.
-use Rattle.std.proofs.Common.{◌≡◌, ℕ, zero, suc, ◌+◌, ◌<◌, ◌≤◌, List, [], ◌∷◌, length, get_or, Option, Some, None, refl, sym, ap, ◌∙◌, subst, inl, inr, arith, below_more}
-use Rattle.std.specs.Prelude.{◌⊎◌, slice_get}
-use Rattle.std.proofs.lemmas.Option.{same_Some, slice_get_read, slice_get_within, get_or_from_slice_get}
-use Rattle.std.proofs.lemmas.Bool.{cases_lt}
+use Rattle.std.{proofs.Common.{◌≡◌, ℕ, zero, suc, ◌+◌, ◌<◌, ◌≤◌, List, [], ◌∷◌, length, get_or, Option, Some, None, refl, sym, ap, ◌∙◌, subst, inl, inr, arith, below_more}, specs.Prelude.{◌⊎◌, slice_get}, proofs.lemmas.Option.{same_Some, slice_get_read, slice_get_within, get_or_from_slice_get}, proofs.lemmas.Bool.{cases_lt}}
 use Rattle.pdr_repository.proofs.Deciding.{same_or_not}
-use Rattle.plan_values.specs.declared.plan.Plan.{Plan}
-use Rattle.plan_values.specs.declared.nodes.Row.{Row}
+use Rattle.plan_values.{specs.declared.plan.Plan.{Plan}, specs.declared.nodes.Row.{Row}}
 use Rattle.net_tables.specs.Routing.{HasRow, Covers, rows_of, OfItem}
 
 -- what is said of each item below the end is said of each

@@ -1,21 +1,10 @@
 -- A routing table of a node's rows sends what is for an EID where the rows send it, and that is one next node.
-use Rattle.std.proofs.Common.{◌≡◌, ℕ, ◌+◌, ◌<◌, List, [], ◌∷◌, ◌++◌, Some, None, length, map, take, get_or, refl, sym, ap, ◌∙◌, subst, arith, inl, inr}
-use Rattle.std.specs.Prelude.{slice_get}
-use Rattle.std.proofs.lemmas.Bool.{cases_order}
-use Rattle.std.proofs.lemmas.List.{get_or-map, get_or-take, length-take, length-map, length_push}
-use Rattle.std.proofs.lemmas.Option.{slice_get_within, slice_get-get_or, get_or_from_slice_get, same_Some}
-use Rattle.mctp_routing.specs.declared.row.Hop.{Hop}
+use Rattle.std.{proofs.Common.{◌≡◌, ℕ, ◌+◌, ◌<◌, List, [], ◌∷◌, ◌++◌, Some, None, length, map, take, get_or, refl, sym, ap, ◌∙◌, subst, arith, inl, inr}, specs.Prelude.{slice_get}, proofs.lemmas.Bool.{cases_order}, proofs.lemmas.List.{get_or-map, get_or-take, length-take, length-map, length_push}, proofs.lemmas.Option.{slice_get_within, slice_get-get_or, get_or_from_slice_get, same_Some}}
+use Rattle.mctp_routing.{specs.declared.row.Hop.{Hop}, specs.declared.table_fault.TableFault.{TableFault}, specs.declared.table_fault.TableFault.TheVariants.{Empty, Outside, Overlap, Memory}, specs.RowFaults.{IsFirstFault}}
+use Rattle.plan_values.{specs.declared.plan.Plan.{Plan}, specs.declared.nodes.Row.{Row}}
+use Rattle.net_tables.{specs.Rows.{AreApart, IsInRange, IsApartFromEarlier, RowsAreApart}, specs.Routing.{NamesFor, Covers, rows_of}, specs.Tables.{AreRows, AreTabled, AreTables, table_row, SendsAs}, proofs.Elements.{element, in_push}}
 use Rattle.mctp_routing.specs.declared.row.TableRow as bridge
-use Rattle.mctp_routing.specs.declared.table_fault.TableFault.{TableFault}
-use Rattle.mctp_routing.specs.declared.table_fault.TableFault.TheVariants.{Empty, Outside, Overlap, Memory}
 use Rattle.mctp_routing.specs.Rows as rule
-use Rattle.mctp_routing.specs.RowFaults.{IsFirstFault}
-use Rattle.plan_values.specs.declared.plan.Plan.{Plan}
-use Rattle.plan_values.specs.declared.nodes.Row.{Row}
-use Rattle.net_tables.specs.Rows.{AreApart, IsInRange, IsApartFromEarlier, RowsAreApart}
-use Rattle.net_tables.specs.Routing.{NamesFor, Covers, rows_of}
-use Rattle.net_tables.specs.Tables.{AreRows, AreTabled, AreTables, table_row, SendsAs}
-use Rattle.net_tables.proofs.Elements.{element, in_push}
 
 -- ---- the rows are lawful
 

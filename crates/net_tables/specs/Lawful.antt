@@ -2,9 +2,7 @@
 use Rattle.std.specs.Prelude.{◌≡◌, ◌≢◌, ◌⊎◌, ℕ, ◌<◌, Bool}
 use Rattle.mctp_transport.specs.PacketValues.{IsAssignable}
 use Rattle.plan_values.specs.declared.certificate.Certificate.{Certificate}
-use Rattle.net_tables.specs.Routing.{Holds, NamesFor, IsBridge}
-use Rattle.net_tables.specs.TwoPlans.{Tables, rows_by, HasRowAlways}
-use Rattle.net_tables.specs.Ranks.{rank}
+use Rattle.net_tables.{specs.Routing.{Holds, NamesFor, IsBridge}, specs.TwoPlans.{Tables, rows_by, HasRowAlways}, specs.Ranks.{rank}}
 
 -- What is held can be held, by one node alone. Along the rows that nodes go by, before they have switched and from then
 -- on, the rank falls, and what is held elsewhere is led on.

@@ -1,13 +1,9 @@
 -- The names of a plan's nodes and buses, the words of kinds, and the addresses of ports.
-use Rattle.std.specs.Prelude.{◌≡◌, ◌≢◌, ◌<◌, ℕ, ◌==◌, List, [], Option, Some}
-use Rattle.std.specs.Prelude.{None, codes, find, option_map, slice_get, string_bytes, unwrap_or}
+use Rattle.std.specs.Prelude.{◌≡◌, ◌≢◌, ◌<◌, ℕ, ◌==◌, List, [], Option, Some, None, codes, find, option_map, slice_get, string_bytes, unwrap_or}
 use Rattle.mctp_transport.specs.declared.device_kind.DeviceKind.{DeviceKind}
-use Rattle.mctp_transport.specs.declared.device_kind.DeviceKind.TheVariants as device
-use Rattle.plan_values.specs.declared.plan.Plan.{Plan}
-use Rattle.plan_values.specs.declared.nodes.Kind.{Kind}
-use Rattle.plan_values.specs.declared.nodes.Kind.TheVariants.{Bridge, Endpoint}
-use Rattle.plan_values.specs.declared.nodes.Port.{Port}
+use Rattle.plan_values.{specs.declared.plan.Plan.{Plan}, specs.declared.nodes.Kind.{Kind}, specs.declared.nodes.Kind.TheVariants.{Bridge, Endpoint}, specs.declared.nodes.Port.{Port}}
 use Rattle.net_tables.specs.Routing.{node_at, ports_of}
+use Rattle.mctp_transport.specs.declared.device_kind.DeviceKind.TheVariants as device
 
 -- a node's name; none beyond the plan
 abbrev pub name_of_node : Plan → ℕ → Option (List ℕ)

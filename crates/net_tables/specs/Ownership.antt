@@ -1,10 +1,6 @@
 -- The owners, the pools and the levels of nodes, as a plan and its certificate give them.
-use Rattle.std.specs.Prelude.{◌≡◌, ℕ, ◌+◌, ◌<◌, ◌≤◌, ◌==◌, List, Option, Some, option_map, unwrap_or, find}
-use Rattle.std.specs.Option.{option_and_then}
-use Rattle.plan_values.specs.declared.plan.Plan.{Plan}
-use Rattle.plan_values.specs.declared.nodes.Pool.{Pool}
-use Rattle.plan_values.specs.declared.certificate.Certificate.{Certificate}
-use Rattle.plan_values.specs.declared.certificate.NodeLevel.{NodeLevel}
+use Rattle.std.{specs.Prelude.{◌≡◌, ℕ, ◌+◌, ◌<◌, ◌≤◌, ◌==◌, List, Option, Some, option_map, unwrap_or, find}, specs.Option.{option_and_then}}
+use Rattle.plan_values.{specs.declared.plan.Plan.{Plan}, specs.declared.nodes.Pool.{Pool}, specs.declared.certificate.Certificate.{Certificate}, specs.declared.certificate.NodeLevel.{NodeLevel}}
 use Rattle.net_tables.specs.Routing.{node_at}
 
 -- the node that owns n; none where none does, and beyond the plan

@@ -1,10 +1,6 @@
 -- The certified ranks, and that they fall along the rows.
 use Rattle.std.specs.Prelude.{ℕ, ◌+◌, ◌<◌, List, [], Bool, ◌&&◌, ◌==◌, option_map, unwrap_or, find, nat_lt, nat_le}
-use Rattle.plan_values.specs.declared.plan.Plan.{Plan}
-use Rattle.plan_values.specs.declared.nodes.Row.{Row}
-use Rattle.plan_values.specs.declared.certificate.RankRange.{RankRange}
-use Rattle.plan_values.specs.declared.certificate.NodeRanks.{NodeRanks}
-use Rattle.plan_values.specs.declared.certificate.Certificate.{Certificate}
+use Rattle.plan_values.{specs.declared.plan.Plan.{Plan}, specs.declared.nodes.Row.{Row}, specs.declared.certificate.RankRange.{RankRange}, specs.declared.certificate.NodeRanks.{NodeRanks}, specs.declared.certificate.Certificate.{Certificate}}
 use Rattle.net_tables.specs.Routing.{Holds}
 
 -- e lies in the range

@@ -1,13 +1,6 @@
 -- The records of a plan's termini, and their order by the certificate's places.
-use Rattle.std.specs.Prelude.{◌≡◌, ◌≢◌, ◌⊎◌, ℕ, ◌+◌, ◌<◌, List, [], length, map, find, position}
-use Rattle.std.specs.Prelude.{slice_get, Option, Some, None, option_map, unwrap_or, ◌==◌}
-use Rattle.std.specs.List.{filter_map, range_with_len}
-use Rattle.std.specs.Option.{option_and_then}
-use Rattle.plan_values.specs.declared.plan.Plan.{Plan}
-use Rattle.plan_values.specs.declared.certificate.Certificate.{Certificate}
-use Rattle.plan_values.specs.declared.certificate.NodePlaces.{NodePlaces}
-use Rattle.plan_values.specs.declared.terminus.PlannedTerminus.{PlannedTerminus}
-use Rattle.plan_values.specs.declared.terminus.PlannedRecord.{PlannedRecord}
+use Rattle.std.{specs.Prelude.{◌≡◌, ◌≢◌, ◌⊎◌, ℕ, ◌+◌, ◌<◌, List, [], length, map, find, position, slice_get, Option, Some, None, option_map, unwrap_or, ◌==◌}, specs.List.{filter_map, range_with_len}, specs.Option.{option_and_then}}
+use Rattle.plan_values.{specs.declared.plan.Plan.{Plan}, specs.declared.certificate.Certificate.{Certificate}, specs.declared.certificate.NodePlaces.{NodePlaces}, specs.declared.terminus.PlannedTerminus.{PlannedTerminus}, specs.declared.terminus.PlannedRecord.{PlannedRecord}}
 use Rattle.pdr_repository.specs.Records.{Entry, IsRecordOf}
 use Rattle.net_tables.specs.Routing.{node_at}
 

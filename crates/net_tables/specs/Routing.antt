@@ -1,11 +1,7 @@
 -- What a plan says of its nodes and their rows, as the rules and the network read it. A node is named by its index.
 use Rattle.std.specs.Prelude.{◌≡◌, ℕ, ◌+◌, ◌<◌, ◌≤◌, List, [], Option, Some, option_map, unwrap_or, slice_get}
 use Rattle.mctp_transport.specs.declared.address.Eid.{Eid}
-use Rattle.plan_values.specs.declared.plan.Plan.{Plan}
-use Rattle.plan_values.specs.declared.nodes.Node.{Node}
-use Rattle.plan_values.specs.declared.nodes.Row.{Row}
-use Rattle.plan_values.specs.declared.nodes.Port.{Port}
-use Rattle.plan_values.specs.declared.nodes.Kind.TheVariants.{Bridge}
+use Rattle.plan_values.{specs.declared.plan.Plan.{Plan}, specs.declared.nodes.Node.{Node}, specs.declared.nodes.Row.{Row}, specs.declared.nodes.Port.{Port}, specs.declared.nodes.Kind.TheVariants.{Bridge}}
 
 abbrev pub node_at : Plan → ℕ → Option Node
 node_at plan n = slice_get plan.nodes.items n

@@ -1,8 +1,6 @@
 -- A node's rows: each is lawful by itself, apart from the others, and leads to a neighbor.
-use Rattle.std.specs.Prelude.{◌≡◌, ◌≢◌, ℕ, ◌+◌, ◌≤◌, List, Some, slice_get, IsTrue, ◌==◌, All, take, Option, option_map}
-use Rattle.std.specs.List.{list_any}
-use Rattle.plan_values.specs.declared.plan.Plan.{Plan}
-use Rattle.plan_values.specs.declared.nodes.Row.{Row}
+use Rattle.std.{specs.Prelude.{◌≡◌, ◌≢◌, ℕ, ◌+◌, ◌≤◌, List, Some, slice_get, IsTrue, ◌==◌, All, take, Option, option_map}, specs.List.{list_any}}
+use Rattle.plan_values.{specs.declared.plan.Plan.{Plan}, specs.declared.nodes.Row.{Row}}
 use Rattle.net_tables.specs.Routing.{rows_of, ports_of, IsBridge, Covers, OfItem}
 
 -- the row has at least one EID, and all of its EIDs can be held

@@ -1,12 +1,9 @@
 -- The rows of a plan's nodes as routing tables, ready for look-ups.
 use Rattle.std.specs.Prelude.{◌≡◌, ℕ, List, length, map, slice_get, Option, Some, MatchOption}
-use Rattle.mctp_routing.specs.declared.row.Hop.{Hop}
+use Rattle.mctp_routing.{specs.declared.row.Hop.{Hop}, specs.Rows.{HasSameRoutes, IsNext}}
+use Rattle.plan_values.{specs.declared.plan.Plan.{Plan}, specs.declared.nodes.Row.{Row}}
+use Rattle.net_tables.{specs.Routing.{rows_of, OfItem, NamesFor}, specs.Rows.{IsInRange, IsApartFromEarlier}}
 use Rattle.mctp_routing.specs.declared.row.TableRow as bridge
-use Rattle.mctp_routing.specs.Rows.{HasSameRoutes, IsNext}
-use Rattle.plan_values.specs.declared.plan.Plan.{Plan}
-use Rattle.plan_values.specs.declared.nodes.Row.{Row}
-use Rattle.net_tables.specs.Routing.{rows_of, OfItem, NamesFor}
-use Rattle.net_tables.specs.Rows.{IsInRange, IsApartFromEarlier}
 
 -- each row lies apart from the rows before it, and its EIDs can be held
 abbrev pub AreRows : List Row → Type 0

@@ -1,7 +1,6 @@
 -- The tables of nodes: those of one plan, or of two while they move from one to the other.
 use Rattle.std.specs.Prelude.{◌⊎◌, ℕ, List, Bool, Option, Some, None, if◌then◌else◌}
-use Rattle.plan_values.specs.declared.plan.Plan.{Plan}
-use Rattle.plan_values.specs.declared.nodes.Row.{Row}
+use Rattle.plan_values.{specs.declared.plan.Plan.{Plan}, specs.declared.nodes.Row.{Row}}
 use Rattle.net_tables.specs.Routing.{rows_of, HasRow}
 
 -- A network is that of a plan. Where its nodes move to new tables, they have the rows of the plan after as

@@ -1,12 +1,6 @@
 //! What a plan and its certificate say of a node, by the node's index in the plan's list.
-ghost use Rattle.std.specs.Prelude.{◌≡◌, ◌≢◌, ℕ, ◌+◌, ◌<◌, ◌↔◌, ◌==◌, IsTrue, MatchBool, MatchOption, map, option_map, slice_get, string_bytes};
-ghost use Rattle.std.specs.List.{list_any};
-ghost use Rattle.net_tables.specs.Names.{address_on, bus_name, device_kind, first_address, kind_word, node_name, IsFirstBus, IsNoBus};
-ghost use Rattle.net_tables.specs.Routing.{Holds, IsHeld, Covers, HasRow, IsBridge, eid_of, rows_of, ports_of, eid_number};
-ghost use Rattle.net_tables.specs.Rows.{bus_of};
-ghost use Rattle.net_tables.specs.Ownership.{owner_of, given_level, level, pool_of, IsInPool, IsInPoolOf};
-ghost use Rattle.net_tables.specs.Ranks.{rank_in, ranges_of};
-ghost use Rattle.net_tables.specs.Repositories.{terminus_of, records_of, places_of};
+ghost use Rattle.std.{specs.Prelude.{◌≡◌, ◌≢◌, ℕ, ◌+◌, ◌<◌, ◌↔◌, ◌==◌, IsTrue, MatchBool, MatchOption, map, option_map, slice_get, string_bytes}, specs.List.{list_any}};
+ghost use Rattle.net_tables.{specs.Names.{address_on, bus_name, device_kind, first_address, kind_word, node_name, IsFirstBus, IsNoBus}, specs.Routing.{Holds, IsHeld, Covers, HasRow, IsBridge, eid_of, rows_of, ports_of, eid_number}, specs.Rows.{bus_of}, specs.Ownership.{owner_of, given_level, level, pool_of, IsInPool, IsInPoolOf}, specs.Ranks.{rank_in, ranges_of}, specs.Repositories.{terminus_of, records_of, places_of}};
 
 use mctp_routing::DeviceKind;
 use mctp_transport::Eid;

@@ -1,9 +1,7 @@
 //! The rows of a plan's nodes as routing tables, ready for look-ups.
-ghost use Rattle.std.specs.Prelude.{◌≡◌, IfOk, length, map};
-ghost use Rattle.std.specs.List.Sorted.{IsPermutation};
+ghost use Rattle.std.{specs.Prelude.{◌≡◌, IfOk, length, map}, specs.List.Sorted.{IsPermutation}};
 ghost use Rattle.mctp_routing.specs.Rows.{HasSameRoutes, IsTable};
-ghost use Rattle.net_tables.specs.Rows.{RowsAreApart, RowsAreInRange};
-ghost use Rattle.net_tables.specs.Tables.{AreRows, AreTabled, table_row};
+ghost use Rattle.net_tables.{specs.Rows.{RowsAreApart, RowsAreInRange}, specs.Tables.{AreRows, AreTabled, table_row}};
 
 use crate::lookup::rows_at;
 use mctp_routing::{Hop, RangeTable, TableFault};

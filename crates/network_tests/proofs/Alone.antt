@@ -1,29 +1,12 @@
 -- The termini that are planned where one node has a terminus, with one record.
-use Rattle.std.proofs.Common.{◌≡◌, ◌≢◌, ℕ, zero, suc, ◌+◌, ◌<◌, ◌≤◌, List, [], ◌∷◌, length, map, take, Result, Ok, Err, Option, Some, None, refl, sym, ◌∙◌, ap, subst, arith, inl, inr}
-use Rattle.std.specs.Prelude.{option_map, slice_get, IfOk}
-use Rattle.std.specs.List.{filter_map, range_with_len}
-use Rattle.std.proofs.lemmas.Bool.{cases_lt, cases_order}
-use Rattle.std.proofs.lemmas.Option.{same_Some, none-some, slice_get_past, slice_get_within}
-use Rattle.plan_values.specs.declared.plan.Plan.{Plan}
-use Rattle.plan_values.specs.declared.certificate.Certificate.{Certificate}
-use Rattle.plan_values.specs.declared.terminus.PlannedRecord.{PlannedRecord}
-use Rattle.plan_values.specs.declared.terminus.PlannedTerminus.{PlannedTerminus}
+use Rattle.std.{proofs.Common.{◌≡◌, ◌≢◌, ℕ, zero, suc, ◌+◌, ◌<◌, ◌≤◌, List, [], ◌∷◌, length, map, take, Result, Ok, Err, Option, Some, None, refl, sym, ◌∙◌, ap, subst, arith, inl, inr}, specs.Prelude.{option_map, slice_get, IfOk}, specs.List.{filter_map, range_with_len}, proofs.lemmas.Bool.{cases_lt, cases_order}, proofs.lemmas.Option.{same_Some, none-some, slice_get_past, slice_get_within}}
+use Rattle.plan_values.{specs.declared.plan.Plan.{Plan}, specs.declared.certificate.Certificate.{Certificate}, specs.declared.terminus.PlannedRecord.{PlannedRecord}, specs.declared.terminus.PlannedTerminus.{PlannedTerminus}}
 use Rattle.pdr_repository.specs.Records.{Entry, IsLawful}
-use Rattle.net_tables.specs.Repositories.{terminus_of, records_of, places_of, entry_of, by_place, records_by_place, HaveOrder}
+use Rattle.net_tables.{specs.Repositories.{terminus_of, records_of, places_of, entry_of, by_place, records_by_place, HaveOrder}, specs.Routing.{node_at}, specs.TwoPlans.{Tables, one_plan}}
 use Rattle.net_rules.specs.Rules.{Accepts}
-use Rattle.net_tables.specs.Routing.{node_at}
-use Rattle.net_runs.specs.Walkers.{WalkedEvent}
-use Rattle.net_runs.specs.WalkedRuns.{WalkedRunFrom}
-use Rattle.net_runs.specs.States.{at_start}
-use Rattle.net_tables.specs.TwoPlans.{Tables, one_plan}
-use Rattle.net_runs.specs.Termini.{TerminusState, terminus_at_start}
+use Rattle.net_runs.{specs.Walkers.{WalkedEvent}, specs.WalkedRuns.{WalkedRunFrom}, specs.States.{at_start}, specs.Termini.{TerminusState, terminus_at_start}, proofs.ByPlace.{by_place_length, placed, is_lawful}}
 use Rattle.net_check.proofs.Accepted.{accepted_orders}
-use Rattle.net_runs.proofs.ByPlace.{by_place_length, placed, is_lawful}
-use Rattle.net_sim.specs.declared.network.Played.{Played}
-use Rattle.net_sim.specs.Dealing.{planned_termini}
-use Rattle.net_sim.specs.Outcomes.{outcome_value}
-use Rattle.net_sim.specs.Played.{PlaysAll}
-use Rattle.net_sim.specs.WalkedStanding.{NetworkValue, StandsForWalked, without_walkers}
+use Rattle.net_sim.{specs.declared.network.Played.{Played}, specs.Dealing.{planned_termini}, specs.Outcomes.{outcome_value}, specs.Played.{PlaysAll}, specs.WalkedStanding.{NetworkValue, StandsForWalked, without_walkers}}
 use Rattle.network_tests.specs.Planned.{IsAlone, IsRunFromStart}
 
 -- a list of one

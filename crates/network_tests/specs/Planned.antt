@@ -1,10 +1,8 @@
 -- Runs from the start of a plan of which one node has a terminus.
 use Rattle.std.specs.Prelude.{◌≡◌, ◌≢◌, ℕ, List, map, None}
-use Rattle.plan_values.specs.declared.plan.Plan.{Plan}
-use Rattle.plan_values.specs.declared.certificate.Certificate.{Certificate}
-use Rattle.net_runs.specs.Walkers.{WalkedEvent, WalkedOutcome}
+use Rattle.plan_values.{specs.declared.plan.Plan.{Plan}, specs.declared.certificate.Certificate.{Certificate}}
+use Rattle.net_runs.{specs.Walkers.{WalkedEvent, WalkedOutcome}, specs.WalkedRuns.{WalkedTurn, WalkedRun}}
 use Rattle.net_tables.specs.Repositories.{terminus_of}
-use Rattle.net_runs.specs.WalkedRuns.{WalkedTurn, WalkedRun}
 
 -- The events with these outcomes are the turns of a run of the plan from its start.
 pub record IsRunFromStart (plan : Plan) (cert : Certificate) (events : List WalkedEvent)

@@ -1,17 +1,7 @@
 -- Where no body stands at the front of bytes.
-use Rattle.std.proofs.Common.{◌≡◌, ℕ, ◌+◌, ◌*◌, ◌<◌, ◌≤◌, ◌⊎◌, inl, inr, List, length, drop, Some, None, ap, ◌∙◌, arith, length-append}
-use Rattle.std.specs.Prelude.{slice_index}
-use Rattle.pdr_record.specs.Fields.{followed}
-use Rattle.pdr_record.specs.Layouts.{width_of, NumericValue, IsNumeric}
-use Rattle.pdr_record.specs.ListsAt.{after_state_sets}
-use Rattle.pdr_record.specs.Records.{BodyValue, Terminus, Numeric, State, Association, Other, type_of, body_fields, IsBody}
-use Rattle.pdr_record.specs.NumericCodes.{HasOtherDataSize, HasOtherFormat}
-use Rattle.pdr_record.specs.Endings.{EndsEarly, Head, Middle, Tail, IsNumericFault, IsFrontFault}
-use Rattle.pdr_record.specs.declared.record_error.RecordError.{RecordError}
+use Rattle.std.{proofs.Common.{◌≡◌, ℕ, ◌+◌, ◌*◌, ◌<◌, ◌≤◌, ◌⊎◌, inl, inr, List, length, drop, Some, None, ap, ◌∙◌, arith, length-append}, specs.Prelude.{slice_index}}
+use Rattle.pdr_record.{specs.Fields.{followed}, specs.Layouts.{width_of, NumericValue, IsNumeric}, specs.ListsAt.{after_state_sets}, specs.Records.{BodyValue, Terminus, Numeric, State, Association, Other, type_of, body_fields, IsBody}, specs.NumericCodes.{HasOtherDataSize, HasOtherFormat}, specs.Endings.{EndsEarly, Head, Middle, Tail, IsNumericFault, IsFrontFault}, specs.declared.record_error.RecordError.{RecordError}, specs.Faults.{StartsWithBody, HasOtherCode}, specs.ListLaws.{after_again, entities_length}, specs.LayoutLaws.{IsNumericFront, numeric_front}}
 use Rattle.pdr_record.specs.declared.record_error.RecordError.TheVariants as error
-use Rattle.pdr_record.specs.Faults.{StartsWithBody, HasOtherCode}
-use Rattle.pdr_record.specs.ListLaws.{after_again, entities_length}
-use Rattle.pdr_record.specs.LayoutLaws.{IsNumericFront, numeric_front}
 
 -- ---- terminus locators
 

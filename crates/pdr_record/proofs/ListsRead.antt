@@ -1,15 +1,7 @@
 -- Lists that are read are spelled so.
-use Rattle.std.proofs.Common.{◌≡◌, ℕ, zero, suc, ◌+◌, ◌-◌, ◌*◌, ◌/◌, ◌%◌, ◌^◌, ◌<◌, ◌≤◌, false, ltb, List, [], ◌∷◌, ◌++◌, length, get_or, take, drop, Option, Some, refl, sym, ap, ◌∙◌, arith, length-append}
-use Rattle.std.proofs.NetLemmas.Options.{cond_none}
-use Rattle.std.specs.Prelude.{slice_index}
-use Rattle.std.proofs.lemmas.Bool.{ltb-false, le-ltb}
-use Rattle.std.proofs.lemmas.List.{take_at, drop_at, take-append-drop, drop-drop, length-take, length-drop, get_or-drop, nil_from_length}
+use Rattle.std.{proofs.Common.{◌≡◌, ℕ, zero, suc, ◌+◌, ◌-◌, ◌*◌, ◌/◌, ◌%◌, ◌^◌, ◌<◌, ◌≤◌, false, ltb, List, [], ◌∷◌, ◌++◌, length, get_or, take, drop, Option, Some, refl, sym, ap, ◌∙◌, arith, length-append}, proofs.NetLemmas.Options.{cond_none}, specs.Prelude.{slice_index}, proofs.lemmas.Bool.{ltb-false, le-ltb}, proofs.lemmas.List.{take_at, drop_at, take-append-drop, drop-drop, length-take, length-drop, get_or-drop, nil_from_length}}
 use Rattle.byteorder.specs.Endian.{little_bytes, little_number}
-use Rattle.pdr_record.specs.Fields.{followed, bytes_of, Fit}
-use Rattle.pdr_record.specs.Layouts.{StateSetValue, entities_fields, state_sets_fields}
-use Rattle.pdr_record.specs.ListsAt.{entities_of, state_set_at, after_state_set, state_sets_of, after_state_sets}
-use Rattle.pdr_record.specs.FieldLaws.{followed-bytes, length-followed}
-use Rattle.pdr_record.specs.ListLaws.{state_sets_again}
+use Rattle.pdr_record.{specs.Fields.{followed, bytes_of, Fit}, specs.Layouts.{StateSetValue, entities_fields, state_sets_fields}, specs.ListsAt.{entities_of, state_set_at, after_state_set, state_sets_of, after_state_sets}, specs.FieldLaws.{followed-bytes, length-followed}, specs.ListLaws.{state_sets_again}}
 
 abbrev pub IsBytes : List ℕ → Type 0
 IsBytes bytes = (i : ℕ) → get_or bytes i 0 < 256

@@ -1,15 +1,7 @@
 -- Where the range field format of a numeric sensor stands.
 use Rattle.std.proofs.Common.{◌≡◌, ℕ, ◌+◌, ◌*◌, ◌<◌, ◌≤◌, List, [], ◌∷◌, ◌++◌, length, arith}
-use Rattle.pdr_record.specs.Fields.{Field, U8, Raw, followed, Fit}
-use Rattle.pdr_record.specs.NumericCodes.{HasOtherFormat}
-use Rattle.pdr_record.specs.Endings.{EndsEarly, Tail}
-use Rattle.pdr_record.specs.Layouts.{width_of, NumericValue, numeric_fields, ranges_fields, SensorValue, UnitsValue, PrecisionValue, TimingValue, sensor_fields, units_fields, precision_fields, timing_fields}
-use Rattle.pdr_record.specs.Numbers.{size_code, format_code}
-use Rattle.pdr_record.specs.declared.sensor_data_size.SensorDataSize.{SensorDataSize}
+use Rattle.pdr_record.{specs.Fields.{Field, U8, Raw, followed, Fit}, specs.NumericCodes.{HasOtherFormat}, specs.Endings.{EndsEarly, Tail}, specs.Layouts.{width_of, NumericValue, numeric_fields, ranges_fields, SensorValue, UnitsValue, PrecisionValue, TimingValue, sensor_fields, units_fields, precision_fields, timing_fields}, specs.Numbers.{size_code, format_code}, specs.declared.sensor_data_size.SensorDataSize.{SensorDataSize}, specs.declared.range_field_format.RangeFieldFormat.{RangeFieldFormat}, specs.declared.range_field_format.RangeFieldFormat.TheVariants.{Integer, Real32}, specs.LayoutLaws.{front, at_format}}
 use Rattle.pdr_record.specs.declared.sensor_data_size.SensorDataSize.TheVariants as size
-use Rattle.pdr_record.specs.declared.range_field_format.RangeFieldFormat.{RangeFieldFormat}
-use Rattle.pdr_record.specs.declared.range_field_format.RangeFieldFormat.TheVariants.{Integer, Real32}
-use Rattle.pdr_record.specs.LayoutLaws.{front, at_format}
 
 -- numbers that fit, after others that do
 pub fit-append : (fs gs : List Field) → Fit fs → Fit gs → Fit (fs ++ gs)

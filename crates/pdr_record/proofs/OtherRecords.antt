@@ -1,11 +1,6 @@
 -- Records of a type without layout are told by their header.
-use Rattle.std.proofs.Common.{◌≡◌, ◌↔◌, ℕ, ◌+◌, ◌*◌, ◌/◌, ◌%◌, ◌<◌, ◌≤◌, List, [], ◌∷◌, ◌++◌, length, drop, Some, refl, sym, ap, subst, ◌∙◌, arith}
-use Rattle.std.specs.Prelude.{slice_index}
-use Rattle.std.specs.Int.{w16, w32, from_le_bytes}
-use Rattle.std.proofs.lemmas.List.{append-nil}
-use Rattle.std.proofs.lemmas.Option.{same_Some}
-use Rattle.pdr_record.specs.Records.{Other, IsOtherType, record_of, IsOtherRecordOf}
-use Rattle.pdr_record.specs.RecordLaws.{one_record}
+use Rattle.std.{proofs.Common.{◌≡◌, ◌↔◌, ℕ, ◌+◌, ◌*◌, ◌/◌, ◌%◌, ◌<◌, ◌≤◌, List, [], ◌∷◌, ◌++◌, length, drop, Some, refl, sym, ap, subst, ◌∙◌, arith}, specs.Prelude.{slice_index}, specs.Int.{w16, w32, from_le_bytes}, proofs.lemmas.List.{append-nil}, proofs.lemmas.Option.{same_Some}}
+use Rattle.pdr_record.{specs.Records.{Other, IsOtherType, record_of, IsOtherRecordOf}, specs.RecordLaws.{one_record}}
 
 spelled : (b0 b1 b2 b3 version number b6 b7 b8 b9 handle : ℕ) (body bytes : List ℕ)
     → bytes ≡ b0 ∷ b1 ∷ b2 ∷ b3 ∷ version ∷ number ∷ b6 ∷ b7 ∷ b8 ∷ b9 ∷ body → ((i : ℕ) → slice_index bytes i < 256) → version ≡ 1 → IsOtherType number

@@ -1,17 +1,9 @@
 -- Bytes have one cause at most for which they are no record, and none where they are one.
-use Rattle.std.proofs.Common.{◌≡◌, ◌↔◌, ℕ, ◌^◌, ◌<◌, List, [], ◌∷◌, length, drop, Result, Ok, Err, refl, sym, ap, subst, ◌∙◌, arith}
-use Rattle.std.specs.Prelude.{slice_index, IfOk, IfErr, IsOkAnd}
+use Rattle.std.{proofs.Common.{◌≡◌, ◌↔◌, ℕ, ◌^◌, ◌<◌, List, [], ◌∷◌, length, drop, Result, Ok, Err, refl, sym, ap, subst, ◌∙◌, arith}, specs.Prelude.{slice_index, IfOk, IfErr, IsOkAnd}}
 use Rattle.byteorder.specs.Endian.{little_bytes, little_number}
 use Rattle.mctp_transport.specs.Wire.{Spells}
-use Rattle.pdr_record.specs.declared.record.Record.{Record}
-use Rattle.pdr_record.specs.declared.record_error.RecordError.{RecordError}
+use Rattle.pdr_record.{specs.declared.record.Record.{Record}, specs.declared.record_error.RecordError.{RecordError}, specs.Fields.{U8, U16, U32, followed, bytes_of}, specs.Records.{type_of, body_fields, RecordValue, record_bytes, IsRecord}, specs.RecordLaws.{one_front, one_record}, specs.RecordValues.{record_value}, specs.Faults.{HasHeader, IsBodyFault, IsFault}, proofs.BodyFaults.{no_body_of_other_code}}
 use Rattle.pdr_record.specs.declared.record_error.RecordError.TheVariants as error
-use Rattle.pdr_record.specs.Fields.{U8, U16, U32, followed, bytes_of}
-use Rattle.pdr_record.specs.Records.{type_of, body_fields, RecordValue, record_bytes, IsRecord}
-use Rattle.pdr_record.specs.RecordLaws.{one_front, one_record}
-use Rattle.pdr_record.specs.RecordValues.{record_value}
-use Rattle.pdr_record.specs.Faults.{HasHeader, IsBodyFault, IsFault}
-use Rattle.pdr_record.proofs.BodyFaults.{no_body_of_other_code}
 
 one_body_fault : (e f : RecordError) (number : ℕ) (bytes : List ℕ) → IsBodyFault e number bytes → IsBodyFault f number bytes → e ≡ f
 one_body_fault error.Short f number bytes h g = absurd h

@@ -1,10 +1,7 @@
 -- Writing fields one after the other.
-use Rattle.std.proofs.Common.{◌≡◌, ℕ, suc, ◌+◌, ◌-◌, ◌<◌, ◌≤◌, List, [], ◌∷◌, ◌++◌, length, take, drop, get_or, map, sym, ap, ◌∙◌, arith, length-append}
-use Rattle.std.proofs.lemmas.List.{append-nil, take_at, drop_at, drop-drop, length-drop, map-append, take_more, take-append-drop, take_all}
-use Rattle.std.proofs.Math.Seq.{drop-length, drop-cons}
+use Rattle.std.{proofs.Common.{◌≡◌, ℕ, suc, ◌+◌, ◌-◌, ◌<◌, ◌≤◌, List, [], ◌∷◌, ◌++◌, length, take, drop, get_or, map, sym, ap, ◌∙◌, arith, length-append}, proofs.lemmas.List.{append-nil, take_at, drop_at, drop-drop, length-drop, map-append, take_more, take-append-drop, take_all}, proofs.Math.Seq.{drop-length, drop-cons}}
 use borrow.Rule.Slice.PartMut.{put_mid, mid_of, post_of}
-use Rattle.pdr_record.specs.Fields.{Field, field_bytes, followed, bytes_of}
-use Rattle.pdr_record.specs.FieldLaws.{followed-bytes, followed-append}
+use Rattle.pdr_record.{specs.Fields.{Field, field_bytes, followed, bytes_of}, specs.FieldLaws.{followed-bytes, followed-append}}
 
 -- how many bytes the fields have, one of them taken by itself
 pub length-parts : (fs gs : List Field) (f : Field) → length (bytes_of (fs ++ f ∷ gs)) ≡ length (bytes_of fs) + length (field_bytes f) + length (bytes_of gs)

@@ -1,10 +1,6 @@
 -- What the bodies of the code stand for.
-use Rattle.pdr_record.specs.declared.body.Body.{Body}
+use Rattle.pdr_record.{specs.declared.body.Body.{Body}, specs.Records.{BodyValue, Terminus, Numeric, State, Association, Other}, specs.Values.{terminus_value}, specs.NumericValues.{numeric_value}, specs.ListValues.{state_value, association_value}}
 use Rattle.pdr_record.specs.declared.body.Body.TheVariants as code
-use Rattle.pdr_record.specs.Records.{BodyValue, Terminus, Numeric, State, Association, Other}
-use Rattle.pdr_record.specs.Values.{terminus_value}
-use Rattle.pdr_record.specs.NumericValues.{numeric_value}
-use Rattle.pdr_record.specs.ListValues.{state_value, association_value}
 
 abbrev pub body_value : Body → BodyValue
 body_value (code.Terminus t) = Terminus (terminus_value t)

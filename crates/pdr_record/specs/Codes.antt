@@ -1,8 +1,6 @@
 -- The codes of the causes for which bytes are no record.
 use Rattle.std.specs.Prelude.{ℕ, List, codes}
-use Rattle.pdr_record.specs.declared.record_error.RecordError.{RecordError}
-use Rattle.pdr_record.specs.declared.record_error.RecordError.TheVariants.{Short, Version, Length}
-use Rattle.pdr_record.specs.declared.record_error.RecordError.TheVariants.{Ends, LeftOver, Unsupported}
+use Rattle.pdr_record.{specs.declared.record_error.RecordError.{RecordError}, specs.declared.record_error.RecordError.TheVariants.{Short, Version, Length, Ends, LeftOver, Unsupported}}
 
 -- the code that users see
 abbrev pub code_of : RecordError → List ℕ

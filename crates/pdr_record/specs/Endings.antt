@@ -1,10 +1,7 @@
 -- What the readers of the parts of a body say of bytes that they refuse.
 use Rattle.std.specs.Prelude.{ℕ, ◌<◌, ◌≤◌, ◌+◌, ◌*◌, ◌⊎◌, List, length, slice_index}
-use Rattle.pdr_record.specs.declared.record_error.RecordError.{RecordError}
+use Rattle.pdr_record.{specs.declared.record_error.RecordError.{RecordError}, specs.Faults.{StartsWithBody, HasOtherCode}, specs.Layouts.{width_of}, specs.NumericCodes.{data_width, format_place, HasOtherDataSize, HasOtherFormat}}
 use Rattle.pdr_record.specs.declared.record_error.RecordError.TheVariants as error
-use Rattle.pdr_record.specs.Faults.{StartsWithBody, HasOtherCode}
-use Rattle.pdr_record.specs.Layouts.{width_of}
-use Rattle.pdr_record.specs.NumericCodes.{data_width, format_place, HasOtherDataSize, HasOtherFormat}
 
 -- the bytes end at or before the data size, the range field format or the last value
 pub data EndsEarly (bytes : List ℕ) : Type 0 where

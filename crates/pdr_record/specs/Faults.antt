@@ -1,11 +1,8 @@
 -- Why bytes are no record: each cause by itself.
 use Rattle.std.specs.Prelude.{◌≡◌, ◌≢◌, ℕ, ◌<◌, ◌≤◌, ◌+◌, ◌⊎◌, List, [], length, drop, slice_index}
 use Rattle.byteorder.specs.Endian.{little_number}
-use Rattle.pdr_record.specs.declared.record_error.RecordError.{RecordError}
+use Rattle.pdr_record.{specs.declared.record_error.RecordError.{RecordError}, specs.Fields.{followed}, specs.Records.{BodyValue, type_of, body_fields, IsBody, IsOtherType}, specs.NumericCodes.{HasOtherDataSize, HasOtherFormat}}
 use Rattle.pdr_record.specs.declared.record_error.RecordError.TheVariants as error
-use Rattle.pdr_record.specs.Fields.{followed}
-use Rattle.pdr_record.specs.Records.{BodyValue, type_of, body_fields, IsBody, IsOtherType}
-use Rattle.pdr_record.specs.NumericCodes.{HasOtherDataSize, HasOtherFormat}
 
 -- A body of the type stands at the front of the bytes, and these follow it.
 pub record StartsWithBody (number : ℕ) (bytes rest : List ℕ) : Type 0 where

@@ -1,7 +1,5 @@
 -- The bytes of fields tell the fields, where their shapes are known.
-use Rattle.std.proofs.Common.{◌≡◌, ℕ, ◌+◌, ◌/◌, ◌%◌, List, [], ◌∷◌, ◌++◌, length, drop, take}
-use Rattle.std.proofs.Common.{get_or, refl, sym, ap, ◌∙◌, append_assoc, arith, length-append}
-use Rattle.std.proofs.lemmas.List.{take_at, drop_at}
+use Rattle.std.{proofs.Common.{◌≡◌, ℕ, ◌+◌, ◌/◌, ◌%◌, List, [], ◌∷◌, ◌++◌, length, drop, take, get_or, refl, sym, ap, ◌∙◌, append_assoc, arith, length-append}, proofs.lemmas.List.{take_at, drop_at}}
 use Rattle.pdr_record.specs.Fields.{Field, U8, U16, U32, Raw, field_bytes, followed, bytes_of, Fit}
 
 -- the fields' bytes, and then the others

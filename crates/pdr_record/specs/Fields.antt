@@ -1,6 +1,5 @@
 -- Fields that stand one after the other, and their bytes.
-use Rattle.std.specs.Prelude.{ℕ, ◌<◌, ◌^◌, List, [], ◌∷◌, ◌++◌, ⊤}
-use Rattle.std.specs.List.{AllByRecursion}
+use Rattle.std.{specs.Prelude.{ℕ, ◌<◌, ◌^◌, List, [], ◌∷◌, ◌++◌, ⊤}, specs.List.{AllByRecursion}}
 use Rattle.byteorder.specs.Endian.{little_bytes}
 
 -- a number in one, two or four bytes, or bytes as they are

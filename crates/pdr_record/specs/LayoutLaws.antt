@@ -1,17 +1,6 @@
 -- The bytes of a layout tell what it holds, and where it ends.
-use Rattle.std.proofs.Common.{◌≡◌, ℕ, ◌+◌, ◌*◌, List, [], ◌∷◌, ◌++◌, length, get_or}
-use Rattle.std.proofs.Common.{Some, refl, sym, ap, ◌∙◌, arith, length-append}
-use Rattle.std.specs.Prelude.{slice_index}
-use Rattle.pdr_record.specs.Fields.{Field, U8, U16, Raw, followed, bytes_of, Fit}
-use Rattle.pdr_record.specs.FieldLaws.{One, Two, Many, shapes, one_fields, fit_parts}
-use Rattle.pdr_record.specs.FieldLaws.{same_rest, number, raw, followed-bytes, length-followed}
-use Rattle.pdr_record.specs.ListsAt.{entities_of, state_sets_of, after_state_sets}
-use Rattle.pdr_record.specs.ListLaws.{state_sets_again, after_again, entities_again}
-use Rattle.pdr_record.specs.Layouts.{EntityValue, TerminusValue, SensorValue, StateValue, AssociationValue}
-use Rattle.pdr_record.specs.Layouts.{UnitsValue, PrecisionValue, TimingValue, NumericValue}
-use Rattle.pdr_record.specs.Layouts.{entities_fields, terminus_fields, sensor_fields, state_sets_fields}
-use Rattle.pdr_record.specs.Layouts.{state_fields, association_fields, units_fields, precision_fields}
-use Rattle.pdr_record.specs.Layouts.{timing_fields, ranges_fields, numeric_fields, width_of, IsNumeric}
+use Rattle.std.{proofs.Common.{◌≡◌, ℕ, ◌+◌, ◌*◌, List, [], ◌∷◌, ◌++◌, length, get_or, Some, refl, sym, ap, ◌∙◌, arith, length-append}, specs.Prelude.{slice_index}}
+use Rattle.pdr_record.{specs.Fields.{Field, U8, U16, Raw, followed, bytes_of, Fit}, specs.FieldLaws.{One, Two, Many, shapes, one_fields, fit_parts, same_rest, number, raw, followed-bytes, length-followed}, specs.ListsAt.{entities_of, state_sets_of, after_state_sets}, specs.ListLaws.{state_sets_again, after_again, entities_again}, specs.Layouts.{EntityValue, TerminusValue, SensorValue, StateValue, AssociationValue, UnitsValue, PrecisionValue, TimingValue, NumericValue, entities_fields, terminus_fields, sensor_fields, state_sets_fields, state_fields, association_fields, units_fields, precision_fields, timing_fields, ranges_fields, numeric_fields, width_of, IsNumeric}}
 
 -- ---- terminus locators
 

@@ -1,12 +1,7 @@
 -- Lists that are spelled are read again.
-use Rattle.std.proofs.Common.{◌≡◌, ℕ, suc, ◌+◌, ◌*◌, false, ltb, List, [], ◌∷◌, ◌++◌}
-use Rattle.std.proofs.Common.{length, take, drop, Some, refl, ap, ◌∙◌, arith, length-append}
-use Rattle.std.proofs.lemmas.Bool.{le-ltb}
-use Rattle.std.proofs.lemmas.List.{take_at, drop_at}
+use Rattle.std.{proofs.Common.{◌≡◌, ℕ, suc, ◌+◌, ◌*◌, false, ltb, List, [], ◌∷◌, ◌++◌, length, take, drop, Some, refl, ap, ◌∙◌, arith, length-append}, proofs.lemmas.Bool.{le-ltb}, proofs.lemmas.List.{take_at, drop_at}}
 use Rattle.byteorder.specs.Endian.{little_bytes, little_number}
-use Rattle.pdr_record.specs.Fields.{followed, Fit}
-use Rattle.pdr_record.specs.Layouts.{EntityValue, StateSetValue, entities_fields, state_sets_fields}
-use Rattle.pdr_record.specs.ListsAt.{entities_of, state_sets_of, after_state_sets}
+use Rattle.pdr_record.{specs.Fields.{followed, Fit}, specs.Layouts.{EntityValue, StateSetValue, entities_fields, state_sets_fields}, specs.ListsAt.{entities_of, state_sets_of, after_state_sets}}
 
 -- what is spelled is read again
 pub state_sets_again : (ss : List StateSetValue) (rest : List ℕ) → Fit (state_sets_fields ss)

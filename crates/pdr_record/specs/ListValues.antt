@@ -1,9 +1,5 @@
 -- What the state sensors and the entity associations of the code stand for.
-use Rattle.pdr_record.specs.declared.entity_association.EntityAssociation.{EntityAssociation}
-use Rattle.pdr_record.specs.declared.state_sensor.StateSensor.{StateSensor}
-use Rattle.pdr_record.specs.Layouts.{AssociationValue, StateValue}
-use Rattle.pdr_record.specs.Lists.{entities_value, state_sets_value}
-use Rattle.pdr_record.specs.Values.{entity_value, sensor_value}
+use Rattle.pdr_record.{specs.declared.entity_association.EntityAssociation.{EntityAssociation}, specs.declared.state_sensor.StateSensor.{StateSensor}, specs.Layouts.{AssociationValue, StateValue}, specs.Lists.{entities_value, state_sets_value}, specs.Values.{entity_value, sensor_value}}
 
 abbrev pub state_value : StateSensor → StateValue
 state_value s = record { sensor = sensor_value s.sensor; state_sets = state_sets_value s.state_sets }

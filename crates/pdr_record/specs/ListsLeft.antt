@@ -1,9 +1,6 @@
 -- What an iterator over a record's list has yet to give.
 use Rattle.std.specs.Prelude.{List}
-use Rattle.pdr_record.specs.declared.entities.EntitiesIter.{EntitiesIter}
-use Rattle.pdr_record.specs.declared.state_sets.StateSetsIter.{StateSetsIter}
-use Rattle.pdr_record.specs.Layouts.{EntityValue, StateSetValue}
-use Rattle.pdr_record.specs.Lists.{entities_value, state_sets_value}
+use Rattle.pdr_record.{specs.declared.entities.EntitiesIter.{EntitiesIter}, specs.declared.state_sets.StateSetsIter.{StateSetsIter}, specs.Layouts.{EntityValue, StateSetValue}, specs.Lists.{entities_value, state_sets_value}}
 
 abbrev pub entities_left : EntitiesIter → List EntityValue
 entities_left s = entities_value s.left

@@ -1,9 +1,6 @@
 -- The codes of data sizes and range field formats.
 use Rattle.std.specs.Prelude.{ℕ}
-use Rattle.pdr_record.specs.declared.sensor_data_size.SensorDataSize.{SensorDataSize}
-use Rattle.pdr_record.specs.declared.sensor_data_size.SensorDataSize.TheVariants.{U8, S8, U16, S16, U32, S32}
-use Rattle.pdr_record.specs.declared.range_field_format.RangeFieldFormat.{RangeFieldFormat}
-use Rattle.pdr_record.specs.declared.range_field_format.RangeFieldFormat.TheVariants.{Integer, Real32}
+use Rattle.pdr_record.{specs.declared.sensor_data_size.SensorDataSize.{SensorDataSize}, specs.declared.sensor_data_size.SensorDataSize.TheVariants.{U8, S8, U16, S16, U32, S32}, specs.declared.range_field_format.RangeFieldFormat.{RangeFieldFormat}, specs.declared.range_field_format.RangeFieldFormat.TheVariants.{Integer, Real32}}
 
 abbrev pub size_code : SensorDataSize → ℕ
 size_code U8 = 0

@@ -1,8 +1,5 @@
 -- What a numeric sensor of the code stands for.
-use Rattle.pdr_record.specs.declared.numeric_sensor.NumericSensor.{NumericSensor}
-use Rattle.pdr_record.specs.Layouts.{NumericValue}
-use Rattle.pdr_record.specs.Numbers.{size_code, format_code}
-use Rattle.pdr_record.specs.Values.{sensor_value, units_value, precision_value, timing_value, ranges_value}
+use Rattle.pdr_record.{specs.declared.numeric_sensor.NumericSensor.{NumericSensor}, specs.Layouts.{NumericValue}, specs.Numbers.{size_code, format_code}, specs.Values.{sensor_value, units_value, precision_value, timing_value, ranges_value}}
 
 abbrev pub numeric_value : NumericSensor → NumericValue
 numeric_value n = record {

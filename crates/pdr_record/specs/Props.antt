@@ -1,10 +1,6 @@
 -- That a record is lawful has one proof at most, as a fact of a type has to.
-use Rattle.std.specs.Prelude.{List}
-use Rattle.std.proofs.Props.{props}
-use Rattle.std.specs.List.{AllByRecursion-prop}
-use Rattle.pdr_record.specs.Fields.{Field, U8, U16, U32, Raw, FitsField, Fit}
-use Rattle.pdr_record.specs.Records.{BodyValue, Terminus, Numeric, State, Association, Other, IsLayout}
-use Rattle.pdr_record.specs.Records.{IsBody, body_fields, RecordValue, header_fields, IsRecord}
+use Rattle.std.{specs.Prelude.{List}, proofs.Props.{props}, specs.List.{AllByRecursion-prop}}
+use Rattle.pdr_record.{specs.Fields.{Field, U8, U16, U32, Raw, FitsField, Fit}, specs.Records.{BodyValue, Terminus, Numeric, State, Association, Other, IsLayout, IsBody, body_fields, RecordValue, header_fields, IsRecord}}
 
 field_prop : (f : Field) → IsProp (FitsField f)
 field_prop (U8 n) = hlevel props

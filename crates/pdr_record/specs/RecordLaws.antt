@@ -1,11 +1,6 @@
 -- The bytes of a record tell the record.
-use Rattle.std.proofs.Common.{◌≡◌, ℕ, List, [], ◌++◌, refl, sym, ap, ◌∙◌, arith}
-use Rattle.std.proofs.lemmas.List.{append-nil}
-use Rattle.pdr_record.specs.Fields.{Field, followed, bytes_of}
-use Rattle.pdr_record.specs.FieldLaws.{one_fields, number}
-use Rattle.pdr_record.specs.LayoutLaws.{one_terminus, one_numeric, one_state, one_association}
-use Rattle.pdr_record.specs.Records.{BodyValue, Terminus, Numeric, State, Association, Other, type_of, body_fields}
-use Rattle.pdr_record.specs.Records.{IsBody, IsOtherType, RecordValue, header_fields, record_bytes, IsRecord}
+use Rattle.std.{proofs.Common.{◌≡◌, ℕ, List, [], ◌++◌, refl, sym, ap, ◌∙◌, arith}, proofs.lemmas.List.{append-nil}}
+use Rattle.pdr_record.{specs.Fields.{Field, followed, bytes_of}, specs.FieldLaws.{one_fields, number}, specs.LayoutLaws.{one_terminus, one_numeric, one_state, one_association}, specs.Records.{BodyValue, Terminus, Numeric, State, Association, Other, type_of, body_fields, IsBody, IsOtherType, RecordValue, header_fields, record_bytes, IsRecord}}
 
 -- bodies of one type that stand at the front of the same bytes; bytes that follow tell nothing of a type without layout
 pub one_front : (a b : BodyValue) (r s : List ℕ) → type_of a ≡ type_of b → IsBody a → IsBody b

@@ -1,7 +1,5 @@
 -- What a record of the code stands for.
-use Rattle.pdr_record.specs.declared.record.Record.{Record}
-use Rattle.pdr_record.specs.Bodies.{body_value}
-use Rattle.pdr_record.specs.Records.{RecordValue, record_of}
+use Rattle.pdr_record.{specs.declared.record.Record.{Record}, specs.Bodies.{body_value}, specs.Records.{RecordValue, record_of}}
 
 abbrev pub record_value : Record → RecordValue
 record_value r = record_of r.handle r.change (body_value r.body)

@@ -1,9 +1,7 @@
 -- Records and their bytes, and why bytes are no record (DSP0248).
 use Rattle.std.specs.Prelude.{◌≡◌, ◌≢◌, ℕ, List, [], ◌∷◌, ◌++◌, length, ⊤}
 use Rattle.mctp_transport.specs.Wire.{Spells}
-use Rattle.pdr_record.specs.Fields.{Field, U8, U16, U32, Raw, bytes_of, Fit}
-use Rattle.pdr_record.specs.Layouts.{TerminusValue, terminus_fields, NumericValue, numeric_fields, IsNumeric}
-use Rattle.pdr_record.specs.Layouts.{StateValue, state_fields, AssociationValue, association_fields}
+use Rattle.pdr_record.{specs.Fields.{Field, U8, U16, U32, Raw, bytes_of, Fit}, specs.Layouts.{TerminusValue, terminus_fields, NumericValue, numeric_fields, IsNumeric, StateValue, state_fields, AssociationValue, association_fields}}
 
 -- what follows the header of a record: one of four layouts, or bytes under another type's number
 pub data BodyValue : Type 0 where

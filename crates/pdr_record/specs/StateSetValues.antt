@@ -1,8 +1,6 @@
 -- What a state set of the code stands for.
-use Rattle.std.specs.Prelude.{ℕ, List, Option, Some, None}
-use Rattle.std.specs.Borrow.{Bor}
-use Rattle.pdr_record.specs.declared.state_sets.StateSet.{StateSet}
-use Rattle.pdr_record.specs.Layouts.{StateSetValue}
+use Rattle.std.{specs.Prelude.{ℕ, List, Option, Some, None}, specs.Borrow.{Bor}}
+use Rattle.pdr_record.{specs.declared.state_sets.StateSet.{StateSet}, specs.Layouts.{StateSetValue}}
 
 abbrev pub state_set_value : StateSet → StateSetValue
 state_set_value s = record { state_set_id = s.state_set_id; possible_states = s.possible_states.now }

@@ -1,13 +1,5 @@
 -- What the records of the code stand for.
-use Rattle.pdr_record.specs.declared.entity.Entity.{Entity}
-use Rattle.pdr_record.specs.declared.sensor.Sensor.{Sensor}
-use Rattle.pdr_record.specs.declared.terminus_locator.TerminusLocator.{TerminusLocator}
-use Rattle.pdr_record.specs.declared.units.Units.{Units}
-use Rattle.pdr_record.specs.declared.precision.Precision.{Precision}
-use Rattle.pdr_record.specs.declared.timing.Timing.{Timing}
-use Rattle.pdr_record.specs.declared.ranges.Ranges.{Ranges}
-use Rattle.pdr_record.specs.Layouts.{EntityValue, SensorValue, TerminusValue, UnitsValue}
-use Rattle.pdr_record.specs.Layouts.{PrecisionValue, TimingValue, RangesValue}
+use Rattle.pdr_record.{specs.declared.entity.Entity.{Entity}, specs.declared.sensor.Sensor.{Sensor}, specs.declared.terminus_locator.TerminusLocator.{TerminusLocator}, specs.declared.units.Units.{Units}, specs.declared.precision.Precision.{Precision}, specs.declared.timing.Timing.{Timing}, specs.declared.ranges.Ranges.{Ranges}, specs.Layouts.{EntityValue, SensorValue, TerminusValue, UnitsValue, PrecisionValue, TimingValue, RangesValue}}
 
 abbrev pub entity_value : Entity → EntityValue
 entity_value e =

@@ -1,7 +1,6 @@
 //! What follows the header of a record.
 ghost use Rattle.std.specs.Prelude.{◌≡◌, ◌↔◌, ◌≤◌, ◌++◌, [], length, drop, IfOk, IfErr, IsTrue};
-ghost use Rattle.pdr_record.specs.Fields.{bytes_of, followed};
-ghost use Rattle.pdr_record.specs.Records.{type_of, body_fields, IsBody, IsOtherType};
+ghost use Rattle.pdr_record.{specs.Fields.{bytes_of, followed}, specs.Records.{type_of, body_fields, IsBody, IsOtherType}};
 
 use crate::entity_association::EntityAssociation;
 use crate::field::{Field, put_fields};
@@ -50,9 +49,7 @@ pub enum Body<'a> {
 }
 
 impl<'a> Body<'a> {
-    ghost use Rattle.pdr_record.specs.Bodies.{body_value};
-    ghost use Rattle.pdr_record.specs.Faults.{IsBodyFault};
-    ghost use Rattle.pdr_record.specs.Endings.{IsFrontFault};
+    ghost use Rattle.pdr_record.{specs.Bodies.{body_value}, specs.Faults.{IsBodyFault}, specs.Endings.{IsFrontFault}};
 
     /// The body that the bytes are under a type's number, all of them. D04 is answered where they end before a field
     /// does, D06 where a field has a code that is not supported, and D05 where bytes follow the last field. Under any

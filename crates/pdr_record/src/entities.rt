@@ -1,9 +1,6 @@
 //! Lists of entities.
 ghost use Rattle.std.specs.Prelude.{◌≡◌, ◌<◌, ◌≤◌, ◌*◌, ◌∷◌, [], length, IfOk, IfErr, IfSome, IfNone};
-ghost use Rattle.pdr_record.specs.Fields.{bytes_of, followed, Fit};
-ghost use Rattle.pdr_record.specs.Layouts.{entities_fields};
-ghost use Rattle.pdr_record.specs.ListsAt.{entities_of};
-ghost use Rattle.pdr_record.specs.Values.{entity_value};
+ghost use Rattle.pdr_record.{specs.Fields.{bytes_of, followed, Fit}, specs.Layouts.{entities_fields}, specs.ListsAt.{entities_of}, specs.Values.{entity_value}};
 
 use crate::entity::Entity;
 use crate::reading::FieldReader;
@@ -69,8 +66,7 @@ impl<'a> Entities<'a> {
 }
 
 impl<'a> Entities<'a> {
-    ghost use Rattle.pdr_record.specs.Lists.{entities_value};
-    ghost use Rattle.pdr_record.specs.ListsLeft.{entities_left};
+    ghost use Rattle.pdr_record.{specs.Lists.{entities_value}, specs.ListsLeft.{entities_left}};
 
     /// Each of them, in order.
     pub fn iter(&self) -> EntitiesIter<'a>

@@ -1,7 +1,6 @@
 //! Entities (DSP0248, section 9): what a record is about.
 ghost use Rattle.std.specs.Prelude.{◌≡◌, ◌≤◌, ◌+◌, length};
-ghost use Rattle.pdr_record.specs.Fields.{followed};
-ghost use Rattle.pdr_record.specs.Layouts.{entity_fields};
+ghost use Rattle.pdr_record.{specs.Fields.{followed}, specs.Layouts.{entity_fields}};
 
 use crate::reading::FieldReader;
 

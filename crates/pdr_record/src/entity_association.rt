@@ -1,8 +1,6 @@
 //! Entity associations.
 ghost use Rattle.std.specs.Prelude.{◌≡◌, ◌<◌, ◌+◌, ◌*◌, length, slice_index, IfOk, IfErr};
-ghost use Rattle.pdr_record.specs.Fields.{bytes_of, followed, Fit};
-ghost use Rattle.pdr_record.specs.Layouts.{association_fields};
-ghost use Rattle.pdr_record.specs.Written.{fields_of};
+ghost use Rattle.pdr_record.{specs.Fields.{bytes_of, followed, Fit}, specs.Layouts.{association_fields}, specs.Written.{fields_of}};
 
 use crate::entities::Entities;
 use crate::entity::Entity;

@@ -1,7 +1,6 @@
 //! Fields as they are written.
 ghost use Rattle.std.specs.Prelude.{◌≡◌, ◌≤◌, ◌++◌, length, drop};
-ghost use Rattle.pdr_record.specs.Fields.{bytes_of, followed, field_bytes};
-ghost use Rattle.pdr_record.specs.Written.{field_of, fields_of};
+ghost use Rattle.pdr_record.{specs.Fields.{bytes_of, followed, field_bytes}, specs.Written.{field_of, fields_of}};
 
 use byteorder::{ByteOrder, LittleEndian};
 

@@ -1,9 +1,6 @@
 //! Numeric sensors.
 ghost use Rattle.std.specs.Prelude.{◌≡◌, ◌<◌, ◌≤◌, ◌+◌, length, IfOk, IfErr};
-ghost use Rattle.pdr_record.specs.Fields.{bytes_of, followed, Fit};
-ghost use Rattle.pdr_record.specs.Layouts.{numeric_fields, IsNumeric};
-ghost use Rattle.pdr_record.specs.Written.{fields_of};
-ghost use Rattle.pdr_record.specs.Endings.{IsNumericFault};
+ghost use Rattle.pdr_record.{specs.Fields.{bytes_of, followed, Fit}, specs.Layouts.{numeric_fields, IsNumeric}, specs.Written.{fields_of}, specs.Endings.{IsNumericFault}};
 
 use crate::field::Field;
 use crate::precision::Precision;

@@ -1,7 +1,6 @@
 //! How exact a numeric sensor is.
 ghost use Rattle.std.specs.Prelude.{◌≡◌, ◌≤◌, ◌+◌, length};
-ghost use Rattle.pdr_record.specs.Fields.{followed, Fit};
-ghost use Rattle.pdr_record.specs.Layouts.{precision_fields};
+ghost use Rattle.pdr_record.{specs.Fields.{followed, Fit}, specs.Layouts.{precision_fields}};
 
 use crate::reading::FieldReader;
 

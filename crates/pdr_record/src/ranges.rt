@@ -1,7 +1,6 @@
 //! The values that a numeric sensor's readings are compared with.
 ghost use Rattle.std.specs.Prelude.{◌≡◌, ◌≤◌, ◌+◌, ◌*◌, length};
-ghost use Rattle.pdr_record.specs.Fields.{followed};
-ghost use Rattle.pdr_record.specs.Layouts.{ranges_fields, HaveWidth};
+ghost use Rattle.pdr_record.{specs.Fields.{followed}, specs.Layouts.{ranges_fields, HaveWidth}};
 
 use crate::reading::FieldReader;
 

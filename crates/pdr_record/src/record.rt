@@ -1,8 +1,6 @@
 //! Records: the common header and a body.
 ghost use Rattle.std.specs.Prelude.{◌≡◌, ◌↔◌, ℕ, IfOk, IfErr, IsTrue, Some, slice_get};
-ghost use Rattle.pdr_record.specs.Records.{record_of, IsRecord, IsOtherRecordOf};
-ghost use Rattle.pdr_record.specs.Bodies.{body_value};
-ghost use Rattle.pdr_record.specs.Props.{record_prop};
+ghost use Rattle.pdr_record.{specs.Records.{record_of, IsRecord, IsOtherRecordOf}, specs.Bodies.{body_value}, specs.Props.{record_prop}};
 
 use crate::body::{Body, is_other_type};
 use crate::field::{Field, put_fields};
@@ -62,10 +60,7 @@ pub struct Record<'a> {
 impl<'a> Wire<'a> for Record<'a> {
     ghost use Rattle.std.specs.Prelude.{◌≡◌, ◌↔◌, ◌++◌, ℕ, List, length, drop, IfOk, IfErr, IsOkAnd, Err};
     ghost use Rattle.mctp_transport.specs.Wire.{Spells};
-    ghost use Rattle.pdr_record.specs.Records.{RecordValue, record_bytes, IsRecord};
-    ghost use Rattle.pdr_record.specs.RecordLaws.{one_record};
-    ghost use Rattle.pdr_record.specs.RecordValues.{record_value};
-    ghost use Rattle.pdr_record.specs.Faults.{IsFault};
+    ghost use Rattle.pdr_record.{specs.Records.{RecordValue, record_bytes, IsRecord}, specs.RecordLaws.{one_record}, specs.RecordValues.{record_value}, specs.Faults.{IsFault}};
 
     type Error = RecordError;
 
@@ -113,9 +108,7 @@ impl<'a> Wire<'a> for Record<'a> {
 
 impl<'a> Record<'a> {
     ghost use Rattle.mctp_transport.specs.Wire.{Spells};
-    ghost use Rattle.pdr_record.specs.Records.{record_bytes, IsRecord};
-    ghost use Rattle.pdr_record.specs.RecordValues.{record_value};
-    ghost use Rattle.pdr_record.specs.Faults.{IsFault};
+    ghost use Rattle.pdr_record.{specs.Records.{record_bytes, IsRecord}, specs.RecordValues.{record_value}, specs.Faults.{IsFault}};
 
     fn of(bytes: &'a [u8]) -> Result<Record<'a>, RecordError>
         ensures ok { IfOk result (λ r. Spells IsRecord record_bytes (record_value r) bytes.now) }

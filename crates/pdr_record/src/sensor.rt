@@ -1,7 +1,6 @@
 //! How the records of sensors begin.
 ghost use Rattle.std.specs.Prelude.{◌≡◌, ◌≤◌, ◌+◌, length};
-ghost use Rattle.pdr_record.specs.Fields.{followed, Fit};
-ghost use Rattle.pdr_record.specs.Layouts.{sensor_fields};
+ghost use Rattle.pdr_record.{specs.Fields.{followed, Fit}, specs.Layouts.{sensor_fields}};
 
 use crate::entity::Entity;
 use crate::field::Field;

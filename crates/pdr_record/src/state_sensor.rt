@@ -1,9 +1,6 @@
 //! State sensors.
 ghost use Rattle.std.specs.Prelude.{◌≡◌, ◌<◌, ◌⊎◌, length, drop, slice_index, IfOk, IfErr, None};
-ghost use Rattle.pdr_record.specs.Fields.{bytes_of, followed, Fit};
-ghost use Rattle.pdr_record.specs.Layouts.{state_fields};
-ghost use Rattle.pdr_record.specs.ListsAt.{after_state_sets};
-ghost use Rattle.pdr_record.specs.Written.{fields_of};
+ghost use Rattle.pdr_record.{specs.Fields.{bytes_of, followed, Fit}, specs.Layouts.{state_fields}, specs.ListsAt.{after_state_sets}, specs.Written.{fields_of}};
 
 use crate::field::Field;
 use crate::reading::FieldReader;

@@ -1,9 +1,6 @@
 //! The state sets of a state sensor.
 ghost use Rattle.std.specs.Prelude.{◌≡◌, ◌∷◌, [], length, IfOk, IfErr, IfSome, IfNone, None, slice_index, ◌+◌, ◌<◌, ◌≤◌};
-ghost use Rattle.pdr_record.specs.Fields.{bytes_of, followed, Fit};
-ghost use Rattle.pdr_record.specs.Layouts.{state_sets_fields};
-ghost use Rattle.pdr_record.specs.ListsAt.{state_sets_of, after_state_set, after_state_sets};
-ghost use Rattle.pdr_record.specs.StateSetValues.{bytes_after, state_set_value};
+ghost use Rattle.pdr_record.{specs.Fields.{bytes_of, followed, Fit}, specs.Layouts.{state_sets_fields}, specs.ListsAt.{state_sets_of, after_state_set, after_state_sets}, specs.StateSetValues.{bytes_after, state_set_value}};
 
 use crate::reading::FieldReader;
 use crate::record_error::RecordError;
@@ -94,8 +91,7 @@ impl<'a> StateSets<'a> {
 }
 
 impl<'a> StateSets<'a> {
-    ghost use Rattle.pdr_record.specs.Lists.{state_sets_value};
-    ghost use Rattle.pdr_record.specs.ListsLeft.{state_sets_left};
+    ghost use Rattle.pdr_record.{specs.Lists.{state_sets_value}, specs.ListsLeft.{state_sets_left}};
 
     /// Each of them, in order.
     pub fn iter(&self) -> StateSetsIter<'a>

@@ -1,8 +1,6 @@
 //! Terminus locators.
 ghost use Rattle.std.specs.Prelude.{◌≡◌, ◌<◌, ◌≤◌, ◌+◌, length, slice_index, IfOk, IfErr};
-ghost use Rattle.pdr_record.specs.Fields.{followed, Fit};
-ghost use Rattle.pdr_record.specs.Layouts.{terminus_fields};
-ghost use Rattle.pdr_record.specs.Written.{fields_of};
+ghost use Rattle.pdr_record.{specs.Fields.{followed, Fit}, specs.Layouts.{terminus_fields}, specs.Written.{fields_of}};
 
 use crate::field::Field;
 use crate::reading::FieldReader;

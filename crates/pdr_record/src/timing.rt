@@ -1,7 +1,6 @@
 //! A numeric sensor's thresholds and times.
 ghost use Rattle.std.specs.Prelude.{◌≡◌, ◌≤◌, ◌+◌, length};
-ghost use Rattle.pdr_record.specs.Fields.{followed, Fit};
-ghost use Rattle.pdr_record.specs.Layouts.{timing_fields};
+ghost use Rattle.pdr_record.{specs.Fields.{followed, Fit}, specs.Layouts.{timing_fields}};
 
 use crate::reading::FieldReader;
 

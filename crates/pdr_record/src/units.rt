@@ -1,7 +1,6 @@
 //! What a numeric sensor measures in.
 ghost use Rattle.std.specs.Prelude.{◌≡◌, ◌≤◌, ◌+◌, length};
-ghost use Rattle.pdr_record.specs.Fields.{followed, Fit};
-ghost use Rattle.pdr_record.specs.Layouts.{units_fields};
+ghost use Rattle.pdr_record.{specs.Fields.{followed, Fit}, specs.Layouts.{units_fields}};
 
 use crate::reading::FieldReader;
 

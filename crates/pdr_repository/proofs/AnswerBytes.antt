@@ -1,18 +1,7 @@
 -- What a terminus of byte records answers to bytes is bytes.
-use Rattle.std.proofs.Common.{◌≡◌, ◌≢◌, ℕ, zero, suc, ◌+◌, ◌<◌, Bool, true, false, cond, nat_eq, List, [], ◌∷◌, ◌++◌, length, take, drop, min, Option, Some, None, sym, ◌∙◌, subst, inl, inr, arith}
-use Rattle.std.specs.Prelude.{MatchOption}
-use Rattle.std.specs.Option.{option_to_list}
-use Rattle.std.proofs.lemmas.Bool.{cases_lt}
-use Rattle.pldm_message.specs.declared.command.Command.{Command}
-use Rattle.pldm_message.specs.declared.command.Command.TheVariants.{SetTid, GetTid, GetPldmTypes, GetPdr}
-use Rattle.pldm_message.specs.Headers.{HeaderValue, IsHeader, header_bytes}
-use Rattle.pldm_message.specs.Messages.{outcome_bytes}
-use Rattle.pldm_message.specs.Pdrs.{PartRequest, Part, part_bytes, part_numbers}
-use Rattle.pdr_repository.specs.Crc.{IsCrc}
-use Rattle.pdr_repository.specs.Records.{Entry}
-use Rattle.pdr_repository.specs.Parts.{PartAnswer, offset_of, IsPartOf, AnswersFrom, AnswersPart}
-use Rattle.pdr_repository.specs.Answers.{reply_header, AnswersData, AnswersCommand, Answers}
-use Rattle.pdr_repository.proofs.SomeAnswers.{EachByte, RecordsOfBytes, bytes_drop}
+use Rattle.std.{proofs.Common.{◌≡◌, ◌≢◌, ℕ, zero, suc, ◌+◌, ◌<◌, Bool, true, false, cond, nat_eq, List, [], ◌∷◌, ◌++◌, length, take, drop, min, Option, Some, None, sym, ◌∙◌, subst, inl, inr, arith}, specs.Prelude.{MatchOption}, specs.Option.{option_to_list}, proofs.lemmas.Bool.{cases_lt}}
+use Rattle.pldm_message.{specs.declared.command.Command.{Command}, specs.declared.command.Command.TheVariants.{SetTid, GetTid, GetPldmTypes, GetPdr}, specs.Headers.{HeaderValue, IsHeader, header_bytes}, specs.Messages.{outcome_bytes}, specs.Pdrs.{PartRequest, Part, part_bytes, part_numbers}}
+use Rattle.pdr_repository.{specs.Crc.{IsCrc}, specs.Records.{Entry}, specs.Parts.{PartAnswer, offset_of, IsPartOf, AnswersFrom, AnswersPart}, specs.Answers.{reply_header, AnswersData, AnswersCommand, Answers}, proofs.SomeAnswers.{EachByte, RecordsOfBytes, bytes_drop}}
 
 pub bytes_append : (xs ys : List ℕ) → EachByte xs → EachByte ys → EachByte (xs ++ ys)
 bytes_append [] ys a b = b

@@ -1,24 +1,8 @@
 -- Whatever the bytes, they begin with a header or don't, and are an answer to a request for a part or are none.
-use Rattle.std.proofs.Common.{◌≡◌, ◌≢◌, ◌⊎◌, ℕ, zero, suc, ◌+◌, ◌*◌, ◌/◌, ◌%◌, ◌<◌, ◌≤◌, true, false, nat_eq, List, [], ◌∷◌, ◌++◌, length, take, drop, Option, Some, None, Ok, Err, refl, sym, ap, ◌∙◌, inl, inr, arith}
-use Rattle.std.specs.Option.{option_to_list}
-use Rattle.std.proofs.lemmas.Bool.{cases_lt}
-use Rattle.std.proofs.lemmas.Bool.Decides.{eqb_tells}
-use Rattle.std.proofs.lemmas.List.{append-nil, length_push}
-use Rattle.std.proofs.lemmas.Option.{same_Some}
-use Rattle.mctp_transport.specs.Bits.{bit_most}
-use Rattle.pldm_message.specs.declared.kind.MessageKind.{MessageKind}
-use Rattle.pldm_message.specs.declared.kind.MessageKind.TheVariants.{Request, Datagram, Response}
-use Rattle.pldm_message.specs.declared.command.Command.TheVariants.{GetPdr}
-use Rattle.pldm_message.specs.Commands.{type_of, command_byte}
-use Rattle.pldm_message.specs.Headers.{HeaderValue, IsHeader, header_bytes, kind_bits, instance_byte, BeginsWith}
-use Rattle.pldm_message.specs.Messages.{ResponseMessage, ResponseHeadValue, answer_header}
-use Rattle.pldm_message.specs.Pdrs.{Part, IsPart, part_bytes, IsChecked}
-use Rattle.pdr_repository.specs.Parts.{PartAnswer}
-use Rattle.pdr_repository.specs.Walkers.{IsAnswerIn}
-use Rattle.pdr_repository.proofs.SomeAnswers.{EachByte}
-use Rattle.pdr_repository.proofs.Deciding.{OrNot, both_or_not, same_or_not, less_or_not}
-use Rattle.pdr_repository.proofs.Searching.{each_or_not, three_or_not, four_or_not}
-use Rattle.mctp_transport.proofs.Spellings.{flag_of}
+use Rattle.std.{proofs.Common.{◌≡◌, ◌≢◌, ◌⊎◌, ℕ, zero, suc, ◌+◌, ◌*◌, ◌/◌, ◌%◌, ◌<◌, ◌≤◌, true, false, nat_eq, List, [], ◌∷◌, ◌++◌, length, take, drop, Option, Some, None, Ok, Err, refl, sym, ap, ◌∙◌, inl, inr, arith}, specs.Option.{option_to_list}, proofs.lemmas.Bool.{cases_lt}, proofs.lemmas.Bool.Decides.{eqb_tells}, proofs.lemmas.List.{append-nil, length_push}, proofs.lemmas.Option.{same_Some}}
+use Rattle.mctp_transport.{specs.Bits.{bit_most}, proofs.Spellings.{flag_of}}
+use Rattle.pldm_message.{specs.declared.kind.MessageKind.{MessageKind}, specs.declared.kind.MessageKind.TheVariants.{Request, Datagram, Response}, specs.declared.command.Command.TheVariants.{GetPdr}, specs.Commands.{type_of, command_byte}, specs.Headers.{HeaderValue, IsHeader, header_bytes, kind_bits, instance_byte, BeginsWith}, specs.Messages.{ResponseMessage, ResponseHeadValue, answer_header}, specs.Pdrs.{Part, IsPart, part_bytes, IsChecked}}
+use Rattle.pdr_repository.{specs.Parts.{PartAnswer}, specs.Walkers.{IsAnswerIn}, proofs.SomeAnswers.{EachByte}, proofs.Deciding.{OrNot, both_or_not, same_or_not, less_or_not}, proofs.Searching.{each_or_not, three_or_not, four_or_not}}
 
 -- ---- headers
 

@@ -1,13 +1,5 @@
 -- Numbers that ascend from above 0 on, as they stand or once they are sorted.
-use Rattle.std.proofs.Common.{Bool, true, false, ◌≡◌, ◌≢◌, ℕ, zero, suc, List, ◌∷◌, refl, sym, arith}
-use Rattle.std.specs.Prelude.{◌==◌}
-use Rattle.std.specs.List.{AllPairs}
-use Rattle.std.specs.List.Sorted.{IsPermutation, IsStrictlyIncreasing, IsNonDecreasing}
-use Rattle.std.proofs.lemmas.Bool.Decides.{Decides-eqb}
-use Rattle.std.proofs.lemmas.List.Kept.{AllPairs-from_increasing}
-use Rattle.std.proofs.lemmas.List.Sorted.{IsPermutation-cons, IsPermutation-sym}
-use Rattle.std.proofs.lemmas.Map.Keys.{IsDistinct-IsPermutation, IsStrictlyIncreasing-from_distinct}
-use Rattle.std.proofs.lemmas.Map.Made.{AllPairs-from_IsDistinct, IsDistinct-from_AllPairs}
+use Rattle.std.{proofs.Common.{Bool, true, false, ◌≡◌, ◌≢◌, ℕ, zero, suc, List, ◌∷◌, refl, sym, arith}, specs.Prelude.{◌==◌}, specs.List.{AllPairs}, specs.List.Sorted.{IsPermutation, IsStrictlyIncreasing, IsNonDecreasing}, proofs.lemmas.Bool.Decides.{Decides-eqb}, proofs.lemmas.List.Kept.{AllPairs-from_increasing}, proofs.lemmas.List.Sorted.{IsPermutation-cons, IsPermutation-sym}, proofs.lemmas.Map.Keys.{IsDistinct-IsPermutation, IsStrictlyIncreasing-from_distinct}, proofs.lemmas.Map.Made.{AllPairs-from_IsDistinct, IsDistinct-from_AllPairs}}
 
 -- none of the numbers is 0, and no two are the same
 abbrev pub AreApart : List ℕ → Type 0

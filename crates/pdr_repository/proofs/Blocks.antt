@@ -1,13 +1,6 @@
 -- Records copied one after another into a block.
-use Rattle.std.proofs.Common.{◌≡◌, ℕ, ◌+◌, ◌-◌, ◌^◌, ◌<◌, ◌≤◌, List, [], ◌∷◌, ◌++◌, length, take, drop, get_or, slice_get, Some, refl, sym, ap, ◌∙◌, subst, arith}
-use Rattle.std.specs.Prelude.{All, Vec, option_map, sum_by}
-use Rattle.std.proofs.lemmas.List.{drop-append-le, drop_at, take-append-le, take_all, map_more, map_push, length-append, length-drop, length_push}
-use Rattle.std.proofs.lemmas.List.Elements.{All-head, All-tail, All-push, All-weaker}
-use Rattle.std.proofs.lemmas.List.Sums.{sum_by_more, sum_by_more_le}
-use Rattle.std.proofs.lemmas.Option.{slice_get-map}
-use Rattle.pdr_repository.specs.declared.record_block.Span.{Span}
-use Rattle.pdr_repository.specs.Records.{Entry, entries, entry_of}
-use Rattle.pdr_repository.specs.RecordBlocks.{IsSpanIn, entry_in, entries_in}
+use Rattle.std.{proofs.Common.{◌≡◌, ℕ, ◌+◌, ◌-◌, ◌^◌, ◌<◌, ◌≤◌, List, [], ◌∷◌, ◌++◌, length, take, drop, get_or, slice_get, Some, refl, sym, ap, ◌∙◌, subst, arith}, specs.Prelude.{All, Vec, option_map, sum_by}, proofs.lemmas.List.{drop-append-le, drop_at, take-append-le, take_all, map_more, map_push, length-append, length-drop, length_push}, proofs.lemmas.List.Elements.{All-head, All-tail, All-push, All-weaker}, proofs.lemmas.List.Sums.{sum_by_more, sum_by_more_le}, proofs.lemmas.Option.{slice_get-map}}
+use Rattle.pdr_repository.{specs.declared.record_block.Span.{Span}, specs.Records.{Entry, entries, entry_of}, specs.RecordBlocks.{IsSpanIn, entry_in, entries_in}}
 
 entry_kept : (block more : List ℕ) (s : Span) → IsSpanIn block s → entry_in (block ++ more) s ≡ entry_in block s
 entry_kept block more s is =

@@ -1,11 +1,6 @@
 -- Each list of numbers has a check byte, and no other number is one.
-use Rattle.std.proofs.Common.{◌≡◌, ℕ, zero, suc, ◌*◌, ◌/◌, ◌%◌, ◌≤◌, List, [], ◌∷◌, ◌++◌, ap, ◌∙◌, subst, inl, inr, arith}
-use Rattle.std.proofs.lemmas.Bool.{cases_lt}
-use Rattle.pdr_repository.specs.Crc.{polynomial, IsCrc}
-use Rattle.pdr_repository.proofs.Crcs.{one_crc, polynomial_more}
-use Rattle.pdr_repository.proofs.SomeAnswers.{EachByte, some_crc}
-use Rattle.pdr_repository.proofs.AnswerBytes.{bytes_append}
-use Rattle.pdr_repository.proofs.Deciding.{OrNot, same_or_not}
+use Rattle.std.{proofs.Common.{◌≡◌, ℕ, zero, suc, ◌*◌, ◌/◌, ◌%◌, ◌≤◌, List, [], ◌∷◌, ◌++◌, ap, ◌∙◌, subst, inl, inr, arith}, proofs.lemmas.Bool.{cases_lt}}
+use Rattle.pdr_repository.{specs.Crc.{polynomial, IsCrc}, proofs.Crcs.{one_crc, polynomial_more}, proofs.SomeAnswers.{EachByte, some_crc}, proofs.AnswerBytes.{bytes_append}, proofs.Deciding.{OrNot, same_or_not}}
 
 -- each number is the polynomial of some bytes
 digits : (most n : ℕ) → n ≤ most → (bytes : List ℕ) × EachByte bytes × (polynomial bytes ≡ n)

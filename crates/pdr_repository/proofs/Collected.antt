@@ -1,17 +1,6 @@
 -- Handles in ascending order beside the records that have them.
-use Rattle.std.proofs.Common.{◌≡◌, ℕ, ◌+◌, ◌-◌, ◌<◌, ◌≤◌, Bool, true, false, ◌||◌, ◌==◌, List, [], ◌∷◌, ◌++◌, length, map, get_or, Result, Ok, Err, Vec, sym, ap, ◌∙◌, subst, inl, inr, arith}
-use Rattle.std.specs.Prelude.{if◌then◌else◌}
-use Rattle.std.specs.Result.{is_ok}
-use Rattle.std.specs.List.{list_any, insert}
-use Rattle.std.specs.List.Sorted.{IsNonDecreasing}
-use Rattle.std.proofs.Math.Bool.{or_comm}
-use Rattle.std.proofs.lemmas.Bool.{cases_lt, eq-eqb, ne_eqb}
-use Rattle.std.proofs.lemmas.List.{get_or_default, map_push}
-use Rattle.std.proofs.lemmas.List.Edits.{length-insert, get_or-insert_below, get_or-insert_at, get_or-insert_above}
-use Rattle.std.proofs.lemmas.List.Folds.{list_any-append, list_any_none, list_any_at}
-use Rattle.std.proofs.lemmas.List.Sorted.{IsNonDecreasingBy-from_default, IsPermutation-insert, list_any-IsPermutation}
-use Rattle.pdr_repository.specs.Records.{handle_in}
-use Rattle.pdr_repository.specs.Handles.{AreHandlesOf, StandsAt, IsPlaceFor}
+use Rattle.std.{proofs.Common.{◌≡◌, ℕ, ◌+◌, ◌-◌, ◌<◌, ◌≤◌, Bool, true, false, ◌||◌, ◌==◌, List, [], ◌∷◌, ◌++◌, length, map, get_or, Result, Ok, Err, Vec, sym, ap, ◌∙◌, subst, inl, inr, arith}, specs.Prelude.{if◌then◌else◌}, specs.Result.{is_ok}, specs.List.{list_any, insert}, specs.List.Sorted.{IsNonDecreasing}, proofs.Math.Bool.{or_comm}, proofs.lemmas.Bool.{cases_lt, eq-eqb, ne_eqb}, proofs.lemmas.List.{get_or_default, map_push}, proofs.lemmas.List.Edits.{length-insert, get_or-insert_below, get_or-insert_at, get_or-insert_above}, proofs.lemmas.List.Folds.{list_any-append, list_any_none, list_any_at}, proofs.lemmas.List.Sorted.{IsNonDecreasingBy-from_default, IsPermutation-insert, list_any-IsPermutation}}
+use Rattle.pdr_repository.{specs.Records.{handle_in}, specs.Handles.{AreHandlesOf, StandsAt, IsPlaceFor}}
 
 -- where the search finds no place, no handle of the list is the one that was looked for
 absent : (handles : List ℕ) (handle at : ℕ) → StandsAt handles handle (Err at) → (i d : ℕ) → i < length handles → (get_or handles i d == handle) ≡ false

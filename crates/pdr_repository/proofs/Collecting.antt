@@ -1,10 +1,5 @@
 -- One more exchange, and that exchanges collect one list of records.
-use Rattle.std.proofs.Common.{◌≡◌, ◌≢◌, ℕ, List, [], ◌∷◌, ◌++◌, map, Option, Some, None, refl, sym, ap, ◌∙◌, subst, inl, inr}
-use Rattle.std.specs.Prelude.{All, if◌then◌else◌, ◌==◌}
-use Rattle.std.specs.List.{flat_map, AllByRecursion}
-use Rattle.std.proofs.lemmas.List.{append_assoc, append-nil, map_push}
-use Rattle.std.proofs.lemmas.List.Concat.{flat_map-append}
-use Rattle.std.proofs.lemmas.List.Elements.{All-nil, All-cons, All-append, recursion_from_All}
+use Rattle.std.{proofs.Common.{◌≡◌, ◌≢◌, ℕ, List, [], ◌∷◌, ◌++◌, map, Option, Some, None, refl, sym, ap, ◌∙◌, subst, inl, inr}, specs.Prelude.{All, if◌then◌else◌, ◌==◌}, specs.List.{flat_map, AllByRecursion}, proofs.lemmas.List.{append_assoc, append-nil, map_push}, proofs.lemmas.List.Concat.{flat_map-append}, proofs.lemmas.List.Elements.{All-nil, All-cons, All-append, recursion_from_All}}
 use Rattle.pdr_repository.specs.Walks.{Exchange, Collects, IsStretch, IsOpen, HasFlag, flag_of, data_of, joined, CollectsOnce}
 
 -- with one exchange more, as the rest is

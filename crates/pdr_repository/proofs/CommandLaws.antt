@@ -1,13 +1,7 @@
 -- The commands of headers.
 use Rattle.std.proofs.Common.{ℕ, ◌≡◌, false, List, [], ◌∷◌, ◌++◌, drop, Some, Result, Ok, Err, refl, sym, ap, ◌∙◌, subst, inl, inr}
-use Rattle.pldm_message.specs.declared.kind.MessageKind.TheVariants.{Request, Response}
-use Rattle.pldm_message.specs.declared.command.Command.{Command}
-use Rattle.pldm_message.specs.declared.command.Command.TheVariants.{SetTid, GetTid, GetPldmTypes, GetPdr}
-use Rattle.pldm_message.specs.Headers.{HeaderValue, BeginsWith, header_bytes}
-use Rattle.pldm_message.specs.Messages.{ResponseHeadValue, answer_header}
-use Rattle.pdr_repository.specs.Records.{Entry}
-use Rattle.pdr_repository.specs.Answers.{Answers, AnswersCommand, IsOf, reply_header}
-use Rattle.pdr_repository.specs.Replying.{CarriesOut, NamesCommand, Replies}
+use Rattle.pldm_message.{specs.declared.kind.MessageKind.TheVariants.{Request, Response}, specs.declared.command.Command.{Command}, specs.declared.command.Command.TheVariants.{SetTid, GetTid, GetPldmTypes, GetPdr}, specs.Headers.{HeaderValue, BeginsWith, header_bytes}, specs.Messages.{ResponseHeadValue, answer_header}}
+use Rattle.pdr_repository.{specs.Records.{Entry}, specs.Answers.{Answers, AnswersCommand, IsOf, reply_header}, specs.Replying.{CarriesOut, NamesCommand, Replies}}
 
 -- a header that is of none of the four is of no command
 pub none_of : (h : HeaderValue) → ¬ IsOf SetTid h → ¬ IsOf GetTid h → ¬ IsOf GetPldmTypes h → ¬ IsOf GetPdr h → (c : Command) → ¬ IsOf c h

@@ -1,7 +1,5 @@
 -- Facts that hold or don't.
-use Rattle.std.proofs.Common.{◌≡◌, ◌⊎◌, ℕ, ◌<◌, ◌≤◌, List, [], ◌∷◌, Option, Some, None, refl, inl, inr, arith}
-use Rattle.std.specs.Prelude.{IsSomeAnd}
-use Rattle.std.proofs.lemmas.Bool.{cases_lt, cases_order}
+use Rattle.std.{proofs.Common.{◌≡◌, ◌⊎◌, ℕ, ◌<◌, ◌≤◌, List, [], ◌∷◌, Option, Some, None, refl, inl, inr, arith}, specs.Prelude.{IsSomeAnd}, proofs.lemmas.Bool.{cases_lt, cases_order}}
 
 abbrev pub OrNot : Type 0 → Type 0
 OrNot P = P ⊎ ¬ P

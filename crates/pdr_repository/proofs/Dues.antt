@@ -1,13 +1,7 @@
 -- The request that is due within a record, and what its answer is.
-use Rattle.std.proofs.Common.{◌≡◌, ◌≢◌, ℕ, suc, ◌+◌, ◌-◌, ◌<◌, ◌≤◌, min, nat_eq, cond, List, length, take, drop, slice_get, Some, None, Ok, refl, sym, ap, ◌∙◌, subst, arith, inl, inr, ◌⊎◌, zero-add}
-use Rattle.std.proofs.lemmas.Option.{same_Some, slice_get_cases}
-use Rattle.std.proofs.lemmas.Bool.Decides.{eqb_tells}
-use Rattle.std.proofs.lemmas.List.{get_or-take, length-take, length-drop, take_all}
-use Rattle.std.proofs.Common.{add-one}
-use Rattle.pdr_repository.specs.Records.{Entry, IsLawful, Means, change_in, handle_at}
+use Rattle.std.{proofs.Common.{◌≡◌, ◌≢◌, ℕ, suc, ◌+◌, ◌-◌, ◌<◌, ◌≤◌, min, nat_eq, cond, List, length, take, drop, slice_get, Some, None, Ok, refl, sym, ap, ◌∙◌, subst, arith, inl, inr, ◌⊎◌, zero-add, add-one}, proofs.lemmas.Option.{same_Some, slice_get_cases}, proofs.lemmas.Bool.Decides.{eqb_tells}, proofs.lemmas.List.{get_or-take, length-take, length-drop, take_all}}
+use Rattle.pdr_repository.{specs.Records.{Entry, IsLawful, Means, change_in, handle_at}, specs.Parts.{PartAnswer, AnswersPart, AnswersFrom, IsPartOf, HasChange, IsWithin, offset_of}, specs.Walks.{first_part, follows}}
 use Rattle.pldm_message.specs.Pdrs.{PartRequest, Part}
-use Rattle.pdr_repository.specs.Parts.{PartAnswer, AnswersPart, AnswersFrom, IsPartOf, HasChange, IsWithin, offset_of}
-use Rattle.pdr_repository.specs.Walks.{first_part, follows}
 
 -- a handle means one record at most
 pub means_place : (records : List Entry) → IsLawful records → (h p q : ℕ) (e f : Entry) → Means records h p e → Means records h q f → p ≡ q

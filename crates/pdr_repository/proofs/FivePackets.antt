@@ -1,13 +1,8 @@
 -- The packets of an answer with a part.
-use Rattle.std.proofs.Common.{◌≡◌, ℕ, ◌+◌, ◌*◌, ◌<◌, ◌≤◌, true, false, List, length, Option, Some, None, is_some, Ok, Err, refl, ap, sym, subst, inl, inr, arith, length-append, length-take}
-use Rattle.std.specs.Option.{option_to_list}
-use Rattle.mctp_transport.specs.PacketValues.{PacketValue}
-use Rattle.mctp_transport.proofs.Sending.{few_packets, many_packets}
-use Rattle.pldm_message.specs.Messages.{ResponseHeadValue}
-use Rattle.pldm_message.specs.Pdrs.{PartRequest, Part, part_numbers, get_pdr_answer_bytes}
-use Rattle.pdr_repository.specs.Records.{Entry}
-use Rattle.pdr_repository.specs.Parts.{PartAnswer, AnswersPart}
-use Rattle.pdr_repository.specs.FivePackets.{AreSentFor, FitFive, PassFive}
+use Rattle.std.{proofs.Common.{◌≡◌, ℕ, ◌+◌, ◌*◌, ◌<◌, ◌≤◌, true, false, List, length, Option, Some, None, is_some, Ok, Err, refl, ap, sym, subst, inl, inr, arith, length-append, length-take}, specs.Option.{option_to_list}}
+use Rattle.mctp_transport.{specs.PacketValues.{PacketValue}, proofs.Sending.{few_packets, many_packets}}
+use Rattle.pldm_message.{specs.Messages.{ResponseHeadValue}, specs.Pdrs.{PartRequest, Part, part_numbers, get_pdr_answer_bytes}}
+use Rattle.pdr_repository.{specs.Records.{Entry}, specs.Parts.{PartAnswer, AnswersPart}, specs.FivePackets.{AreSentFor, FitFive, PassFive}}
 
 -- the header, the completion code and the numbers are 16 bytes
 length_of : (head : ResponseHeadValue) (p : Part) → length (get_pdr_answer_bytes (record { head = head; outcome = Ok p })) ≡ 16 + length p.bytes + length (option_to_list p.crc)

@@ -1,31 +1,7 @@
 -- A walker that stands for a walk takes what it is given there.
-use Rattle.std.proofs.Common.{false, true, ◌≡◌, ◌≢◌, ◌⊎◌, inl, inr, ℕ, ◌+◌, ◌<◌, ◌≤◌, min, List, [], ◌∷◌, ◌++◌, length, take, slice_get, Option, Some, None, Result, Ok, Err, refl, ap, sym, ◌∙◌, subst, arith}
-use Rattle.std.specs.Prelude.{MatchOption, MatchResult}
-use Rattle.std.proofs.lemmas.Option.{same_Some, slice_get_within, slice_get_cases, get_or_from_slice_get}
-use Rattle.std.proofs.lemmas.Bool.{cases_lt}
-use Rattle.std.proofs.lemmas.List.{append-nil, length-map, length-take, length_push, get_or-take, get_or-map, get_or_push, get_or_append_left, take-append-drop, take-append-le, take_at}
-use Rattle.pldm_message.specs.declared.command.Command.TheVariants.{GetPdr}
-use Rattle.pldm_message.specs.Headers.{HeaderValue, BeginsWith, IsHeader, header_bytes}
-use Rattle.pldm_message.specs.HeaderLaws.{one_header}
-use Rattle.pldm_message.specs.Messages.{ResponseMessage, answer_header}
-use Rattle.pldm_message.specs.Pdrs.{PartRequest, Part}
-use Rattle.pldm_message.specs.PdrLaws.{one_get_pdr_answer}
-use Rattle.pdr_repository.specs.Crc.{IsCrc}
-use Rattle.pdr_repository.specs.Records.{Entry, IsLawful, handle_in, handle_at, bytes_by_place}
-use Rattle.pdr_repository.specs.Parts.{PartAnswer, AnswersPart, IsPartOf}
-use Rattle.pdr_repository.specs.Walks.{Exchange, Walk, Collects, IsFinished, due_after, follows, data_of, flag_of, HasFlag}
-use Rattle.pdr_repository.specs.Faults.{Room, Judges, IsLast, HasWrongFlag, HasWrongSize, HasWrongCrc, HasWrongHandle, HasDoubledHandle}
-use Rattle.pdr_repository.specs.declared.walk_fault.Step.{Step as WalkStep}
-use Rattle.pdr_repository.specs.declared.walk_fault.WalkFault.{WalkFault}
-use Rattle.pdr_repository.specs.declared.walk_fault.WalkFault.TheVariants.{TooMuch, OutOfMemory}
-use Rattle.pdr_repository.specs.Walkers.{WalkState, HasTakenIn, Fails, Proceeds, state_after, completed, data_with, room_of, Takes, TakesOutcome, IsAnswerIn, IsDueAnswer, WalksOn, TakesDueAnswer, Tells, TellsStep}
-use Rattle.pdr_repository.specs.declared.walk_fault.Step.TheVariants.{Done}
-use Rattle.pdr_repository.proofs.Headers.{HasHeader, lawful_header}
-use Rattle.pdr_repository.proofs.Collecting.{start_more, middle_more, whole_more, end_more, one_rest, collects_once}
-use Rattle.pdr_repository.proofs.Dues.{IsDue, FlagBy, More, Complete}
-use Rattle.pdr_repository.proofs.Walks.{Within, stands, one_step, due_push, record_there, every_walk_collects}
-use Rattle.pdr_repository.proofs.Judging.{judged}
-use Rattle.pdr_repository.proofs.Telling.{tells}
+use Rattle.std.{proofs.Common.{false, true, ◌≡◌, ◌≢◌, ◌⊎◌, inl, inr, ℕ, ◌+◌, ◌<◌, ◌≤◌, min, List, [], ◌∷◌, ◌++◌, length, take, slice_get, Option, Some, None, Result, Ok, Err, refl, ap, sym, ◌∙◌, subst, arith}, specs.Prelude.{MatchOption, MatchResult}, proofs.lemmas.Option.{same_Some, slice_get_within, slice_get_cases, get_or_from_slice_get}, proofs.lemmas.Bool.{cases_lt}, proofs.lemmas.List.{append-nil, length-map, length-take, length_push, get_or-take, get_or-map, get_or_push, get_or_append_left, take-append-drop, take-append-le, take_at}}
+use Rattle.pldm_message.{specs.declared.command.Command.TheVariants.{GetPdr}, specs.Headers.{HeaderValue, BeginsWith, IsHeader, header_bytes}, specs.HeaderLaws.{one_header}, specs.Messages.{ResponseMessage, answer_header}, specs.Pdrs.{PartRequest, Part}, specs.PdrLaws.{one_get_pdr_answer}}
+use Rattle.pdr_repository.{specs.Crc.{IsCrc}, specs.Records.{Entry, IsLawful, handle_in, handle_at, bytes_by_place}, specs.Parts.{PartAnswer, AnswersPart, IsPartOf}, specs.Walks.{Exchange, Walk, Collects, IsFinished, due_after, follows, data_of, flag_of, HasFlag}, specs.Faults.{Room, Judges, IsLast, HasWrongFlag, HasWrongSize, HasWrongCrc, HasWrongHandle, HasDoubledHandle}, specs.declared.walk_fault.Step.{Step as WalkStep}, specs.declared.walk_fault.WalkFault.{WalkFault}, specs.declared.walk_fault.WalkFault.TheVariants.{TooMuch, OutOfMemory}, specs.Walkers.{WalkState, HasTakenIn, Fails, Proceeds, state_after, completed, data_with, room_of, Takes, TakesOutcome, IsAnswerIn, IsDueAnswer, WalksOn, TakesDueAnswer, Tells, TellsStep}, specs.declared.walk_fault.Step.TheVariants.{Done}, proofs.Headers.{HasHeader, lawful_header}, proofs.Collecting.{start_more, middle_more, whole_more, end_more, one_rest, collects_once}, proofs.Dues.{IsDue, FlagBy, More, Complete}, proofs.Walks.{Within, stands, one_step, due_push, record_there, every_walk_collects}, proofs.Judging.{judged}, proofs.Telling.{tells}}
 
 -- a walk with one exchange more
 pub walk_push : (records : List Entry) (count : ℕ) (xs : List Exchange) (x : Exchange) → Walk records count xs → due_after count xs ≡ Some x.request → AnswersPart records x.request x.answer → Walk records count (xs ++ x ∷ [])

@@ -1,12 +1,6 @@
 -- A search for a handle, and what is found.
-use Rattle.std.proofs.Common.{◌≡◌, ℕ, Bool, true, false, ◌==◌, List, not, eqb, refl, ◌∙◌, sym, subst, inl, inr}
-use Rattle.std.specs.Prelude.{Any, IsTrue, ◌↔◌, MatchOption, Option, Some}
-use Rattle.std.specs.List.{list_any}
-use Rattle.std.proofs.lemmas.List.Folds.{Any-from_list_any, list_any-from_Any}
-use Rattle.std.proofs.lemmas.Bool.Decides.{Decides-eqb, eqb_tells}
-use Rattle.pdr_repository.specs.Records.{handle_in}
-use Rattle.pdr_repository.specs.Crc.{IsCrc}
-use Rattle.pdr_repository.proofs.Crcs.{one_crc}
+use Rattle.std.{proofs.Common.{◌≡◌, ℕ, Bool, true, false, ◌==◌, List, not, eqb, refl, ◌∙◌, sym, subst, inl, inr}, specs.Prelude.{Any, IsTrue, ◌↔◌, MatchOption, Option, Some}, specs.List.{list_any}, proofs.lemmas.List.Folds.{Any-from_list_any, list_any-from_Any}, proofs.lemmas.Bool.Decides.{Decides-eqb, eqb_tells}}
+use Rattle.pdr_repository.{specs.Records.{handle_in}, specs.Crc.{IsCrc}, proofs.Crcs.{one_crc}}
 
 any_handle : (handle : ℕ) (records : List (List ℕ)) → list_any (λ bytes. handle_in bytes == handle) records ≡ true → Any (λ bytes. handle_in bytes ≡ handle) records
 any_handle handle records h =

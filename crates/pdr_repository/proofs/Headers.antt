@@ -1,11 +1,7 @@
 -- The common header of a record.
-use Rattle.std.proofs.Common.{◌≡◌, ℕ, ◌+◌, ◌^◌, ◌<◌, ◌≤◌, List, length, slice_get, Some, Vec, sym, subst, arith}
-use Rattle.std.specs.Prelude.{All}
-use Rattle.std.proofs.lemmas.Option.{slice_get-get_or}
-use Rattle.pdr_record.specs.Fields.{bytes_of}
-use Rattle.pdr_record.specs.Records.{RecordValue, IsRecord, record_bytes, body_fields}
-use Rattle.pdr_repository.specs.Records.{Entry, IsLawful, IsRecordOf, entries, handle_in, data_length_in}
-use Rattle.pdr_repository.proofs.Places.{entry_there}
+use Rattle.std.{proofs.Common.{◌≡◌, ℕ, ◌+◌, ◌^◌, ◌<◌, ◌≤◌, List, length, slice_get, Some, Vec, sym, subst, arith}, specs.Prelude.{All}, proofs.lemmas.Option.{slice_get-get_or}}
+use Rattle.pdr_record.{specs.Fields.{bytes_of}, specs.Records.{RecordValue, IsRecord, record_bytes, body_fields}}
+use Rattle.pdr_repository.{specs.Records.{Entry, IsLawful, IsRecordOf, entries, handle_in, data_length_in}, proofs.Places.{entry_there}}
 
 -- the bytes begin with the common header, and the data length is the number of bytes after it
 pub record HasHeader (handle : ℕ) (bytes : List ℕ) : Type 0 where

@@ -1,23 +1,6 @@
 -- An index of records: that it is one after the sort, and what a search of it finds.
-use Rattle.std.proofs.Common.{◌≡◌, ◌≢◌, ℕ, ◌+◌, ◌<◌, List, [], ◌∷◌, ◌++◌, length, map, take, get_or, slice_get, true, Option, Some, None, option_map, refl, sym, ap, ◌∙◌, subst, arith, inl, inr, eq-eqb}
-use Rattle.std.specs.Prelude.{All, Vec, ◌==◌}
-use Rattle.std.specs.List.{enumerate_from, list_any, HoldsAt}
-use Rattle.std.specs.List.Sorted.{IsPermutation, IsSortedByKey, IsNonDecreasingBy, IsPartitionPoint}
-use Rattle.std.specs.Ordering.{nat_cmp, ordering_index}
-use Rattle.std.specs.declared.cmp.Ordering.TheVariants.{Less, Equal, Greater}
-use Rattle.std.proofs.lemmas.Bool.{eqb-true, cases_lt}
-use Rattle.std.proofs.lemmas.Cmp.{nat_cmp_total, ranked}
-use Rattle.std.proofs.lemmas.List.{length-map, length-take-le, get_or-map, map_push, take_more}
-use Rattle.std.proofs.lemmas.List.Elements.{All-map}
-use Rattle.std.proofs.lemmas.List.Folds.{Any-from_list_any, list_any_at}
-use Rattle.std.proofs.lemmas.List.FromFn.{length-enumerate_from, get_or-enumerate_from}
-use Rattle.std.proofs.lemmas.List.Sorted.{All-permutation, list_any-IsPermutation, searchable_from_sorted}
-use Rattle.std.proofs.lemmas.Option.{slice_get-get_or, slice_get_within, slice_get_cases, get_or_from_slice_get, same_Some}
-use Rattle.pdr_repository.specs.declared.handle_index.IndexRow.{IndexRow}
-use Rattle.pdr_repository.specs.Records.{Entry, entries, Places}
-use Rattle.pdr_repository.specs.Indexes.{HasHandleAt, IsIndexOf, Locates, rows_of}
-use Rattle.pdr_repository.proofs.Places.{entry_there}
-use Rattle.pdr_repository.proofs.LawfulLists.{entry_at}
+use Rattle.std.{proofs.Common.{◌≡◌, ◌≢◌, ℕ, ◌+◌, ◌<◌, List, [], ◌∷◌, ◌++◌, length, map, take, get_or, slice_get, true, Option, Some, None, option_map, refl, sym, ap, ◌∙◌, subst, arith, inl, inr, eq-eqb}, specs.Prelude.{All, Vec, ◌==◌}, specs.List.{enumerate_from, list_any, HoldsAt}, specs.List.Sorted.{IsPermutation, IsSortedByKey, IsNonDecreasingBy, IsPartitionPoint}, specs.Ordering.{nat_cmp, ordering_index}, specs.declared.cmp.Ordering.TheVariants.{Less, Equal, Greater}, proofs.lemmas.Bool.{eqb-true, cases_lt}, proofs.lemmas.Cmp.{nat_cmp_total, ranked}, proofs.lemmas.List.{length-map, length-take-le, get_or-map, map_push, take_more}, proofs.lemmas.List.Elements.{All-map}, proofs.lemmas.List.Folds.{Any-from_list_any, list_any_at}, proofs.lemmas.List.FromFn.{length-enumerate_from, get_or-enumerate_from}, proofs.lemmas.List.Sorted.{All-permutation, list_any-IsPermutation, searchable_from_sorted}, proofs.lemmas.Option.{slice_get-get_or, slice_get_within, slice_get_cases, get_or_from_slice_get, same_Some}}
+use Rattle.pdr_repository.{specs.declared.handle_index.IndexRow.{IndexRow}, specs.Records.{Entry, entries, Places}, specs.Indexes.{HasHandleAt, IsIndexOf, Locates, rows_of}, proofs.Places.{entry_there}, proofs.LawfulLists.{entry_at}}
 
 abbrev row_at : {Z : Type 0} → (ℕ × (ℕ × Vec ℕ Z)) → IndexRow
 row_at r = record { handle = r.1.0; place = r.0 }

@@ -1,12 +1,7 @@
 -- What a part without a fault is.
-use Rattle.std.proofs.Common.{◌≡◌, ℕ, List, [], length, Option, Some, None, subst, inl, inr, ◌⊎◌, arith}
-use Rattle.std.proofs.lemmas.Bool.Decides.{eqb_tells}
-use Rattle.std.proofs.lemmas.List.{nil_from_length}
+use Rattle.std.{proofs.Common.{◌≡◌, ℕ, List, [], length, Option, Some, None, subst, inl, inr, ◌⊎◌, arith}, proofs.lemmas.Bool.Decides.{eqb_tells}, proofs.lemmas.List.{nil_from_length}}
 use Rattle.pldm_message.specs.Pdrs.{PartRequest, Part}
-use Rattle.pdr_repository.specs.declared.walker.due.Due.{Due}
-use Rattle.pdr_repository.specs.declared.walk_fault.WalkFault.{WalkFault}
-use Rattle.pdr_repository.specs.Faults.{Room, Judges, HasWrongFlag}
-use Rattle.pdr_repository.specs.Dues.{request_of}
+use Rattle.pdr_repository.{specs.declared.walker.due.Due.{Due}, specs.declared.walk_fault.WalkFault.{WalkFault}, specs.Faults.{Room, Judges, HasWrongFlag}, specs.Dues.{request_of}}
 
 pub same_room : (m n : Room) → m.max_records ≡ n.max_records → m.max_bytes ≡ n.max_bytes → m.records ≡ n.records → m.bytes ≡ n.bytes → m ≡ n
 same_room m n a b c d = λ i. record { max_records = a i; max_bytes = b i; records = c i; bytes = d i }

@@ -1,13 +1,6 @@
 -- A list is lawful where it is at each place: its handles are apart from one another and from 0, and its records spelled.
-use Rattle.std.proofs.Common.{◌≡◌, ℕ, zero, suc, ◌<◌, List, length, get_or, slice_get, map, Some, sym, ap, ◌∙◌, subst, arith, inl, inr}
-use Rattle.std.specs.Prelude.{Vec, option_map}
-use Rattle.std.specs.List.{All}
-use Rattle.std.proofs.lemmas.Bool.{cases_lt}
-use Rattle.std.proofs.lemmas.List.{length-map}
-use Rattle.std.proofs.lemmas.Option.{slice_get_within, slice_get_cases, same_Some, slice_get-map, get_or_from_slice_get}
-use Rattle.pdr_repository.specs.Records.{Entry, entries, entry_of, IsLawful, IsLawfulAt, IsRecordOf}
-use Rattle.pdr_repository.proofs.Ascending.{AreApart}
-use Rattle.pdr_repository.proofs.Places.{entry_there}
+use Rattle.std.{proofs.Common.{◌≡◌, ℕ, zero, suc, ◌<◌, List, length, get_or, slice_get, map, Some, sym, ap, ◌∙◌, subst, arith, inl, inr}, specs.Prelude.{Vec, option_map}, specs.List.{All}, proofs.lemmas.Bool.{cases_lt}, proofs.lemmas.List.{length-map}, proofs.lemmas.Option.{slice_get_within, slice_get_cases, same_Some, slice_get-map, get_or_from_slice_get}}
+use Rattle.pdr_repository.{specs.Records.{Entry, entries, entry_of, IsLawful, IsLawfulAt, IsRecordOf}, proofs.Ascending.{AreApart}, proofs.Places.{entry_there}}
 
 -- the handles of a list of records
 abbrev pub handles_of : {Z : Type 0} → List (ℕ × Vec ℕ Z) → List ℕ

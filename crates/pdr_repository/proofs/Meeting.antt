@@ -1,23 +1,7 @@
 -- A terminus answers the requests of a walker.
-use Rattle.std.proofs.Common.{◌≡◌, ◌≢◌, inl, inr, ℕ, ◌+◌, ◌^◌, ◌<◌, ◌≤◌, min, true, false, Bool, List, ◌++◌, length, drop, Option, Some, None, refl, ap, sym, ◌∙◌, subst, arith}
-use Rattle.std.specs.Prelude.{MatchOption, is_some, ◌==◌, if◌then◌else◌}
-use Rattle.std.proofs.lemmas.Bool.{cases_lt}
-use Rattle.std.proofs.lemmas.Bool.Decides.{eqb_tells}
-use Rattle.std.proofs.lemmas.List.{length-take}
-use Rattle.std.proofs.lemmas.Option.{slice_get_cases}
-use Rattle.pldm_message.specs.declared.kind.MessageKind.TheVariants.{Request}
-use Rattle.pldm_message.specs.declared.command.Command.TheVariants.{SetTid, GetTid, GetPldmTypes, GetPdr}
-use Rattle.pldm_message.specs.Headers.{HeaderValue, IsHeader, header_bytes}
-use Rattle.pldm_message.specs.HeaderLaws.{one_header}
-use Rattle.pldm_message.specs.Messages.{RequestMessage, IsOutcome, outcome_bytes}
-use Rattle.pldm_message.specs.Pdrs.{PartRequest, IsPartRequest, Part, IsPart, part_request_bytes, part_bytes, get_pdr_request_bytes}
-use Rattle.pldm_message.specs.PdrLaws.{one_get_pdr_request}
-use Rattle.pdr_repository.specs.Crc.{IsCrc}
-use Rattle.pdr_repository.specs.Records.{Entry, IsLawful, handle_at}
-use Rattle.pdr_repository.specs.Parts.{PartAnswer, AnswersPart, IsPartOf, offset_of}
-use Rattle.pdr_repository.specs.Answers.{AnswersCommand, AnswersData, reply_header}
-use Rattle.pdr_repository.specs.Walkers.{asked_under, AnswersWalker, EveryRequestIsAnswered}
-use Rattle.pdr_repository.proofs.Headers.{lawful_header}
+use Rattle.std.{proofs.Common.{◌≡◌, ◌≢◌, inl, inr, ℕ, ◌+◌, ◌^◌, ◌<◌, ◌≤◌, min, true, false, Bool, List, ◌++◌, length, drop, Option, Some, None, refl, ap, sym, ◌∙◌, subst, arith}, specs.Prelude.{MatchOption, is_some, ◌==◌, if◌then◌else◌}, proofs.lemmas.Bool.{cases_lt}, proofs.lemmas.Bool.Decides.{eqb_tells}, proofs.lemmas.List.{length-take}, proofs.lemmas.Option.{slice_get_cases}}
+use Rattle.pldm_message.{specs.declared.kind.MessageKind.TheVariants.{Request}, specs.declared.command.Command.TheVariants.{SetTid, GetTid, GetPldmTypes, GetPdr}, specs.Headers.{HeaderValue, IsHeader, header_bytes}, specs.HeaderLaws.{one_header}, specs.Messages.{RequestMessage, IsOutcome, outcome_bytes}, specs.Pdrs.{PartRequest, IsPartRequest, Part, IsPart, part_request_bytes, part_bytes, get_pdr_request_bytes}, specs.PdrLaws.{one_get_pdr_request}}
+use Rattle.pdr_repository.{specs.Crc.{IsCrc}, specs.Records.{Entry, IsLawful, handle_at}, specs.Parts.{PartAnswer, AnswersPart, IsPartOf, offset_of}, specs.Answers.{AnswersCommand, AnswersData, reply_header}, specs.Walkers.{asked_under, AnswersWalker, EveryRequestIsAnswered}, proofs.Headers.{lawful_header}}
 
 -- handles fit their field
 handle_fits : (records : List Entry) → IsLawful records → (place : ℕ) → handle_at records place < 2 ^ 32

@@ -1,13 +1,7 @@
 -- A request for a part has one answer.
-use Rattle.std.proofs.Common.{◌≡◌, ◌≢◌, inl, inr, ℕ, ◌+◌, List, length, Option, Some, None, Ok, refl, ap, sym, ◌∙◌, subst, arith}
-use Rattle.std.specs.Prelude.{MatchOption}
-use Rattle.std.proofs.lemmas.Bool.{cases_lt}
+use Rattle.std.{proofs.Common.{◌≡◌, ◌≢◌, inl, inr, ℕ, ◌+◌, List, length, Option, Some, None, Ok, refl, ap, sym, ◌∙◌, subst, arith}, specs.Prelude.{MatchOption}, proofs.lemmas.Bool.{cases_lt}}
 use Rattle.pldm_message.specs.Pdrs.{PartRequest, Part}
-use Rattle.pdr_repository.specs.Crc.{IsCrc}
-use Rattle.pdr_repository.specs.Records.{Entry, handle_at}
-use Rattle.pdr_repository.specs.Parts.{PartAnswer, AnswersFrom, IsPartOf, offset_of, OneAnswer}
-use Rattle.pdr_repository.proofs.Crcs.{one_crc}
-use Rattle.pdr_repository.proofs.Dues.{means_place, means_entry}
+use Rattle.pdr_repository.{specs.Crc.{IsCrc}, specs.Records.{Entry, handle_at}, specs.Parts.{PartAnswer, AnswersFrom, IsPartOf, offset_of, OneAnswer}, proofs.Crcs.{one_crc}, proofs.Dues.{means_place, means_entry}}
 
 same_part : (p q : Part) → p.next ≡ q.next → p.transfer ≡ q.transfer → p.flag ≡ q.flag → p.bytes ≡ q.bytes → p.crc ≡ q.crc → p ≡ q
 same_part p q n t f b c = λ i. record { next = n i; transfer = t i; flag = f i; bytes = b i; crc = c i }

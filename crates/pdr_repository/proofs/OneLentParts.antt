@@ -1,8 +1,6 @@
 -- Over a lawful list one part is lent.
-use Rattle.std.proofs.Common.{◌≡◌, ◌≤◌, ◌-◌, min, length, take, drop, slice_get, Some, None, refl, sym, ap, ◌∙◌, subst, arith}
-use Rattle.std.proofs.lemmas.Option.{same_Some}
-use Rattle.pdr_repository.specs.Records.{Entry}
-use Rattle.pdr_repository.specs.LentParts.{OneLentPart}
+use Rattle.std.{proofs.Common.{◌≡◌, ◌≤◌, ◌-◌, min, length, take, drop, slice_get, Some, None, refl, sym, ap, ◌∙◌, subst, arith}, proofs.lemmas.Option.{same_Some}}
+use Rattle.pdr_repository.{specs.Records.{Entry}, specs.LentParts.{OneLentPart}}
 
 pub one_lent_part : OneLentPart
 one_lent_part records handle offset count None None lawful a b = refl

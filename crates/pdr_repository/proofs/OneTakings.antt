@@ -1,19 +1,8 @@
 -- A walker makes one thing of bytes, and one request.
-use Rattle.std.proofs.Common.{◌≡◌, ◌≢◌, ℕ, List, Option, Some, None, Result, Ok, Err, sym, ap, ◌∙◌, subst, inl, inr}
-use Rattle.std.specs.Prelude.{MatchOption}
-use Rattle.std.proofs.lemmas.Option.{same_Some}
+use Rattle.std.{proofs.Common.{◌≡◌, ◌≢◌, ℕ, List, Option, Some, None, Result, Ok, Err, sym, ap, ◌∙◌, subst, inl, inr}, specs.Prelude.{MatchOption}, proofs.lemmas.Option.{same_Some}}
 use Rattle.mctp_transport.specs.First.{First}
-use Rattle.pldm_message.specs.Headers.{HeaderValue, BeginsWith}
-use Rattle.pldm_message.specs.HeaderLaws.{one_header}
-use Rattle.pldm_message.specs.Messages.{ResponseMessage}
-use Rattle.pldm_message.specs.Pdrs.{PartRequest, IsPartRequest, Part, get_pdr_request_bytes}
-use Rattle.pldm_message.specs.PdrLaws.{one_get_pdr_answer}
-use Rattle.pdr_repository.specs.Parts.{PartAnswer}
-use Rattle.pdr_repository.specs.Faults.{Judges, Room}
-use Rattle.pdr_repository.specs.declared.walk_fault.Step.{Step as WalkStep}
-use Rattle.pdr_repository.specs.declared.walk_fault.WalkFault.{WalkFault}
-use Rattle.pdr_repository.specs.declared.walk_fault.WalkFault.TheVariants.{FailedBefore, NotAsked, Unreadable, RecordChanged, OtherCode, OutOfMemory}
-use Rattle.pdr_repository.specs.Walkers.{WalkState, Asks, asked_under, Takes, TakesOutcome, TakesMessage, Proceeds, Ignores, Fails, IsAnswerIn, room_of}
+use Rattle.pldm_message.{specs.Headers.{HeaderValue, BeginsWith}, specs.HeaderLaws.{one_header}, specs.Messages.{ResponseMessage}, specs.Pdrs.{PartRequest, IsPartRequest, Part, get_pdr_request_bytes}, specs.PdrLaws.{one_get_pdr_answer}}
+use Rattle.pdr_repository.{specs.Parts.{PartAnswer}, specs.Faults.{Judges, Room}, specs.declared.walk_fault.Step.{Step as WalkStep}, specs.declared.walk_fault.WalkFault.{WalkFault}, specs.declared.walk_fault.WalkFault.TheVariants.{FailedBefore, NotAsked, Unreadable, RecordChanged, OtherCode, OutOfMemory}, specs.Walkers.{WalkState, Asks, asked_under, Takes, TakesOutcome, TakesMessage, Proceeds, Ignores, Fails, IsAnswerIn, room_of}}
 
 abbrev Answered : Type 0
 Answered = Result WalkStep WalkFault

@@ -1,7 +1,5 @@
 -- The place of the record that a handle means.
-use Rattle.std.proofs.Common.{◌≡◌, ℕ, List, slice_get, Some, option_map, ap, ◌∙◌}
-use Rattle.std.specs.Prelude.{Vec}
-use Rattle.std.proofs.lemmas.Option.{slice_get-map}
+use Rattle.std.{proofs.Common.{◌≡◌, ℕ, List, slice_get, Some, option_map, ap, ◌∙◌}, specs.Prelude.{Vec}, proofs.lemmas.Option.{slice_get-map}}
 use Rattle.pdr_repository.specs.Records.{Entry, entries, entry_of, bytes_by_place}
 
 -- what stands at a place is the entry there

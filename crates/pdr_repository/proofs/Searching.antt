@@ -1,9 +1,5 @@
 -- Searches among the numbers below a bound, and among those that have a least.
-use Rattle.std.proofs.Common.{◌≡◌, ◌⊎◌, ℕ, zero, suc, ◌<◌, ◌≤◌, List, [], ◌∷◌, ap, subst, inl, inr, arith}
-use Rattle.std.specs.Prelude.{All}
-use Rattle.std.specs.List.{AllByRecursion}
-use Rattle.std.proofs.lemmas.Bool.{cases_lt, cases_order}
-use Rattle.std.proofs.lemmas.List.Elements.{All-from_recursion, recursion_from_All}
+use Rattle.std.{proofs.Common.{◌≡◌, ◌⊎◌, ℕ, zero, suc, ◌<◌, ◌≤◌, List, [], ◌∷◌, ap, subst, inl, inr, arith}, specs.Prelude.{All}, specs.List.{AllByRecursion}, proofs.lemmas.Bool.{cases_lt, cases_order}, proofs.lemmas.List.Elements.{All-from_recursion, recursion_from_All}}
 use Rattle.pdr_repository.proofs.Deciding.{OrNot, both_or_not}
 
 -- one of the numbers below the bound is such, or each is otherwise

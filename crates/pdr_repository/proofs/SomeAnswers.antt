@@ -1,30 +1,8 @@
 -- Each message of bytes has its answer from records of bytes, or has none.
-use Rattle.std.proofs.Common.{◌≡◌, ◌⊎◌, ℕ, zero, suc, ◌+◌, ◌*◌, ◌/◌, ◌%◌, ◌<◌, ◌≤◌, Bool, true, false, cond, nat_eq, List, [], ◌∷◌, ◌++◌, length, take, drop, min, slice_get, Option, Some, None, refl, sym, ap, ◌∙◌, subst, inl, inr, arith}
-use Rattle.std.specs.Prelude.{Ok, Err}
-use Rattle.std.specs.List.{AllByRecursion}
-use Rattle.std.proofs.lemmas.Bool.{cases_lt}
-use Rattle.std.proofs.lemmas.List.{append-nil}
-use Rattle.std.proofs.lemmas.Option.{same_Some, none-some}
-use Rattle.std.specs.Prelude.{bit_xor, All}
-use Rattle.std.proofs.lemmas.List.Elements.{All-head, All-tail}
-use Rattle.std.proofs.lemmas.Nat.{xor_of_8}
-use Rattle.std.proofs.Common.{append_assoc}
-use Rattle.mctp_transport.specs.Bits.{bit_most}
-use Rattle.mctp_transport.specs.PacketValues.{bit}
-use Rattle.pldm_message.specs.declared.kind.MessageKind.TheVariants.{Request}
-use Rattle.pldm_message.specs.declared.command.Command.{Command}
-use Rattle.pldm_message.specs.declared.command.Command.TheVariants.{SetTid, GetTid, GetPldmTypes, GetPdr}
-use Rattle.pldm_message.specs.Commands.{type_of, command_byte}
-use Rattle.pldm_message.specs.Headers.{HeaderValue, IsHeader, header_bytes, instance_byte}
-use Rattle.pldm_message.specs.Messages.{outcome_bytes}
-use Rattle.pldm_message.specs.Pdrs.{PartRequest, IsPartRequest, part_request_bytes, Part, part_bytes}
-use Rattle.pdr_repository.specs.Crc.{IsCrc}
-use Rattle.pdr_repository.proofs.Crcs.{crc-none, crc-more, table_entry, IsEntry}
-use Rattle.pdr_repository.specs.Records.{Entry, IsMeant, handle_at, change_in}
-use Rattle.pdr_repository.specs.Parts.{PartAnswer, offset_of, HasChange, IsWithin, IsPartOf, AnswersFrom, AnswersPart}
-use Rattle.pdr_repository.specs.Answers.{IsAsked, reply_header, known_types, request_length, AnswersData, IsOf, AnswersCommand, Answers}
-use Rattle.pdr_repository.proofs.Deciding.{OrNot, both_or_not, implied_or_not, not_or_not, same_or_not, less_or_not, at_most_or_not}
-use Rattle.mctp_transport.proofs.Spellings.{flag_of}
+use Rattle.std.{proofs.Common.{◌≡◌, ◌⊎◌, ℕ, zero, suc, ◌+◌, ◌*◌, ◌/◌, ◌%◌, ◌<◌, ◌≤◌, Bool, true, false, cond, nat_eq, List, [], ◌∷◌, ◌++◌, length, take, drop, min, slice_get, Option, Some, None, refl, sym, ap, ◌∙◌, subst, inl, inr, arith, append_assoc}, specs.Prelude.{Ok, Err, bit_xor, All}, specs.List.{AllByRecursion}, proofs.lemmas.Bool.{cases_lt}, proofs.lemmas.List.{append-nil}, proofs.lemmas.Option.{same_Some, none-some}, proofs.lemmas.List.Elements.{All-head, All-tail}, proofs.lemmas.Nat.{xor_of_8}}
+use Rattle.mctp_transport.{specs.Bits.{bit_most}, specs.PacketValues.{bit}, proofs.Spellings.{flag_of}}
+use Rattle.pldm_message.{specs.declared.kind.MessageKind.TheVariants.{Request}, specs.declared.command.Command.{Command}, specs.declared.command.Command.TheVariants.{SetTid, GetTid, GetPldmTypes, GetPdr}, specs.Commands.{type_of, command_byte}, specs.Headers.{HeaderValue, IsHeader, header_bytes, instance_byte}, specs.Messages.{outcome_bytes}, specs.Pdrs.{PartRequest, IsPartRequest, part_request_bytes, Part, part_bytes}}
+use Rattle.pdr_repository.{specs.Crc.{IsCrc}, proofs.Crcs.{crc-none, crc-more, table_entry, IsEntry}, specs.Records.{Entry, IsMeant, handle_at, change_in}, specs.Parts.{PartAnswer, offset_of, HasChange, IsWithin, IsPartOf, AnswersFrom, AnswersPart}, specs.Answers.{IsAsked, reply_header, known_types, request_length, AnswersData, IsOf, AnswersCommand, Answers}, proofs.Deciding.{OrNot, both_or_not, implied_or_not, not_or_not, same_or_not, less_or_not, at_most_or_not}}
 
 -- each number is a byte
 abbrev pub EachByte : List ℕ → Type 0

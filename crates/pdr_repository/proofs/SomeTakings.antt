@@ -1,20 +1,7 @@
 -- Whatever the bytes, a walker makes something of them where memory suffices.
-use Rattle.std.proofs.Common.{◌≡◌, ◌≢◌, ℕ, zero, suc, ◌+◌, ◌<◌, Bool, true, false, List, [], ◌∷◌, ◌++◌, length, Option, Some, None, Result, Ok, Err, refl, sym, ap, ◌∙◌, subst, inl, inr, arith}
-use Rattle.std.specs.Prelude.{MatchOption, MatchResult, Any, slice_index_or}
-use Rattle.std.proofs.lemmas.Option.{same_Some}
-use Rattle.pldm_message.specs.Headers.{HeaderValue, BeginsWith}
-use Rattle.pldm_message.specs.Pdrs.{PartRequest, Part}
-use Rattle.pdr_repository.specs.Crc.{IsCrc}
-use Rattle.pdr_repository.specs.Records.{handle_in, data_length_in}
-use Rattle.pdr_repository.specs.Parts.{PartAnswer}
-use Rattle.pdr_repository.specs.Faults.{IsLast, IsFlagFor, HasWrongFlag, HasWrongSize, HasWrongCrc, HasWrongHandle, HasDoubledHandle, Room, IsTooMuch, Judges}
-use Rattle.pdr_repository.specs.declared.walk_fault.Step.{Step as WalkStep}
-use Rattle.pdr_repository.specs.declared.walk_fault.WalkFault.{WalkFault}
-use Rattle.pdr_repository.specs.declared.walk_fault.WalkFault.TheVariants.{FailedBefore, NotAsked, Unreadable, RecordChanged, OtherCode, WrongFlag, WrongSize, WrongCrc, WrongHandle, DoubledHandle, TooMuch, OutOfMemory}
-use Rattle.pdr_repository.specs.Walkers.{WalkState, Takes, TakesMessage, TakesOutcome, room_of, state_after, step_after}
-use Rattle.pdr_repository.proofs.AnswersRead.{header_or_none, answer_or_none}
-use Rattle.pdr_repository.proofs.CheckBytes.{crc_or_not}
-use Rattle.pdr_repository.proofs.Deciding.{OrNot, both_or_not, either_or_not, not_or_not, same_or_not, less_or_not, at_most_or_not}
+use Rattle.std.{proofs.Common.{◌≡◌, ◌≢◌, ℕ, zero, suc, ◌+◌, ◌<◌, Bool, true, false, List, [], ◌∷◌, ◌++◌, length, Option, Some, None, Result, Ok, Err, refl, sym, ap, ◌∙◌, subst, inl, inr, arith}, specs.Prelude.{MatchOption, MatchResult, Any, slice_index_or}, proofs.lemmas.Option.{same_Some}}
+use Rattle.pldm_message.{specs.Headers.{HeaderValue, BeginsWith}, specs.Pdrs.{PartRequest, Part}}
+use Rattle.pdr_repository.{specs.Crc.{IsCrc}, specs.Records.{handle_in, data_length_in}, specs.Parts.{PartAnswer}, specs.Faults.{IsLast, IsFlagFor, HasWrongFlag, HasWrongSize, HasWrongCrc, HasWrongHandle, HasDoubledHandle, Room, IsTooMuch, Judges}, specs.declared.walk_fault.Step.{Step as WalkStep}, specs.declared.walk_fault.WalkFault.{WalkFault}, specs.declared.walk_fault.WalkFault.TheVariants.{FailedBefore, NotAsked, Unreadable, RecordChanged, OtherCode, WrongFlag, WrongSize, WrongCrc, WrongHandle, DoubledHandle, TooMuch, OutOfMemory}, specs.Walkers.{WalkState, Takes, TakesMessage, TakesOutcome, room_of, state_after, step_after}, proofs.AnswersRead.{header_or_none, answer_or_none}, proofs.CheckBytes.{crc_or_not}, proofs.Deciding.{OrNot, both_or_not, either_or_not, not_or_not, same_or_not, less_or_not, at_most_or_not}}
 
 -- ---- what can be wrong with a part
 

@@ -1,16 +1,8 @@
 -- A walker that takes an answer.
-use Rattle.std.proofs.Common.{◌≡◌, ◌≢◌, ℕ, true, false, List, [], Option, Some, None, Result, Ok, Err, refl, sym, ap, ◌∙◌, subst, inl, inr}
-use Rattle.std.proofs.lemmas.List.Elements.{All-nil}
-use Rattle.std.proofs.lemmas.Option.{same_Some}
+use Rattle.std.{proofs.Common.{◌≡◌, ◌≢◌, ℕ, true, false, List, [], Option, Some, None, Result, Ok, Err, refl, sym, ap, ◌∙◌, subst, inl, inr}, proofs.lemmas.List.Elements.{All-nil}, proofs.lemmas.Option.{same_Some}}
 use Rattle.mctp_transport.specs.First.{First}
-use Rattle.pldm_message.specs.Headers.{HeaderValue, BeginsWith}
-use Rattle.pldm_message.specs.Pdrs.{PartRequest, Part}
-use Rattle.pdr_repository.specs.Walks.{IsStretch, follows}
-use Rattle.pdr_repository.specs.Faults.{IsLast}
-use Rattle.pdr_repository.specs.declared.walk_fault.Step.{Step as WalkStep}
-use Rattle.pdr_repository.specs.declared.walk_fault.WalkFault.{WalkFault}
-use Rattle.pdr_repository.specs.Walkers.{WalkState, HasTakenIn, fresh, Proceeds, state_after, Ignores, Takes, TakesMessage}
-use Rattle.pdr_repository.specs.declared.walk_fault.WalkFault.TheVariants.{NotAsked}
+use Rattle.pldm_message.{specs.Headers.{HeaderValue, BeginsWith}, specs.Pdrs.{PartRequest, Part}}
+use Rattle.pdr_repository.{specs.Walks.{IsStretch, follows}, specs.Faults.{IsLast}, specs.declared.walk_fault.Step.{Step as WalkStep}, specs.declared.walk_fault.WalkFault.{WalkFault}, specs.Walkers.{WalkState, HasTakenIn, fresh, Proceeds, state_after, Ignores, Takes, TakesMessage}, specs.declared.walk_fault.WalkFault.TheVariants.{NotAsked}}
 
 -- before the first request a walker stands for no exchanges
 pub fresh_stands : (w : WalkState) (count max_records max_bytes : ℕ) → w ≡ fresh count max_records max_bytes → HasTakenIn w []

@@ -1,16 +1,7 @@
 -- What the steps and requests of a walker say.
-use Rattle.std.proofs.Common.{◌≡◌, ◌⊎◌, inl, inr, true, false, ℕ, List, [], ◌∷◌, ◌++◌, Option, Some, None, Result, Ok, Err, option_map, refl, ap, sym, ◌∙◌, subst}
-use Rattle.std.specs.Prelude.{MatchOption, if◌then◌else◌, ◌==◌}
-use Rattle.std.proofs.lemmas.Bool.Decides.{eqb_tells}
-use Rattle.std.proofs.lemmas.List.{append-nil}
+use Rattle.std.{proofs.Common.{◌≡◌, ◌⊎◌, inl, inr, true, false, ℕ, List, [], ◌∷◌, ◌++◌, Option, Some, None, Result, Ok, Err, option_map, refl, ap, sym, ◌∙◌, subst}, specs.Prelude.{MatchOption, if◌then◌else◌, ◌==◌}, proofs.lemmas.Bool.Decides.{eqb_tells}, proofs.lemmas.List.{append-nil}}
 use Rattle.pldm_message.specs.Pdrs.{PartRequest, Part, get_pdr_request_bytes}
-use Rattle.pdr_repository.specs.Parts.{PartAnswer}
-use Rattle.pdr_repository.specs.Walks.{first_part, follows}
-use Rattle.pdr_repository.specs.Faults.{Judges, HasWrongFlag}
-use Rattle.pdr_repository.specs.declared.walk_fault.Step.{Step as WalkStep}
-use Rattle.pdr_repository.specs.declared.walk_fault.Step.TheVariants.{Record, Done}
-use Rattle.pdr_repository.specs.declared.walk_fault.WalkFault.{WalkFault}
-use Rattle.pdr_repository.specs.Walkers.{WalkState, HasTakenIn, Asks, AsksWhatIsDue, asked_under, Proceeds, Fails, TakesOutcome, Takes, TellsStep, Tells, state_after, step_after, room_of}
+use Rattle.pdr_repository.{specs.Parts.{PartAnswer}, specs.Walks.{first_part, follows}, specs.Faults.{Judges, HasWrongFlag}, specs.declared.walk_fault.Step.{Step as WalkStep}, specs.declared.walk_fault.Step.TheVariants.{Record, Done}, specs.declared.walk_fault.WalkFault.{WalkFault}, specs.Walkers.{WalkState, HasTakenIn, Asks, AsksWhatIsDue, asked_under, Proceeds, Fails, TakesOutcome, Takes, TellsStep, Tells, state_after, step_after, room_of}}
 
 -- the flags of a part without a fault
 abbrev Flags : Part → Type 0

@@ -1,23 +1,7 @@
 -- Where a walk stands, and what every walk over a lawful list has collected.
-use Rattle.std.proofs.Common.{◌≡◌, ◌≢◌, ℕ, zero, suc, ◌+◌, ◌*◌, ◌<◌, ◌≤◌, List, [], ◌∷◌, ◌++◌, length, take, drop, get_or, slice_get, Option, Some, None, Ok, refl, sym, ap, ◌∙◌, subst, arith, inl, inr, ◌⊎◌, add-one, zero-add}
-use Rattle.std.specs.Prelude.{AllPairs}
-use Rattle.std.specs.List.{last_or}
-use Rattle.std.specs.Int.{div_ceil}
-use Rattle.std.proofs.lemmas.Option.{same_Some, slice_get_within, slice_get_cases, get_or_from_slice_get}
-use Rattle.std.proofs.lemmas.Bool.{cases_lt}
-use Rattle.std.proofs.lemmas.List.{append-nil, length_push, map-append, length-map, get_or-map, take_more, take_all, take-append-drop}
-use Rattle.std.proofs.lemmas.List.Sums.{sum_by-append}
-use Rattle.std.proofs.lemmas.List.Elements.{All-nil}
-use Rattle.std.proofs.lemmas.Grind.{div_ceil_times}
-use Rattle.std.proofs.Math.Seq.{take-add}
-use Rattle.std.proofs.lemmas.Nat.{mul-le}
-use Rattle.pdr_repository.specs.Records.{Entry, IsLawful, Means, bytes_by_place, handle_in, handle_at}
+use Rattle.std.{proofs.Common.{◌≡◌, ◌≢◌, ℕ, zero, suc, ◌+◌, ◌*◌, ◌<◌, ◌≤◌, List, [], ◌∷◌, ◌++◌, length, take, drop, get_or, slice_get, Option, Some, None, Ok, refl, sym, ap, ◌∙◌, subst, arith, inl, inr, ◌⊎◌, add-one, zero-add}, specs.Prelude.{AllPairs}, specs.List.{last_or}, specs.Int.{div_ceil}, proofs.lemmas.Option.{same_Some, slice_get_within, slice_get_cases, get_or_from_slice_get}, proofs.lemmas.Bool.{cases_lt}, proofs.lemmas.List.{append-nil, length_push, map-append, length-map, get_or-map, take_more, take_all, take-append-drop}, proofs.lemmas.List.Sums.{sum_by-append}, proofs.lemmas.List.Elements.{All-nil}, proofs.lemmas.Grind.{div_ceil_times}, proofs.Math.Seq.{take-add}, proofs.lemmas.Nat.{mul-le}}
+use Rattle.pdr_repository.{specs.Records.{Entry, IsLawful, Means, bytes_by_place, handle_in, handle_at}, specs.Parts.{AnswersPart, IsPartOf}, specs.Walks.{Exchange, first_part, follows, due_by, due_after, Walk, data_of, flag_of, HasFlag, Collects, exchanges, NamesTheNext, EveryWalkCollects}, proofs.Collecting.{Collected, start_more, middle_more, whole_more, end_more}, proofs.Headers.{lawful_header}, proofs.Dues.{IsDue, More, Complete, due_answer, due_means, goes_on, completes, next_is, asks_next, first_due}}
 use Rattle.pldm_message.specs.Pdrs.{PartRequest, Part}
-use Rattle.pdr_repository.specs.Parts.{AnswersPart, IsPartOf}
-use Rattle.pdr_repository.specs.Walks.{Exchange, first_part, follows, due_by, due_after, Walk, data_of, flag_of, HasFlag, Collects, exchanges, NamesTheNext, EveryWalkCollects}
-use Rattle.pdr_repository.proofs.Collecting.{Collected, start_more, middle_more, whole_more, end_more}
-use Rattle.pdr_repository.proofs.Headers.{lawful_header}
-use Rattle.pdr_repository.proofs.Dues.{IsDue, More, Complete, due_answer, due_means, goes_on, completes, next_is, asks_next, first_due}
 
 last_push : {X : Type 0} (o : Option X) (xs : List X) (x : X) → last_or o (xs ++ x ∷ []) ≡ Some x
 last_push o [] x = refl

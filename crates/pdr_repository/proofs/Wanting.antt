@@ -1,13 +1,7 @@
 -- A walker that wants memory.
-use Rattle.std.proofs.Common.{◌≡◌, ◌≢◌, ◌⊎◌, ◌+◌, ◌<◌, ◌≤◌, ℕ, List, length, Some, None, Result, Ok, Err, arith, inl, inr, vec_len, vec_capacity}
-use Rattle.std.specs.Prelude.{OnErr}
+use Rattle.std.{proofs.Common.{◌≡◌, ◌≢◌, ◌⊎◌, ◌+◌, ◌<◌, ◌≤◌, ℕ, List, length, Some, None, Result, Ok, Err, arith, inl, inr, vec_len, vec_capacity}, specs.Prelude.{OnErr}}
 use Rattle.pldm_message.specs.Pdrs.{PartRequest, Part}
-use Rattle.pdr_repository.specs.Faults.{IsLast, Judges, Room}
-use Rattle.pdr_repository.specs.declared.walk_fault.Step.{Step as WalkStep}
-use Rattle.pdr_repository.specs.declared.walk_fault.WalkFault.{WalkFault}
-use Rattle.pdr_repository.specs.declared.walk_fault.WalkFault.TheVariants.{WrongFlag, WrongSize, OutOfMemory}
-use Rattle.pdr_repository.specs.declared.walker.Walker.{Walker}
-use Rattle.pdr_repository.specs.WalkerRooms.{HasRoom, LacksRoom, BringsTooMuch}
+use Rattle.pdr_repository.{specs.Faults.{IsLast, Judges, Room}, specs.declared.walk_fault.Step.{Step as WalkStep}, specs.declared.walk_fault.WalkFault.{WalkFault}, specs.declared.walk_fault.WalkFault.TheVariants.{WrongFlag, WrongSize, OutOfMemory}, specs.declared.walker.Walker.{Walker}, specs.WalkerRooms.{HasRoom, LacksRoom, BringsTooMuch}}
 
 -- the tests of a part find no want of memory
 pub found_otherwise : (room : Room) (records : List (List ℕ)) (before : List ℕ) (r : PartRequest) (p : Part) (f : WalkFault) → Judges room records before r p (Some f) → f ≢ OutOfMemory

@@ -1,16 +1,8 @@
 -- What a terminus answers (DSP0240, section 8; DSP0248, section 26.2).
 use Rattle.std.specs.Prelude.{◌≡◌, ◌≢◌, ℕ, Bool, true, false, List, [], ◌∷◌, ◌++◌, length, drop, Option, Some, None}
 use Rattle.mctp_transport.specs.First.{First}
-use Rattle.pldm_message.specs.declared.kind.MessageKind.TheVariants.{Request, Response}
-use Rattle.pldm_message.specs.declared.command.Command.{Command}
-use Rattle.pldm_message.specs.declared.command.Command.TheVariants.{SetTid, GetTid, GetPldmTypes, GetPdr}
-use Rattle.pldm_message.specs.Commands.{type_of, command_byte}
-use Rattle.pldm_message.specs.Headers.{HeaderValue, BeginsWith, header_bytes}
-use Rattle.pldm_message.specs.Messages.{outcome_bytes}
-use Rattle.pldm_message.specs.BaseCommands.{IsAssignableTid}
-use Rattle.pldm_message.specs.Pdrs.{PartRequest, IsPartRequest, part_request_bytes, part_bytes}
-use Rattle.pdr_repository.specs.Records.{Entry}
-use Rattle.pdr_repository.specs.Parts.{PartAnswer, AnswersPart}
+use Rattle.pldm_message.{specs.declared.kind.MessageKind.TheVariants.{Request, Response}, specs.declared.command.Command.{Command}, specs.declared.command.Command.TheVariants.{SetTid, GetTid, GetPldmTypes, GetPdr}, specs.Commands.{type_of, command_byte}, specs.Headers.{HeaderValue, BeginsWith, header_bytes}, specs.Messages.{outcome_bytes}, specs.BaseCommands.{IsAssignableTid}, specs.Pdrs.{PartRequest, IsPartRequest, part_request_bytes, part_bytes}}
+use Rattle.pdr_repository.{specs.Records.{Entry}, specs.Parts.{PartAnswer, AnswersPart}}
 
 -- the bytes begin with the header of a request that is to be answered: PLDM's message type, header version 0, Rq 1 and
 -- D 0

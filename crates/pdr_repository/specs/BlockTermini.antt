@@ -1,8 +1,6 @@
 -- What a terminus over one block of records stands for.
 use Rattle.std.specs.Prelude.{ℕ, List}
-use Rattle.pdr_repository.specs.declared.block_terminus.BlockTerminus.{BlockTerminus}
-use Rattle.pdr_repository.specs.Records.{Entry}
-use Rattle.pdr_repository.specs.RecordBlocks.{entries_in}
+use Rattle.pdr_repository.{specs.declared.block_terminus.BlockTerminus.{BlockTerminus}, specs.Records.{Entry}, specs.RecordBlocks.{entries_in}}
 
 abbrev pub block_tid : BlockTerminus → ℕ
 block_tid t = t.tid.value

@@ -1,9 +1,7 @@
 -- What a walker asks next, and how much it may collect.
 use Rattle.std.specs.Prelude.{ℕ}
 use Rattle.pldm_message.specs.Pdrs.{PartRequest}
-use Rattle.pdr_repository.specs.Faults.{Room}
-use Rattle.pdr_repository.specs.declared.walker.due.Due.{Due}
-use Rattle.pdr_repository.specs.declared.walker.judging.Limits.{Limits}
+use Rattle.pdr_repository.{specs.Faults.{Room}, specs.declared.walker.due.Due.{Due}, specs.declared.walker.judging.Limits.{Limits}}
 
 abbrev pub request_of : ℕ → Due → PartRequest
 request_of count due =

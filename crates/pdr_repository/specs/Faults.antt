@@ -1,15 +1,8 @@
 -- What can be wrong with a part that a walker is given.
-use Rattle.std.specs.Prelude.{◌≡◌, ◌≢◌, ◌⊎◌, ℕ, ◌+◌, ◌<◌, ◌≤◌, List, ◌++◌, length}
-use Rattle.std.specs.Prelude.{Option, Some, None, MatchOption, Any, codes}
-use Rattle.pdr_repository.specs.Crc.{IsCrc}
+use Rattle.std.specs.Prelude.{◌≡◌, ◌≢◌, ◌⊎◌, ℕ, ◌+◌, ◌<◌, ◌≤◌, List, ◌++◌, length, Option, Some, None, MatchOption, Any, codes}
+use Rattle.pdr_repository.{specs.Crc.{IsCrc}, specs.Records.{handle_in, data_length_in}, specs.declared.walk_fault.WalkFault.{WalkFault}, specs.declared.walk_fault.WalkFault.TheVariants.{FailedBefore, NotAsked, Unreadable, RecordChanged, OtherCode, WrongFlag, WrongSize, WrongCrc, WrongHandle, DoubledHandle, TooMuch, OutOfMemory}}
 use Rattle.mctp_transport.specs.First.{First}
 use Rattle.pldm_message.specs.Pdrs.{PartRequest, Part}
-use Rattle.pdr_repository.specs.Records.{handle_in, data_length_in}
-use Rattle.pdr_repository.specs.declared.walk_fault.WalkFault.{WalkFault}
-use Rattle.pdr_repository.specs.declared.walk_fault.WalkFault.TheVariants.{FailedBefore, NotAsked, Unreadable}
-use Rattle.pdr_repository.specs.declared.walk_fault.WalkFault.TheVariants.{RecordChanged, OtherCode, WrongFlag}
-use Rattle.pdr_repository.specs.declared.walk_fault.WalkFault.TheVariants.{WrongSize, WrongCrc, WrongHandle}
-use Rattle.pdr_repository.specs.declared.walk_fault.WalkFault.TheVariants.{DoubledHandle, TooMuch, OutOfMemory}
 
 -- the part is the record's last
 abbrev pub IsLast : Part → Type 0

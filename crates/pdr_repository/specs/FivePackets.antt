@@ -1,11 +1,8 @@
 -- How many packets an answer with a part is sent in.
 use Rattle.std.specs.Prelude.{◌≡◌, ℕ, ◌<◌, ◌≤◌, List, length, is_some, true, Ok}
-use Rattle.mctp_transport.specs.PacketValues.{PacketValue, KeyValue}
-use Rattle.mctp_transport.specs.Cutting.{ArePacketsOf}
-use Rattle.pldm_message.specs.Messages.{ResponseMessage}
-use Rattle.pldm_message.specs.Pdrs.{PartRequest, Part, get_pdr_answer_bytes}
-use Rattle.pdr_repository.specs.Records.{Entry}
-use Rattle.pdr_repository.specs.Parts.{AnswersPart}
+use Rattle.mctp_transport.{specs.PacketValues.{PacketValue, KeyValue}, specs.Cutting.{ArePacketsOf}}
+use Rattle.pldm_message.{specs.Messages.{ResponseMessage}, specs.Pdrs.{PartRequest, Part, get_pdr_answer_bytes}}
+use Rattle.pdr_repository.{specs.Records.{Entry}, specs.Parts.{AnswersPart}}
 
 -- these are the answer's packets, to some destination
 abbrev pub AreSentFor : ℕ → ResponseMessage Part → List PacketValue → Type 0

@@ -2,8 +2,7 @@
 use Rattle.std.specs.Prelude.{◌≡◌, ℕ, ◌+◌, List, Option, Result, Ok, Err, MatchOption}
 use Rattle.mctp_transport.specs.First.{First}
 use Rattle.pldm_message.specs.Pdrs.{PartRequest}
-use Rattle.pdr_repository.specs.Records.{Entry, IsMeant, Means, handle_at}
-use Rattle.pdr_repository.specs.Parts.{HasChange, IsWithin, offset_of}
+use Rattle.pdr_repository.{specs.Records.{Entry, IsMeant, Means, handle_at}, specs.Parts.{HasChange, IsWithin, offset_of}}
 
 -- the handle means the record of these bytes, after which the one of the handle `next` stands
 abbrev pub IsFound : List Entry → ℕ → ℕ → List ℕ → Type 0

@@ -1,6 +1,5 @@
 -- Handles in ascending order, among which one is found by halving.
-use Rattle.std.specs.Prelude.{◌≡◌, ℕ, ◌<◌, ◌≤◌, List, length, slice_index, Result, MatchResult, ◌==◌}
-use Rattle.std.specs.List.{list_any}
+use Rattle.std.{specs.Prelude.{◌≡◌, ℕ, ◌<◌, ◌≤◌, List, length, slice_index, Result, MatchResult, ◌==◌}, specs.List.{list_any}}
 use Rattle.pdr_repository.specs.Records.{handle_in}
 
 -- the handles are those of the records, each of them and no other

@@ -1,11 +1,6 @@
 -- An index of records by handle.
-use Rattle.std.specs.Prelude.{◌≡◌, ◌≢◌, ℕ, List, map, slice_get, All, Option}
-use Rattle.std.specs.Prelude.{Some, MatchOption, IsTrue, option_map, ◌==◌, Vec}
-use Rattle.std.specs.List.{enumerate_from, list_any}
-use Rattle.std.specs.List.Sorted.{IsSortedByKey}
-use Rattle.std.specs.Ordering.{nat_cmp}
-use Rattle.pdr_repository.specs.declared.handle_index.IndexRow.{IndexRow}
-use Rattle.pdr_repository.specs.Records.{Entry}
+use Rattle.std.{specs.Prelude.{◌≡◌, ◌≢◌, ℕ, List, map, slice_get, All, Option, Some, MatchOption, IsTrue, option_map, ◌==◌, Vec}, specs.List.{enumerate_from, list_any}, specs.List.Sorted.{IsSortedByKey}, specs.Ordering.{nat_cmp}}
+use Rattle.pdr_repository.{specs.declared.handle_index.IndexRow.{IndexRow}, specs.Records.{Entry}}
 
 -- a record of this handle stands at the place
 abbrev pub HasHandleAt : List Entry → ℕ → ℕ → Type 0

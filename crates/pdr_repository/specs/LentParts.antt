@@ -1,6 +1,5 @@
 -- Parts of records that are lent.
-use Rattle.std.specs.Prelude.{◌≡◌, ◌≢◌, ℕ, ◌-◌, ◌<◌, ◌≤◌, min, List, length}
-use Rattle.std.specs.Prelude.{take, drop, slice_get, Option, Some, MatchOption}
+use Rattle.std.specs.Prelude.{◌≡◌, ◌≢◌, ℕ, ◌-◌, ◌<◌, ◌≤◌, min, List, length, take, drop, slice_get, Option, Some, MatchOption}
 use Rattle.pdr_repository.specs.Records.{Entry, IsLawful}
 
 -- the bytes of the record that has a handle, if one has

@@ -1,10 +1,8 @@
 -- Reading a record in parts (DSP0248, GetPDR): requests, and what a terminus answers.
-use Rattle.std.specs.Prelude.{◌≡◌, ◌≢◌, ℕ, ◌+◌, ◌<◌, ◌≤◌, min, List, length, take}
-use Rattle.std.specs.Prelude.{drop, Result, Ok, Err, MatchOption, ◌==◌, if◌then◌else◌}
-use Rattle.pdr_repository.specs.Crc.{IsCrc}
+use Rattle.std.specs.Prelude.{◌≡◌, ◌≢◌, ℕ, ◌+◌, ◌<◌, ◌≤◌, min, List, length, take, drop, Result, Ok, Err, MatchOption, ◌==◌, if◌then◌else◌}
+use Rattle.pdr_repository.{specs.Crc.{IsCrc}, specs.Records.{Entry, IsLawful, IsMeant, Means, change_in, handle_at}}
 use Rattle.mctp_transport.specs.First.{First}
 use Rattle.pldm_message.specs.Pdrs.{PartRequest, Part}
-use Rattle.pdr_repository.specs.Records.{Entry, IsLawful, IsMeant, Means, change_in, handle_at}
 
 -- an answer is a part, or a completion code other than 0
 abbrev pub PartAnswer : Type 0

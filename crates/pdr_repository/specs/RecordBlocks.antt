@@ -1,7 +1,6 @@
 -- Records in one block of bytes.
 use Rattle.std.specs.Prelude.{◌≡◌, ◌≢◌, ℕ, ◌+◌, ◌-◌, ◌^◌, ◌<◌, ◌≤◌, List, map, take, drop, length, slice_get, Some}
-use Rattle.pdr_repository.specs.declared.record_block.Span.{Span}
-use Rattle.pdr_repository.specs.Records.{Entry}
+use Rattle.pdr_repository.{specs.declared.record_block.Span.{Span}, specs.Records.{Entry}}
 
 -- the span is within the block, and a record is shorter than 2 ^ 32 bytes
 pub record IsSpanIn (block : List ℕ) (s : Span) : Type 0 where

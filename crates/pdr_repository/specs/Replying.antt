@@ -1,12 +1,8 @@
 -- An answer as it is made: the command of a request, what is answered to it, and the whole message.
 use Rattle.std.specs.Prelude.{◌≡◌, ◌≢◌, ℕ, List, ◌++◌, length, drop, false, Result, Ok, Err}
 use Rattle.mctp_transport.specs.First.{First}
-use Rattle.pldm_message.specs.declared.kind.MessageKind.TheVariants.{Request}
-use Rattle.pldm_message.specs.declared.command.Command.{Command}
-use Rattle.pldm_message.specs.Headers.{HeaderValue, BeginsWith, header_bytes}
-use Rattle.pldm_message.specs.Messages.{answer_header}
-use Rattle.pdr_repository.specs.Records.{Entry}
-use Rattle.pdr_repository.specs.Answers.{AnswersCode, AnswersData, IsOf, request_length}
+use Rattle.pldm_message.{specs.declared.kind.MessageKind.TheVariants.{Request}, specs.declared.command.Command.{Command}, specs.Headers.{HeaderValue, BeginsWith, header_bytes}, specs.Messages.{answer_header}}
+use Rattle.pdr_repository.{specs.Records.{Entry}, specs.Answers.{AnswersCode, AnswersData, IsOf, request_length}}
 
 -- the command that a request with this header has, or the code that is answered where none is known
 abbrev pub NamesCommand : HeaderValue → Result Command ℕ → Type 0

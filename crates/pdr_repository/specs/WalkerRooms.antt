@@ -1,10 +1,7 @@
 -- The room that a walker's vectors have, and when a part lacks room.
 use Rattle.std.specs.Prelude.{◌≡◌, ◌⊎◌, ◌+◌, ◌<◌, ◌≤◌, ℕ, List, length, Ok, vec_len, vec_capacity}
-use Rattle.pldm_message.specs.Messages.{ResponseMessage}
-use Rattle.pldm_message.specs.Pdrs.{Part}
-use Rattle.pdr_repository.specs.Faults.{IsLast}
-use Rattle.pdr_repository.specs.Walkers.{IsAnswerIn}
-use Rattle.pdr_repository.specs.declared.walker.Walker.{Walker}
+use Rattle.pldm_message.{specs.Messages.{ResponseMessage}, specs.Pdrs.{Part}}
+use Rattle.pdr_repository.{specs.Faults.{IsLast}, specs.Walkers.{IsAnswerIn}, specs.declared.walker.Walker.{Walker}}
 
 -- There is room for a record more, and in the record under way for as many bytes as are asked for.
 abbrev pub HasRoom : Walker → Type 0

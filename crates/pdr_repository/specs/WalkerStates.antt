@@ -1,8 +1,6 @@
 -- What a walker of the code stands for.
 use Rattle.std.specs.Prelude.{map, option_map}
-use Rattle.pdr_repository.specs.Dues.{request_of}
-use Rattle.pdr_repository.specs.Walkers.{WalkState}
-use Rattle.pdr_repository.specs.declared.walker.Walker.{Walker}
+use Rattle.pdr_repository.{specs.Dues.{request_of}, specs.Walkers.{WalkState}, specs.declared.walker.Walker.{Walker}}
 
 abbrev pub state_of : Walker → WalkState
 state_of w = record {

@@ -1,25 +1,8 @@
 -- A walker, which is fed the answers to its requests one by one.
-use Rattle.std.specs.Prelude.{◌≡◌, ◌≢◌, ◌⊎◌, ℕ, ◌+◌, ◌<◌, Bool, true, false, List, [], ◌∷◌}
-use Rattle.std.specs.Prelude.{◌++◌, length, sum_by, Option, Some, None, option_map, Result}
-use Rattle.std.specs.Prelude.{Ok, Err, MatchOption, MatchResult, ◌==◌, if◌then◌else◌}
-use Rattle.mctp_transport.specs.Wire.{Spells}
-use Rattle.mctp_transport.specs.First.{First}
-use Rattle.pldm_message.specs.declared.kind.RequestKind.TheVariants.{Request}
-use Rattle.pldm_message.specs.Headers.{HeaderValue, BeginsWith}
-use Rattle.pldm_message.specs.Messages.{RequestMessage, ResponseMessage, ResponseHeadValue}
-use Rattle.pldm_message.specs.Pdrs.{PartRequest, IsPartRequest, Part, IsGetPdrResponse}
-use Rattle.pldm_message.specs.Pdrs.{get_pdr_request_bytes, get_pdr_answer_bytes}
-use Rattle.pdr_repository.specs.Records.{Entry, IsLawful, bytes_by_place}
-use Rattle.pdr_repository.specs.Parts.{PartAnswer, AnswersPart}
-use Rattle.pdr_repository.specs.Answers.{Answers}
-use Rattle.pdr_repository.specs.Walks.{Exchange, Walk, Collects, IsBeginning, exchanges, follows, due_after}
-use Rattle.pdr_repository.specs.Faults.{Judges, Room}
-use Rattle.pdr_repository.specs.declared.walk_fault.Step.{Step as WalkStep}
-use Rattle.pdr_repository.specs.declared.walk_fault.Step.TheVariants.{More, Record, Done}
-use Rattle.pdr_repository.specs.declared.walk_fault.WalkFault.{WalkFault}
-use Rattle.pdr_repository.specs.declared.walk_fault.WalkFault.TheVariants.{FailedBefore, NotAsked}
-use Rattle.pdr_repository.specs.declared.walk_fault.WalkFault.TheVariants.{Unreadable, RecordChanged}
-use Rattle.pdr_repository.specs.declared.walk_fault.WalkFault.TheVariants.{OtherCode, TooMuch, OutOfMemory}
+use Rattle.std.specs.Prelude.{◌≡◌, ◌≢◌, ◌⊎◌, ℕ, ◌+◌, ◌<◌, Bool, true, false, List, [], ◌∷◌, ◌++◌, length, sum_by, Option, Some, None, option_map, Result, Ok, Err, MatchOption, MatchResult, ◌==◌, if◌then◌else◌}
+use Rattle.mctp_transport.{specs.Wire.{Spells}, specs.First.{First}}
+use Rattle.pldm_message.{specs.declared.kind.RequestKind.TheVariants.{Request}, specs.Headers.{HeaderValue, BeginsWith}, specs.Messages.{RequestMessage, ResponseMessage, ResponseHeadValue}, specs.Pdrs.{PartRequest, IsPartRequest, Part, IsGetPdrResponse, get_pdr_request_bytes, get_pdr_answer_bytes}}
+use Rattle.pdr_repository.{specs.Records.{Entry, IsLawful, bytes_by_place}, specs.Parts.{PartAnswer, AnswersPart}, specs.Answers.{Answers}, specs.Walks.{Exchange, Walk, Collects, IsBeginning, exchanges, follows, due_after}, specs.Faults.{Judges, Room}, specs.declared.walk_fault.Step.{Step as WalkStep}, specs.declared.walk_fault.Step.TheVariants.{More, Record, Done}, specs.declared.walk_fault.WalkFault.{WalkFault}, specs.declared.walk_fault.WalkFault.TheVariants.{FailedBefore, NotAsked, Unreadable, RecordChanged, OtherCode, TooMuch, OutOfMemory}}
 
 -- What a walker holds: its limits, the records that it has collected, the data of the record under way, the request
 -- that is due (none once it is done), the instance ID under which that request is outstanding, whether it has

@@ -1,11 +1,7 @@
 -- A walk through the records of a terminus: each record read part by part, then the one that its last answer names.
-use Rattle.std.specs.Prelude.{◌≡◌, ◌≢◌, ◌⊎◌, ◌↔◌, ℕ, ◌+◌, ◌≤◌, List, [], ◌∷◌, ◌++◌, length, map, take, slice_get}
-use Rattle.std.specs.Prelude.{Option, Some, None, Ok, Err, ◌==◌, if◌then◌else◌, All, AllPairs, sum_by}
-use Rattle.std.specs.List.{flat_map, last_or}
-use Rattle.std.specs.Int.{div_ceil}
-use Rattle.pdr_repository.specs.Records.{Entry, IsLawful, Means, bytes_by_place, change_in, handle_in, handle_at}
+use Rattle.std.{specs.Prelude.{◌≡◌, ◌≢◌, ◌⊎◌, ◌↔◌, ℕ, ◌+◌, ◌≤◌, List, [], ◌∷◌, ◌++◌, length, map, take, slice_get, Option, Some, None, Ok, Err, ◌==◌, if◌then◌else◌, All, AllPairs, sum_by}, specs.List.{flat_map, last_or}, specs.Int.{div_ceil}}
+use Rattle.pdr_repository.{specs.Records.{Entry, IsLawful, Means, bytes_by_place, change_in, handle_in, handle_at}, specs.Parts.{PartAnswer, AnswersPart}}
 use Rattle.pldm_message.specs.Pdrs.{PartRequest, Part}
-use Rattle.pdr_repository.specs.Parts.{PartAnswer, AnswersPart}
 
 -- a request and its answer
 pub record Exchange : Type 0 where

@@ -1,12 +1,8 @@
 //! What all termini do with a request (DSP0240, PLDM message fields).
 ghost use Rattle.std.specs.Prelude.{◌≡◌, ◌≤◌, [], length, false, MatchOption};
-ghost use Rattle.pldm_message.specs.declared.command.Command.{Command};
+ghost use Rattle.pldm_message.{specs.declared.command.Command.{Command}, specs.Headers.{BeginsWith}, specs.HeaderValues.{header_value}, specs.Heads.{outcome_value}};
+ghost use Rattle.pdr_repository.{specs.Answers.{Answers, IsAsked, IsOf, answer_of}, specs.Replying.{IsAskedFor, NamesCommand, Replies}};
 ghost use Rattle.pldm_message.specs.declared.kind.MessageKind.TheVariants as kind;
-ghost use Rattle.pldm_message.specs.Headers.{BeginsWith};
-ghost use Rattle.pldm_message.specs.HeaderValues.{header_value};
-ghost use Rattle.pldm_message.specs.Heads.{outcome_value};
-ghost use Rattle.pdr_repository.specs.Answers.{Answers, IsAsked, IsOf, answer_of};
-ghost use Rattle.pdr_repository.specs.Replying.{IsAskedFor, NamesCommand, Replies};
 
 use crate::commands::{get_pdr, get_pldm_types, get_tid, set_tid};
 use crate::repository::Repository;

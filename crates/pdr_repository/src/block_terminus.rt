@@ -1,7 +1,6 @@
 //! A terminus over one block of records.
 ghost use Rattle.std.specs.Prelude.{◌≡◌, ◌≤◌, length, IfOk, None, option_map};
-ghost use Rattle.pdr_repository.specs.Records.{entries, IsLawful};
-ghost use Rattle.pdr_repository.specs.LentParts.{LendsPart};
+ghost use Rattle.pdr_repository.{specs.Records.{entries, IsLawful}, specs.LentParts.{LendsPart}};
 
 use crate::answering::answer_request;
 use crate::lawful_list::MAX_RECORDS;

@@ -1,15 +1,8 @@
 //! What a terminus does with each command (DSP0240, SetTID, GetTID and GetPLDMTypes; DSP0248, section 26.2).
 ghost use Rattle.std.specs.Prelude.{◌≡◌, ◌≤◌, ℕ, List, IfOk, length, option_map};
+ghost use Rattle.pldm_message.{specs.BaseCommands.{nothing, one_byte, type_bits}, specs.Heads.{outcome_value}, specs.Messages.{outcome_bytes}, specs.Pdrs.{part_bytes}, specs.PdrValues.{part, part_request}};
+ghost use Rattle.pdr_repository.{specs.Records.{Entry}, specs.Found.{Finds}, specs.Parts.{AnswersPart}, specs.Replying.{CarriesOut, IsAskedFor}};
 ghost use Rattle.pldm_message.specs.declared.command.Command.TheVariants as command;
-ghost use Rattle.pldm_message.specs.BaseCommands.{nothing, one_byte, type_bits};
-ghost use Rattle.pldm_message.specs.Heads.{outcome_value};
-ghost use Rattle.pldm_message.specs.Messages.{outcome_bytes};
-ghost use Rattle.pldm_message.specs.Pdrs.{part_bytes};
-ghost use Rattle.pldm_message.specs.PdrValues.{part, part_request};
-ghost use Rattle.pdr_repository.specs.Records.{Entry};
-ghost use Rattle.pdr_repository.specs.Found.{Finds};
-ghost use Rattle.pdr_repository.specs.Parts.{AnswersPart};
-ghost use Rattle.pdr_repository.specs.Replying.{CarriesOut, IsAskedFor};
 
 use crate::parts::Found;
 use crate::repository::Repository;

@@ -1,7 +1,6 @@
 //! An index of records by handle.
 ghost use Rattle.std.specs.Prelude.{◌≡◌, List, IfOk};
-ghost use Rattle.pdr_repository.specs.Records.{Entry, Places, entries};
-ghost use Rattle.pdr_repository.specs.Indexes.{IsIndexOf, Locates, rows_of};
+ghost use Rattle.pdr_repository.{specs.Records.{Entry, Places, entries}, specs.Indexes.{IsIndexOf, Locates, rows_of}};
 
 use std::alloc::{AllocError, Global};
 

@@ -1,7 +1,5 @@
 //! Whether a terminus can be made over a list of records.
-ghost use Rattle.std.specs.Prelude.{◌≡◌, ◌≢◌, ◌<◌, ◌≤◌, ◌↔◌, ◌∷◌, ℕ, IsTrue, length, map};
-ghost use Rattle.std.specs.List.{All, AllPairs};
-ghost use Rattle.std.specs.List.Sorted.{IsStrictlyIncreasing};
+ghost use Rattle.std.{specs.Prelude.{◌≡◌, ◌≢◌, ◌<◌, ◌≤◌, ◌↔◌, ◌∷◌, ℕ, IsTrue, length, map}, specs.List.{All, AllPairs}, specs.List.Sorted.{IsStrictlyIncreasing}};
 ghost use Rattle.pdr_repository.specs.Records.{IsRecordOf, IsLawful, IsLawfulAt, entries};
 
 use arrayvec::ArrayVec;

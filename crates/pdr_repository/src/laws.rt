@@ -1,10 +1,6 @@
 //! Laws of the definitions. The functions do nothing: their contracts are the laws.
 ghost use Rattle.std.specs.Prelude.{◌≡◌, ℕ, List};
-ghost use Rattle.pdr_repository.specs.Crc.{IsCrc};
-ghost use Rattle.pdr_repository.specs.Parts.{OneAnswer};
-ghost use Rattle.pdr_repository.specs.LentParts.{OneLentPart};
-ghost use Rattle.pdr_repository.specs.Walks.{CollectsOnce, EveryWalkCollects};
-ghost use Rattle.pdr_repository.specs.Walkers.{EveryRequestIsAnswered};
+ghost use Rattle.pdr_repository.{specs.Crc.{IsCrc}, specs.Parts.{OneAnswer}, specs.LentParts.{OneLentPart}, specs.Walks.{CollectsOnce, EveryWalkCollects}, specs.Walkers.{EveryRequestIsAnswered}};
 
 /// A list of bytes has one check byte only.
 pub fn one_check_byte()

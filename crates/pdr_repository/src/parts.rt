@@ -1,11 +1,7 @@
 //! Parts of a record, as a terminus gives them (DSP0248, section 26.2).
 ghost use Rattle.std.specs.Prelude.{◌≡◌, ◌+◌, ◌-◌, ◌*◌, ◌<◌, ◌≤◌, ◌^◌, min, length, take, drop, IfOk};
-ghost use Rattle.pldm_message.specs.PdrValues.{part, part_request};
-ghost use Rattle.pldm_message.specs.Heads.{outcome_value};
-ghost use Rattle.pdr_repository.specs.Records.{change_in};
-ghost use Rattle.pdr_repository.specs.Parts.{AnswersFrom, IsPartOf, IsWithin, offset_of};
-ghost use Rattle.pdr_repository.specs.Found.{BeginsAt};
-ghost use Rattle.pdr_repository.specs.FivePackets.{FitFive, PassFive};
+ghost use Rattle.pldm_message.{specs.PdrValues.{part, part_request}, specs.Heads.{outcome_value}};
+ghost use Rattle.pdr_repository.{specs.Records.{change_in}, specs.Parts.{AnswersFrom, IsPartOf, IsWithin, offset_of}, specs.Found.{BeginsAt}, specs.FivePackets.{FitFive, PassFive}};
 
 use crate::crc::crc8;
 use pldm_message::{CompletionCode, GetPdrRequest, PdrPart, TransferFlag, TransferOperation};

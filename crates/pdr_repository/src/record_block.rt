@@ -1,9 +1,6 @@
 //! Records in one block of bytes, with an index.
 ghost use Rattle.std.specs.Prelude.{◌≡◌, ◌≤◌, ◌<◌, ◌+◌, ◌^◌, ◌++◌, All, IfOk, length, option_map, sum_by, vec_capacity, vec_len};
-ghost use Rattle.pdr_repository.specs.Records.{entries, IsLawful};
-ghost use Rattle.pdr_repository.specs.Indexes.{IsIndexOf};
-ghost use Rattle.pdr_repository.specs.RecordBlocks.{HaveHandles, IsSpanIn, entries_in};
-ghost use Rattle.pdr_repository.specs.LentParts.{HoldsRecord};
+ghost use Rattle.pdr_repository.{specs.Records.{entries, IsLawful}, specs.Indexes.{IsIndexOf}, specs.RecordBlocks.{HaveHandles, IsSpanIn, entries_in}, specs.LentParts.{HoldsRecord}};
 
 use crate::handle_index::HandleIndex;
 use crate::lawful_list::MAX_RECORDS;

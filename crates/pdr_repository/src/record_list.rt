@@ -1,7 +1,6 @@
 //! Records in a plain list, with an index.
 ghost use Rattle.std.specs.Prelude.{◌≡◌, ◌<◌, ◌^◌, All, IfOk, length};
-ghost use Rattle.pdr_repository.specs.Records.{entries, IsLawful};
-ghost use Rattle.pdr_repository.specs.Indexes.{IsIndexOf};
+ghost use Rattle.pdr_repository.{specs.Records.{entries, IsLawful}, specs.Indexes.{IsIndexOf}};
 
 use crate::handle_index::HandleIndex;
 use crate::repository::Repository;

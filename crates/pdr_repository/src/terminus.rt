@@ -1,7 +1,6 @@
 //! What answers PLDM requests for its records (DSP0248, section 26.2).
 ghost use Rattle.std.specs.Prelude.{◌≡◌, ℕ, List, [], false};
-ghost use Rattle.pdr_repository.specs.Records.{Entry};
-ghost use Rattle.pdr_repository.specs.Answers.{Answers, answer_of};
+ghost use Rattle.pdr_repository.{specs.Records.{Entry}, specs.Answers.{Answers, answer_of}};
 
 use arrayvec::ArrayVec;
 

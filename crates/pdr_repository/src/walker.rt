@@ -55,15 +55,8 @@ pub struct Walker {
 
 impl Walker {
     ghost use Rattle.std.specs.Prelude.{◌↔◌, List, IsTrue, IfOk, OnOk, OnErr, Ok, None, [], option_map, vec_len, vec_capacity};
-    ghost use Rattle.pldm_message.specs.PdrValues.{part};
-    ghost use Rattle.pldm_message.specs.Pdrs.{Part};
-    ghost use Rattle.pldm_message.specs.Heads.{outcome_value};
-    ghost use Rattle.pdr_repository.specs.Walks.{Exchange, Collects, first_part};
-    ghost use Rattle.pdr_repository.specs.Faults.{Judges};
-    ghost use Rattle.pdr_repository.specs.Dues.{request_of};
-    ghost use Rattle.pdr_repository.specs.Walkers.{room_of, fresh, HasTakenIn, Asks, AsksWhatIsDue, Fails, Proceeds, TakesOutcome, TakesMessage, Takes, Tells, TakesDueAnswer};
-    ghost use Rattle.pdr_repository.specs.WalkerStates.{state_of};
-    ghost use Rattle.pdr_repository.specs.WalkerRooms.{HasRoom, LacksRoom, BringsTooMuch};
+    ghost use Rattle.pldm_message.{specs.PdrValues.{part}, specs.Pdrs.{Part}, specs.Heads.{outcome_value}};
+    ghost use Rattle.pdr_repository.{specs.Walks.{Exchange, Collects, first_part}, specs.Faults.{Judges}, specs.Dues.{request_of}, specs.Walkers.{room_of, fresh, HasTakenIn, Asks, AsksWhatIsDue, Fails, Proceeds, TakesOutcome, TakesMessage, Takes, Tells, TakesDueAnswer}, specs.WalkerStates.{state_of}, specs.WalkerRooms.{HasRoom, LacksRoom, BringsTooMuch}};
 
     /// A walk that has not begun, with parts of at most `count` bytes, 8 to 4079. It collects at most `max_records`
     /// records and `max_bytes` bytes, which is below `usize::MAX`.

@@ -1,22 +1,7 @@
 -- What stands at the front of a text: spaces, strings and numbers.
-use Rattle.std.proofs.Common.{◌≡◌, ℕ, suc, zero, ◌+◌, ◌-◌, ◌*◌, ◌<◌, ◌≤◌, Bool, true, false, not, cond, ◌&&◌, ◌==◌, nat_lt, List, [], ◌∷◌, ◌++◌, length, take, drop, get_or, Some, ◌⊎◌, inl, inr, refl, sym, ap, ap₂, ◌∙◌, subst, arith, length-append, add-zero, zero-add}
-use Rattle.std.proofs.lemmas.Bool.{and_parts, or_cases, not-true, eqb-true, ne_eqb, leb-true, ltb-true, le-ltb}
-use Rattle.std.proofs.lemmas.List.{take_all, drop_all, take-append-drop}
-use Rattle.std.proofs.lemmas.Str.{IsUtf8-from_ascii, digit_value_digit}
-use Rattle.std.proofs.lemmas.Fmt.{IsAscii-from_digits}
-use Rattle.std.proofs.Math.Seq.{take-append_seam}
-use Rattle.std.specs.List.{list_all, prefix_len}
-use Rattle.std.specs.Char.{is_ascii_digit, digit_value}
-use Rattle.std.specs.Str.{IsAscii, IsUtf8}
-use Rattle.std.specs.Str.Parse.{AllDigits, digits_value_after}
-use Rattle.json.specs.Token.{string, number, boolean, null, bad}
-use Rattle.json.specs.Text.{content, plain}
-use Rattle.json.specs.Word.{is_operator, is_space, ends_word, after_number, word}
-use Rattle.json.specs.Lex.{Lexeme, token, Mode, between, in_string, operator, space, other, lex_byte, lex, begins_colon}
-use Rattle.json.specs.Print.{IsNumber}
-use Rattle.json.proofs.Printed.Numbers.{lex-number, in_word-ended}
-use Rattle.plain_json.specs.declared.bytes.TheConstants.{PLAIN}
-use Rattle.plain_json.specs.Plain.{is_plain, IsEnd, DigitsFollow, IsNumberAt}
+use Rattle.std.{proofs.Common.{◌≡◌, ℕ, suc, zero, ◌+◌, ◌-◌, ◌*◌, ◌<◌, ◌≤◌, Bool, true, false, not, cond, ◌&&◌, ◌==◌, nat_lt, List, [], ◌∷◌, ◌++◌, length, take, drop, get_or, Some, ◌⊎◌, inl, inr, refl, sym, ap, ap₂, ◌∙◌, subst, arith, length-append, add-zero, zero-add}, proofs.lemmas.Bool.{and_parts, or_cases, not-true, eqb-true, ne_eqb, leb-true, ltb-true, le-ltb}, proofs.lemmas.List.{take_all, drop_all, take-append-drop}, proofs.lemmas.Str.{IsUtf8-from_ascii, digit_value_digit}, proofs.lemmas.Fmt.{IsAscii-from_digits}, proofs.Math.Seq.{take-append_seam}, specs.List.{list_all, prefix_len}, specs.Char.{is_ascii_digit, digit_value}, specs.Str.{IsAscii, IsUtf8}, specs.Str.Parse.{AllDigits, digits_value_after}}
+use Rattle.json.{specs.Token.{string, number, boolean, null, bad}, specs.Text.{content, plain}, specs.Word.{is_operator, is_space, ends_word, after_number, word}, specs.Lex.{Lexeme, token, Mode, between, in_string, operator, space, other, lex_byte, lex, begins_colon}, specs.Print.{IsNumber}, proofs.Printed.Numbers.{lex-number, in_word-ended}}
+use Rattle.plain_json.{specs.declared.bytes.TheConstants.{PLAIN}, specs.Plain.{is_plain, IsEnd, DigitsFollow, IsNumberAt}}
 
 -- the first element, and the others as a pattern of a slice has them
 pub parted : (l : List ℕ) → 1 ≤ length l → l ≡ get_or l 0 0 ∷ take (length l - 1) (drop 1 l)

@@ -1,12 +1,8 @@
 -- The first token of a text, by the first lexeme.
 use Rattle.std.proofs.Common.{◌≡◌, ◌<◌, ℕ, Bool, true, false, List, [], ◌∷◌, length, Option, Some, None, refl, sym, ap, ◌∙◌, subst}
-use Rattle.json.specs.Token.{Token, begin_object, end_object, begin_array, end_array, key, string, number, boolean, null}
-use Rattle.json.specs.Json.{Json, value, after_end_array}
-use Rattle.json.specs.Lex.{token, colon, lex, between, Place, fresh, after_value, after_comma, after_key, begins_colon, may_begin, if_allowed, place_token, punctuate}
-use Rattle.json.proofs.Grammar.{left, skip_value-shorter, value_is}
-use Rattle.plain_json.specs.Plain.{IsNumberAt, IsNextNumber, BeginAt, tokens_at}
+use Rattle.json.{specs.Token.{Token, begin_object, end_object, begin_array, end_array, key, string, number, boolean, null}, specs.Json.{Json, value, after_end_array}, specs.Lex.{token, colon, lex, between, Place, fresh, after_value, after_comma, after_key, begins_colon, may_begin, if_allowed, place_token, punctuate}, proofs.Grammar.{left, skip_value-shorter, value_is}}
+use Rattle.plain_json.{specs.Plain.{IsNumberAt, IsNextNumber, BeginAt, tokens_at}, specs.declared.reader.Place.TheVariants.{Fresh, AfterValue}}
 use Rattle.plain_json.specs.declared.reader.Place as reader
-use Rattle.plain_json.specs.declared.reader.Place.TheVariants.{Fresh, AfterValue}
 
 allowed : (b : Bool) (t : Token) (k : Place → List Token) (next : Place) → b ≡ true → if_allowed b t k next ≡ t ∷ k next
 allowed b t k next e = ap (λ x. if_allowed x t k next) e

@@ -1,13 +1,8 @@
 -- Texts in which nothing is unusual.
-use Rattle.std.specs.Prelude.{◌≡◌, ◌⊎◌, ℕ, List, ◌∷◌, ◌++◌, Bool, true, not, ◌&&◌, ◌==◌, nat_lt, nat_le}
-use Rattle.std.specs.List.{list_all}
-use Rattle.std.specs.Char.{is_ascii_digit}
-use Rattle.std.specs.Str.Parse.{IsNumeral, digits_value_after, digits_value}
-use Rattle.json.specs.Token.{Token, number}
-use Rattle.json.specs.Lex.{token, lex, between, fresh, after_value, may_begin, punctuate}
+use Rattle.std.{specs.Prelude.{◌≡◌, ◌⊎◌, ℕ, List, ◌∷◌, ◌++◌, Bool, true, not, ◌&&◌, ◌==◌, nat_lt, nat_le}, specs.List.{list_all}, specs.Char.{is_ascii_digit}, specs.Str.Parse.{IsNumeral, digits_value_after, digits_value}}
+use Rattle.json.{specs.Token.{Token, number}, specs.Lex.{token, lex, between, fresh, after_value, may_begin, punctuate}}
+use Rattle.plain_json.{specs.declared.reader.Place.{Place}, specs.declared.reader.Place.TheVariants.{Fresh, AfterValue}}
 use Rattle.json.specs.Lex as spec
-use Rattle.plain_json.specs.declared.reader.Place.{Place}
-use Rattle.plain_json.specs.declared.reader.Place.TheVariants.{Fresh, AfterValue}
 
 -- a byte of ASCII that stands for itself in a string
 abbrev pub is_plain : ℕ → Bool

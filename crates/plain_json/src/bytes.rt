@@ -1,10 +1,6 @@
 //! Spaces, words, strings and numbers at the front of a text.
-ghost use Rattle.std.specs.Prelude.{◌≡◌, [], ◌∷◌, ◌<◌, ◌≤◌, length, slice_index, take, true, false, IfSome, MatchOption, IsTrue};
-ghost use Rattle.std.specs.List.{list_all};
-ghost use Rattle.std.specs.Char.{is_ascii_digit, digit_value};
-ghost use Rattle.json.specs.Token.{string, number, boolean, null};
-ghost use Rattle.json.specs.Word.{is_space, ends_word};
-ghost use Rattle.json.specs.Lex.{token, lex, between, begins_colon};
+ghost use Rattle.std.{specs.Prelude.{◌≡◌, [], ◌∷◌, ◌<◌, ◌≤◌, length, slice_index, take, true, false, IfSome, MatchOption, IsTrue}, specs.List.{list_all}, specs.Char.{is_ascii_digit, digit_value}};
+ghost use Rattle.json.{specs.Token.{string, number, boolean, null}, specs.Word.{is_space, ends_word}, specs.Lex.{token, lex, between, begins_colon}};
 ghost use Rattle.plain_json.specs.Plain.{is_plain, IsEnd, DigitsFollow, IsNumberAt};
 
 /// The first byte, and what follows it.

@@ -1,8 +1,6 @@
 //! A reader of tokens.
 ghost use Rattle.std.specs.Prelude.{◌≡◌, [], ◌∷◌, false, Some, IfSome, IsTrue, option_map};
-ghost use Rattle.json.specs.Json.{read_key, after_end_array};
-ghost use Rattle.json.specs.Lex.{tokens};
-ghost use Rattle.json.specs.Token.{begin_object, end_object, begin_array, string, number, boolean, null};
+ghost use Rattle.json.{specs.Json.{read_key, after_end_array}, specs.Lex.{tokens}, specs.Token.{begin_object, end_object, begin_array, string, number, boolean, null}};
 ghost use Rattle.plain_json.specs.Plain.{BeginAt, IsNextNumber, tokens_at};
 
 use crate::bytes::{

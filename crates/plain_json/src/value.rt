@@ -1,7 +1,6 @@
 //! Values as trees.
 ghost use Rattle.std.specs.Prelude.{◌≡◌, Some, IfSome, length};
-ghost use Rattle.json.specs.Json.{value, items, members};
-ghost use Rattle.json.specs.Value.{value_view, items_view, members_view};
+ghost use Rattle.json.{specs.Json.{value, items, members}, specs.Value.{value_view, items_view, members_view}};
 
 use crate::reader::PlainReader;
 use json::Value;

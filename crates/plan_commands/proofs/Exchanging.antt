@@ -1,28 +1,9 @@
 -- Exchanges of a walk over a terminus, and what a finished walk has collected.
-use Rattle.std.proofs.Common.{◌≡◌, ◌≢◌, ◌⊎◌, inl, inr, ℕ, ◌+◌, ◌-◌, ◌<◌, ◌≤◌, Bool, true, false, List, [], ◌∷◌, ◌++◌, length, take, drop, get_or, slice_get, Option, Some, None, Result, Ok, Err, refl, ap, sym, ◌∙◌, subst, arith}
-use Rattle.std.specs.Prelude.{MatchOption, MatchResult, sum_by}
-use Rattle.std.proofs.lemmas.Option.{same_Some, slice_get_within, get_or_from_slice_get}
-use Rattle.std.proofs.lemmas.List.{length-map, length-take, length-drop, length_push, get_or-map, take-map}
-use Rattle.std.proofs.lemmas.List.Sums.{sum_by_more_le}
-use Rattle.pldm_message.specs.Messages.{ResponseMessage}
-use Rattle.pldm_message.specs.Pdrs.{PartRequest, IsPartRequest, Part, get_pdr_request_bytes}
-use Rattle.pldm_message.specs.PdrLaws.{one_get_pdr_answer}
-use Rattle.pdr_repository.specs.Records.{Entry, IsLawful, bytes_by_place}
-use Rattle.pdr_repository.specs.Parts.{PartAnswer, AnswersPart}
-use Rattle.pdr_repository.specs.Answers.{Answers, answer_of}
-use Rattle.pdr_repository.specs.Walks.{Exchange, Walk, IsFinished, exchanges, due_after}
-use Rattle.pdr_repository.specs.Faults.{Room, Judges, IsTooMuch}
-use Rattle.pdr_repository.specs.declared.walk_fault.Step.{Step as WalkStep}
-use Rattle.pdr_repository.specs.declared.walk_fault.Step.TheVariants.{Done}
-use Rattle.pdr_repository.specs.declared.walk_fault.WalkFault.{WalkFault}
+use Rattle.std.{proofs.Common.{◌≡◌, ◌≢◌, ◌⊎◌, inl, inr, ℕ, ◌+◌, ◌-◌, ◌<◌, ◌≤◌, Bool, true, false, List, [], ◌∷◌, ◌++◌, length, take, drop, get_or, slice_get, Option, Some, None, Result, Ok, Err, refl, ap, sym, ◌∙◌, subst, arith}, specs.Prelude.{MatchOption, MatchResult, sum_by}, proofs.lemmas.Option.{same_Some, slice_get_within, get_or_from_slice_get}, proofs.lemmas.List.{length-map, length-take, length-drop, length_push, get_or-map, take-map}, proofs.lemmas.List.Sums.{sum_by_more_le}}
+use Rattle.pldm_message.{specs.Messages.{ResponseMessage}, specs.Pdrs.{PartRequest, IsPartRequest, Part, get_pdr_request_bytes}, specs.PdrLaws.{one_get_pdr_answer}}
+use Rattle.pdr_repository.{specs.Records.{Entry, IsLawful, bytes_by_place}, specs.Parts.{PartAnswer, AnswersPart}, specs.Answers.{Answers, answer_of}, specs.Walks.{Exchange, Walk, IsFinished, exchanges, due_after}, specs.Faults.{Room, Judges, IsTooMuch}, specs.declared.walk_fault.Step.{Step as WalkStep}, specs.declared.walk_fault.Step.TheVariants.{Done}, specs.declared.walk_fault.WalkFault.{WalkFault}, specs.Walkers.{WalkState, Asks, asked_under, Fails, Proceeds, state_after, room_of, Takes, TakesOutcome, IsAnswerIn, IsDueAnswer, WalksOn, TakesDueAnswer, Tells, AnswersWalker}, proofs.Collecting.{collects_once}, proofs.Meeting.{requests_are_answered}, proofs.Dues.{More, Complete}, proofs.Walks.{stands, one_step, every_walk_collects}}
+use Rattle.plan_commands.{specs.Walking.{bytes_of}, specs.Collecting.{IsUnderWay, IsFurther, HasCollected}}
 use Rattle.pdr_repository.specs.declared.walk_fault.WalkFault.TheVariants as fault
-use Rattle.pdr_repository.specs.Walkers.{WalkState, Asks, asked_under, Fails, Proceeds, state_after, room_of, Takes, TakesOutcome, IsAnswerIn, IsDueAnswer, WalksOn, TakesDueAnswer, Tells, AnswersWalker}
-use Rattle.pdr_repository.proofs.Collecting.{collects_once}
-use Rattle.pdr_repository.proofs.Meeting.{requests_are_answered}
-use Rattle.pdr_repository.proofs.Dues.{More, Complete}
-use Rattle.pdr_repository.proofs.Walks.{stands, one_step, every_walk_collects}
-use Rattle.plan_commands.specs.Walking.{bytes_of}
-use Rattle.plan_commands.specs.Collecting.{IsUnderWay, IsFurther, HasCollected}
 
 -- the answer that was written
 answered_bytes : (said : Bool) (out bytes : List ℕ) → answer_of said out ≡ Some bytes → out ≡ bytes

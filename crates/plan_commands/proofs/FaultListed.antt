@@ -1,26 +1,14 @@
 -- What is told of all faults, and of the first.
-use Rattle.std.proofs.Common.{◌≡◌, ◌≢◌, ℕ, List, [], Some, Result, Ok, Err, Bor, None, refl, ap, subst, arith, inl, inr}
-use Rattle.std.specs.Prelude.{IfOk, Contains, option_map}
-use Rattle.std.specs.Cow.{cow_str_bytes}
-use Rattle.plan_values.specs.declared.plan.Plan.{Plan}
-use Rattle.plan_values.specs.declared.certificate.Certificate.{Certificate}
-use Rattle.net_rules.specs.Certificates.{NamesObstacle, RulesOutCertificates}
-use Rattle.net_rules.specs.declared.certify_error.CertifyError.{CertifyError}
-use Rattle.net_rules.specs.declared.fault.Fault.{Fault}
-use Rattle.net_rules.specs.declared.fault_run.FaultRun.{FaultRun}
-use Rattle.net_rules.specs.FaultLists.{AreFaults}
-use Rattle.net_rules.specs.Faults.{IsFirstFault, site_of}
-use Rattle.command_answers.specs.declared.answer.Answer.{Answer}
+use Rattle.std.{proofs.Common.{◌≡◌, ◌≢◌, ℕ, List, [], Some, Result, Ok, Err, Bor, None, refl, ap, subst, arith, inl, inr}, specs.Prelude.{IfOk, Contains, option_map}, specs.Cow.{cow_str_bytes}}
+use Rattle.plan_values.{specs.declared.plan.Plan.{Plan}, specs.declared.certificate.Certificate.{Certificate}}
+use Rattle.net_rules.{specs.Certificates.{NamesObstacle, RulesOutCertificates}, specs.declared.certify_error.CertifyError.{CertifyError}, specs.declared.fault.Fault.{Fault}, specs.declared.fault_run.FaultRun.{FaultRun}, specs.FaultLists.{AreFaults}, specs.Faults.{IsFirstFault, site_of}}
+use Rattle.command_answers.{specs.declared.answer.Answer.{Answer}, specs.declared.refused.Refused.{Refused}, specs.Answers.{IsFaultText}, proofs.Obstacles.{not_memory}}
 use Rattle.command_questions.specs.declared.certified.Question.{Question}
-use Rattle.command_questions.specs.declared.certified.Question.TheVariants as question
-use Rattle.command_answers.specs.declared.refused.Refused.{Refused}
-use Rattle.command_answers.specs.declared.status.Status.TheVariants as status
-use Rattle.command_answers.specs.Answers.{IsFaultText}
-use Rattle.plan_commands.specs.Certified.{IsFaultAnswer}
-use Rattle.plan_commands.specs.FaultListing.{IsObstacleListed}
+use Rattle.plan_commands.{specs.Certified.{IsFaultAnswer}, specs.FaultListing.{IsObstacleListed}}
 use Rattle.fault_texts.specs.FaultListLines.{IsObstacleList}
 use Rattle.plan_texts.specs.Lines.{as_line, obstacle_text}
-use Rattle.command_answers.proofs.Obstacles.{not_memory}
+use Rattle.command_questions.specs.declared.certified.Question.TheVariants as question
+use Rattle.command_answers.specs.declared.status.Status.TheVariants as status
 
 -- where there is a fault there is a run
 pub some_runs : (plan : Plan) (cert : Certificate) (fault : Fault) (runs : List FaultRun) → IsFirstFault plan cert (site_of fault) → AreFaults plan (Some cert) runs → runs ≢ []

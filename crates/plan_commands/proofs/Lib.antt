@@ -4,3 +4,4 @@ mod FaultListed
 mod Required
 mod Questions
 pub mod Held
+mod Kept

@@ -1,18 +1,6 @@
 -- Each request of an assignment is to a node of the plan, over a bus of the plan.
-use Rattle.std.proofs.Common.{◌≡◌, ℕ, zero, suc, ◌<◌, List, [], ◌∷◌, length, map, Bool, true, false, ◌&&◌, cond, nat_lt, find, Option, Some, None, option_map, option_and_then, slice_get, refl, sym, ap, ◌∙◌, subst, true≢false}
-use Rattle.std.specs.Prelude.{All}
-use Rattle.std.specs.List.{flat_map, list_all}
-use Rattle.std.proofs.lemmas.Bool.{ltb-true}
-use Rattle.std.proofs.lemmas.Option.{same_Some, none-some, slice_get_within}
-use Rattle.std.proofs.lemmas.List.Elements.{All-nil, All-cons, All-append}
-use Rattle.plan_values.specs.declared.plan.Plan.{Plan}
-use Rattle.plan_values.specs.declared.certificate.Certificate.{Certificate}
-use Rattle.plan_values.specs.declared.nodes.Node.{Node}
-use Rattle.plan_values.specs.declared.nodes.Pool.{Pool}
-use Rattle.plan_values.specs.declared.nodes.Port.{Port}
-use Rattle.plan_values.specs.NodeValues.{node_value}
-use Rattle.plan_values.specs.Placed.{are_placed, is_placed, is_owner_placed}
-use Rattle.plan_values.proofs.Placed.{list_all_values}
+use Rattle.std.{proofs.Common.{◌≡◌, ℕ, zero, suc, ◌<◌, List, [], ◌∷◌, length, map, Bool, true, false, ◌&&◌, cond, nat_lt, find, Option, Some, None, option_map, option_and_then, slice_get, refl, sym, ap, ◌∙◌, subst, true≢false}, specs.Prelude.{All}, specs.List.{flat_map, list_all}, proofs.lemmas.Bool.{ltb-true}, proofs.lemmas.Option.{same_Some, none-some, slice_get_within}, proofs.lemmas.List.Elements.{All-nil, All-cons, All-append}}
+use Rattle.plan_values.{specs.declared.plan.Plan.{Plan}, specs.declared.certificate.Certificate.{Certificate}, specs.declared.nodes.Node.{Node}, specs.declared.nodes.Pool.{Pool}, specs.declared.nodes.Port.{Port}, specs.NodeValues.{node_value}, specs.Placed.{are_placed, is_placed, is_owner_placed}, proofs.Placed.{list_all_values}}
 use Rattle.net_tables.specs.Routing.{node_at}
 use Rattle.net_sim.specs.Assignments.{AssignmentValue, IsAssignmentOf, is_on_bus, shared_bus, pool_requests, requests_by, requests_of, requests_to}
 use Rattle.plan_commands.specs.Assigning.{IsNamed}

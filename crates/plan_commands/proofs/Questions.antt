@@ -1,17 +1,12 @@
 -- Questions about a plan and its certificate.
-use Rattle.std.proofs.Common.{◌≡◌, ◌⊎◌, ℕ, List, Option, Some, None, is_some, true, false, true≢false, Result, Ok, Err, inl, inr, sym, subst}
-use Rattle.std.specs.Prelude.{IfOk, IfErr, MatchOption}
-use Rattle.std.specs.Cow.{cow_str_bytes}
+use Rattle.std.{proofs.Common.{◌≡◌, ◌⊎◌, ℕ, List, Option, Some, None, is_some, true, false, true≢false, Result, Ok, Err, inl, inr, sym, subst}, specs.Prelude.{IfOk, IfErr, MatchOption}, specs.Cow.{cow_str_bytes}}
 use Rattle.net_rules.specs.Rules.{Accepts}
-use Rattle.plan_values.specs.declared.certificate.Certificate.{Certificate}
-use Rattle.plan_values.specs.declared.plan.Plan.{Plan}
-use Rattle.command_answers.specs.declared.answer.Answer.{Answer}
+use Rattle.plan_values.{specs.declared.certificate.Certificate.{Certificate}, specs.declared.plan.Plan.{Plan}}
+use Rattle.command_answers.{specs.declared.answer.Answer.{Answer}, specs.declared.refused.Refused.{Refused}, specs.declared.status.Status.{Status}}
 use Rattle.command_questions.specs.declared.certified.Question.{Question}
-use Rattle.command_answers.specs.declared.refused.Refused.{Refused}
-use Rattle.command_answers.specs.declared.refused.Refused.TheVariants as refused
-use Rattle.command_answers.specs.declared.status.Status.{Status}
-use Rattle.command_answers.specs.declared.status.Status.TheVariants as status
 use Rattle.plan_commands.specs.Certified.{IsNamedIn, IsTooMuch, AnswersOn, IsUnansweredOn, IsFaultAnswer}
+use Rattle.command_answers.specs.declared.refused.Refused.TheVariants as refused
+use Rattle.command_answers.specs.declared.status.Status.TheVariants as status
 
 -- a text that was found, or none
 pub was_found : {A : Type 0} (N : Type 0) (P : A → Type 0) (found : Option A) → MatchOption found N P → is_some found ≡ true → (a : A) × P a

@@ -1,17 +1,11 @@
 -- What the end of `require` tells of an answer.
-use Rattle.std.proofs.Common.{◌≡◌, ℕ, List, length, ◌≤◌, Result, Ok, Err, inl, inr, sym, subst}
-use Rattle.std.specs.Prelude.{IfOk}
-use Rattle.std.specs.Cow.{cow_str_bytes}
-use Rattle.std.specs.Io.KnownBytes.{Consumes, IsAtEnd}
-use Rattle.plan_values.specs.declared.certificate.Certificate.{Certificate}
-use Rattle.plan_values.specs.declared.plan.Plan.{Plan}
+use Rattle.std.{proofs.Common.{◌≡◌, ℕ, List, length, ◌≤◌, Result, Ok, Err, inl, inr, sym, subst}, specs.Prelude.{IfOk}, specs.Cow.{cow_str_bytes}, specs.Io.KnownBytes.{Consumes, IsAtEnd}}
+use Rattle.plan_values.{specs.declared.certificate.Certificate.{Certificate}, specs.declared.plan.Plan.{Plan}}
 use Rattle.net_rules.specs.Rules.{Accepts}
-use Rattle.command_answers.specs.declared.answer.Answer.{Answer}
-use Rattle.command_answers.specs.declared.refused.Refused.{Refused}
+use Rattle.command_answers.{specs.declared.answer.Answer.{Answer}, specs.declared.refused.Refused.{Refused}, specs.Answers.{Stream, IsFaultText}}
+use Rattle.plan_commands.specs.Requiring.{IsRequiredOn, RequiresOn, IsWithoutWanted, RequiresOf}
 use Rattle.command_answers.specs.declared.refused.Refused.TheVariants as refused
 use Rattle.command_answers.specs.declared.status.Status.TheVariants as status
-use Rattle.command_answers.specs.Answers.{Stream, IsFaultText}
-use Rattle.plan_commands.specs.Requiring.{IsRequiredOn, RequiresOn, IsWithoutWanted, RequiresOf}
 
 module _ (plan : Plan) (cert : Certificate) where
   pub text_so : (wanted : Stream) (bytes : List ℕ) (result : Result Answer Refused) → Consumes wanted.before.bytes wanted.after.bytes bytes → IsAtEnd wanted.after.bytes

@@ -1,9 +1,7 @@
 -- What `assign` prints of an accepted plan.
 use Rattle.std.specs.Prelude.{◌≡◌, ℕ, ◌<◌, List, length, All}
-use Rattle.plan_values.specs.declared.plan.Plan.{Plan}
-use Rattle.plan_values.specs.declared.certificate.Certificate.{Certificate}
-use Rattle.net_sim.specs.Assignments.{AssignmentValue, IsAssignmentOf}
-use Rattle.net_sim.specs.AssignmentRuns.{CanBeCarriedOut, IsAcceptedThroughout, AssignsAll}
+use Rattle.plan_values.{specs.declared.plan.Plan.{Plan}, specs.declared.certificate.Certificate.{Certificate}}
+use Rattle.net_sim.{specs.Assignments.{AssignmentValue, IsAssignmentOf}, specs.AssignmentRuns.{CanBeCarriedOut, IsAcceptedThroughout, AssignsAll}}
 use Rattle.run_texts.specs.AssignmentLines.{assignment_lines}
 
 -- the plan has the request's bus and its node, so that no dash stands for a name

@@ -1,22 +1,13 @@
 -- What answers a question about a plan and its certificate.
 use Rattle.std.specs.Prelude.{◌≡◌, ◌⊎◌, ℕ, List, ⊤}
 use Rattle.net_rules.specs.Rules.{Accepts}
-use Rattle.plan_values.specs.declared.certificate.Certificate.{Certificate}
-use Rattle.plan_values.specs.declared.plan.Plan.{Plan}
+use Rattle.plan_values.{specs.declared.certificate.Certificate.{Certificate}, specs.declared.plan.Plan.{Plan}}
 use Rattle.net_reached.specs.Matrices.{IsMatrix}
 use Rattle.command_questions.specs.declared.certified.Question.{Question}
+use Rattle.command_answers.{specs.declared.refused.Refused.{Refused}, specs.declared.status.Status.{Status}, specs.Answers.{Stream, AreGiven, AreTextsGiven, AreUnread, IsFaultText}, specs.Statuses.{HasCause, yes_line}, specs.Naming.{NameTheEnds, HasTerminusNamed}}
+use Rattle.plan_commands.{specs.Assigning.{IsAssignmentText}, specs.FaultListing.{IsFaultListOf}, specs.Reaching.{IsReachText}, specs.Tracing.{IsTraceText}, specs.Walking.{IsWalkText, HasTooManyBytes}}
 use Rattle.command_questions.specs.declared.certified.Question.TheVariants as question
-use Rattle.command_answers.specs.declared.refused.Refused.{Refused}
-use Rattle.command_answers.specs.declared.status.Status.{Status}
 use Rattle.command_answers.specs.declared.status.Status.TheVariants as status
-use Rattle.command_answers.specs.Answers.{Stream, AreGiven, AreTextsGiven, AreUnread, IsFaultText}
-use Rattle.plan_commands.specs.Assigning.{IsAssignmentText}
-use Rattle.plan_commands.specs.FaultListing.{IsFaultListOf}
-use Rattle.plan_commands.specs.Reaching.{IsReachText}
-use Rattle.command_answers.specs.Statuses.{HasCause, yes_line}
-use Rattle.plan_commands.specs.Tracing.{IsTraceText}
-use Rattle.command_answers.specs.Naming.{NameTheEnds, HasTerminusNamed}
-use Rattle.plan_commands.specs.Walking.{IsWalkText, HasTooManyBytes}
 
 -- the text answers the question, where every rule holds of the plan and the certificate
 abbrev pub IsAnswer : Question → Plan → Certificate → List ℕ → Type 0

@@ -1,13 +1,8 @@
 -- A walk of the program over a terminus, one exchange after another.
 use Rattle.std.specs.Prelude.{◌≡◌, ◌≢◌, ◌⊎◌, ◌+◌, ◌<◌, ℕ, List, length, Result, MatchResult}
-use Rattle.pdr_repository.specs.declared.walk_fault.Step.{Step as WalkStep}
-use Rattle.pdr_repository.specs.declared.walk_fault.Step.TheVariants.{Done}
-use Rattle.pdr_repository.specs.Records.{Entry, bytes_by_place}
-use Rattle.pdr_repository.specs.Walks.{Exchange, Walk, IsFinished, exchanges}
-use Rattle.pdr_repository.specs.Walkers.{WalkState, HasTakenIn}
-use Rattle.command_answers.specs.declared.refused.Refused.{Refused}
-use Rattle.command_answers.specs.declared.refused.Refused.TheVariants.{TooMuch, NoMemory}
-use Rattle.plan_commands.specs.Walking.{bytes_of}
+use Rattle.pdr_repository.{specs.declared.walk_fault.Step.{Step as WalkStep}, specs.declared.walk_fault.Step.TheVariants.{Done}, specs.Records.{Entry, bytes_by_place}, specs.Walks.{Exchange, Walk, IsFinished, exchanges}, specs.Walkers.{WalkState, HasTakenIn}}
+use Rattle.command_answers.{specs.declared.refused.Refused.{Refused}, specs.declared.refused.Refused.TheVariants.{TooMuch, NoMemory}}
+use Rattle.plan_commands.specs.Walking.{bytes_of, most_bytes}
 
 -- The walker stands for these exchanges, which are a walk. It has taken an answer for each, and it has the program's
 -- limits.
@@ -16,7 +11,7 @@ pub record IsUnderWay (records : List Entry) (count : ℕ) (w : WalkState) (xs :
   pub stands : HasTakenIn w xs
   pub same_count : w.count ≡ count
   pub max_records : w.max_records ≡ 4096
-  pub max_bytes : w.max_bytes ≡ 16777216
+  pub max_bytes : w.max_bytes ≡ most_bytes
   pub taken : w.taken ≡ length xs
 
 -- The walk is finished, or it is one exchange further.
@@ -29,7 +24,7 @@ pub record IsFurther (records : List Entry) (count : ℕ) (xs : List Exchange) (
 
 -- why a walk ends before its last record: memory ran out, or the records have more bytes than a walk collects
 abbrev pub EndsEarlyFor : List Entry → Refused → Type 0
-EndsEarlyFor records refused = (refused ≡ NoMemory) ⊎ ((refused ≡ TooMuch) × (16777216 < bytes_of records))
+EndsEarlyFor records refused = (refused ≡ NoMemory) ⊎ ((refused ≡ TooMuch) × (most_bytes < bytes_of records))
 
 -- what an exchange leads to, of each walk that is under way
 abbrev pub Goes : List Entry → WalkState → Result WalkStep Refused → WalkState → Type 0

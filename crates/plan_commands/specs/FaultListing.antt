@@ -1,16 +1,10 @@
 -- What `faults` prints of a plan, and of a plan and its certificate.
 use Rattle.std.specs.Prelude.{◌≡◌, ◌≢◌, ◌⊎◌, ℕ, List, [], Option, Some, None}
-use Rattle.plan_values.specs.declared.plan.Plan.{Plan}
-use Rattle.plan_values.specs.declared.certificate.Certificate.{Certificate}
-use Rattle.net_rules.specs.declared.certify_error.CertifyError.{CertifyError}
-use Rattle.net_rules.specs.declared.fault_run.FaultRun.{FaultRun}
-use Rattle.net_rules.specs.FaultLists.{AreFaults}
-use Rattle.net_rules.specs.Rules.{Accepts}
-use Rattle.command_answers.specs.declared.status.Status.{Status}
-use Rattle.command_answers.specs.declared.status.Status.TheVariants as status
-use Rattle.command_answers.specs.Certifying.{IsRuledOutBy}
-use Rattle.command_answers.specs.Statuses.{yes_line}
+use Rattle.plan_values.{specs.declared.plan.Plan.{Plan}, specs.declared.certificate.Certificate.{Certificate}}
+use Rattle.net_rules.{specs.declared.certify_error.CertifyError.{CertifyError}, specs.declared.fault_run.FaultRun.{FaultRun}, specs.FaultLists.{AreFaults}, specs.Rules.{Accepts}}
+use Rattle.command_answers.{specs.declared.status.Status.{Status}, specs.Certifying.{IsRuledOutBy}, specs.Statuses.{yes_line}}
 use Rattle.fault_texts.specs.FaultListLines.{IsFaultsText, IsObstacleList}
+use Rattle.command_answers.specs.declared.status.Status.TheVariants as status
 
 -- The lines are those of all faults of the plan, or of it and the certificate, with their places in the text of this
 -- name, and how many they are. There is one at least.

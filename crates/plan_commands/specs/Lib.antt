@@ -6,6 +6,7 @@ pub mod Tracing
 pub mod Linting
 pub mod FaultListing
 pub mod Making
+pub mod Keeping
 pub mod Planned
 pub mod Requiring
 pub mod Certified

@@ -1,12 +1,10 @@
 -- What `lint` prints of a plan.
 use Rattle.std.specs.Prelude.{◌≡◌, ◌≢◌, ℕ, List, []}
 use Rattle.plan_values.specs.declared.plan.Plan.{Plan}
-use Rattle.net_questions.specs.declared.finding.Finding.{Finding}
-use Rattle.net_questions.specs.Findings.{AreFindings, IsSo}
-use Rattle.command_answers.specs.declared.status.Status.{Status}
-use Rattle.command_answers.specs.declared.status.Status.TheVariants as status
+use Rattle.net_questions.{specs.declared.finding.Finding.{Finding}, specs.Findings.{AreFindings, IsSo}}
+use Rattle.command_answers.{specs.declared.status.Status.{Status}, specs.Statuses.{clean_line}}
 use Rattle.question_texts.specs.FindingLines.{findings_text}
-use Rattle.command_answers.specs.Statuses.{clean_line}
+use Rattle.command_answers.specs.declared.status.Status.TheVariants as status
 
 -- No sentence on what looks wrong is so of anything in the plan, and the text says that the plan is clean.
 pub record IsCleanText (plan : Plan) (text : List ℕ) : Type 0 where

@@ -1,24 +1,16 @@
 -- What the end of `make` says of the board that it read, and of the plan and the certificate that it wrote.
-use Rattle.std.specs.Prelude.{◌≡◌, ◌⊎◌, ℕ, List, Some, codes, slice_get, string_bytes, ⊤}
-use Rattle.std.specs.Io.KnownBytes.{Appends}
-use Rattle.net_plan.specs.declared.error.PlanError.TheVariants as error
-use Rattle.net_plan.specs.Stream.{TakesMoreThan}
-use Rattle.net_plan.specs.Texts.{Gave}
+use Rattle.std.{specs.Prelude.{◌≡◌, ◌⊎◌, ℕ, List, Some, codes, slice_get, string_bytes, ⊤}, specs.Io.KnownBytes.{Appends}}
+use Rattle.net_plan.{specs.Stream.{TakesMoreThan}, specs.Texts.{Gave}, specs.Limits.{most_text_bytes}}
 use Rattle.board.specs.declared.board.RecordFile.{RecordFile}
-use Rattle.board_made.specs.declared.answer.BoardAnswer.{BoardAnswer}
-use Rattle.board_made.specs.declared.answer.BoardAnswer.TheVariants.{Made, NoPlan, Unread}
+use Rattle.board_made.{specs.declared.answer.BoardAnswer.{BoardAnswer}, specs.declared.answer.BoardAnswer.TheVariants.{Made, NoPlan, Unread}, specs.Made.{IsMadeOf, IsUnmadeOf, IsUnreadLine, ReadsBack}, specs.Reasons.{IsRowsReason}, specs.Rowed.{IsRowedText}}
 use Rattle.plan_values.specs.declared.plan.Plan.{Plan}
 use Rattle.plan_commands.specs.declared.make.FileFault.{FileFault}
+use Rattle.command_answers.{specs.declared.refused.Refused.{Refused}, specs.declared.status.Status.{Status}, specs.Answers.{Stream, Fails}}
+use Rattle.net_plan.specs.declared.error.PlanError.TheVariants as error
 use Rattle.plan_commands.specs.declared.make.FileFault.TheVariants as fault
-use Rattle.board_made.specs.Made.{IsMadeOf, IsUnmadeOf, IsUnreadLine}
-use Rattle.board_made.specs.Reasons.{IsRowsReason}
-use Rattle.board_made.specs.Rowed.{IsRowedText}
 use Rattle.command_answers.specs.declared.refused.Input.TheVariants as input
-use Rattle.command_answers.specs.declared.refused.Refused.{Refused}
 use Rattle.command_answers.specs.declared.refused.Refused.TheVariants as refused
-use Rattle.command_answers.specs.declared.status.Status.{Status}
 use Rattle.command_answers.specs.declared.status.Status.TheVariants as status
-use Rattle.command_answers.specs.Answers.{Stream, Fails}
 
 abbrev pub long_board : List ℕ
 long_board = codes "unreadable board: the text is longer than 16777216 bytes\n"
@@ -29,7 +21,7 @@ failed_board = codes "unreadable board: the file can't be opened or read\n"
 -- the source gave no text to its end, too many bytes or it failed, and the line says so
 abbrev pub IsWithoutBoard : Stream → List ℕ → Type 0
 IsWithoutBoard boards line =
-    (TakesMoreThan 16777216 boards.before.bytes boards.after.bytes × (line ≡ long_board))
+    (TakesMoreThan most_text_bytes boards.before.bytes boards.after.bytes × (line ≡ long_board))
     ⊎ (Fails boards × (line ≡ failed_board))
 
 -- the answer is a line that says why the source gave no text
@@ -59,14 +51,15 @@ IsUnmadeBy Holds board text = (files : List RecordFile) × AreHeld Holds files �
 
 -- what is answered of a board and of files that hold what its records name; or why they can't be had
 abbrev pub IsAnswerWith : (List ℕ → List ℕ → Type 0) → List ℕ → BoardAnswer → Type 0
-IsAnswerWith Holds board (Made made) = IsMadeBy Holds board (string_bytes made.plan) (string_bytes made.certificate)
+IsAnswerWith Holds board (Made made) =
+    IsMadeBy Holds board (string_bytes made.plan) (string_bytes made.certificate) × ReadsBack made
 IsAnswerWith Holds board (NoPlan reason) = IsUnmadeBy Holds board (string_bytes reason)
 IsAnswerWith Holds board (Unread line) = IsUnreadLine (string_bytes line)
 
 -- what is answered of the board that a source gave, or why it gave none
 abbrev pub IsAnswerOf : (List ℕ → List ℕ → Type 0) → Stream → BoardAnswer → Type 0
 IsAnswerOf Holds boards answer =
-    Gave 16777216 boards.before.bytes boards.after.bytes (λ bytes. IsAnswerWith Holds bytes answer)
+    Gave most_text_bytes boards.before.bytes boards.after.bytes (λ bytes. IsAnswerWith Holds bytes answer)
     ⊎ IsUngivenBoard boards answer
 
 -- ---- make BOARD
@@ -82,7 +75,7 @@ Makes Holds board status.NoMemory text = ⊥
 -- the same of the board that a source gave, or why it gave none
 abbrev pub MakesSo : (List ℕ → List ℕ → Type 0) → Stream → Status → List ℕ → Type 0
 MakesSo Holds boards ended text =
-    Gave 16777216 boards.before.bytes boards.after.bytes (λ bytes. Makes Holds bytes ended text)
+    Gave most_text_bytes boards.before.bytes boards.after.bytes (λ bytes. Makes Holds bytes ended text)
     ⊎ ((ended ≡ status.Unreadable) × IsWithoutBoard boards text)
 
 -- ---- make BOARD --certificate FILE
@@ -102,7 +95,7 @@ MakesWith Holds certificates board status.NoMemory text = ⊥
 -- the same of the board that a source gave, or why it gave none
 abbrev pub MakesWithSo : (List ℕ → List ℕ → Type 0) → Stream → Stream → Status → List ℕ → Type 0
 MakesWithSo Holds boards certificates ended text =
-    Gave 16777216 boards.before.bytes boards.after.bytes (λ bytes. MakesWith Holds certificates bytes ended text)
+    Gave most_text_bytes boards.before.bytes boards.after.bytes (λ bytes. MakesWith Holds certificates bytes ended text)
     ⊎ ((ended ≡ status.Unreadable) × IsWithoutBoard boards text)
 
 -- why there is no answer: memory is wanting, or the stream for the certificate failed

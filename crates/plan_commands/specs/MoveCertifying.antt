@@ -1,20 +1,11 @@
 -- What `certifymove` prints of two plans.
 use Rattle.std.specs.Prelude.{◌≡◌, ◌≤◌, ℕ, List, length}
-use Rattle.plan_values.specs.declared.plan.Plan.{Plan}
-use Rattle.plan_values.specs.declared.certificate.Certificate.{Certificate}
-use Rattle.net_plan.specs.CertificateJson.{certificate_text}
-use Rattle.net_plan.specs.CertificateText.{IsCertificateOf}
-use Rattle.plan_values.specs.CertificateValues.{certificate_value}
-use Rattle.plan_values.specs.PlanValues.{node_names, plan_value}
-use Rattle.net_plan.specs.Texts.{IsJsonTextOf}
-use Rattle.plan_values.specs.WellFormed.{IsWellFormed}
-use Rattle.net_rules.specs.declared.move_obstacle.MoveObstacle.{MoveObstacle}
-use Rattle.net_rules.specs.MoveObstacles.{IsExactForMove}
-use Rattle.net_rules.specs.MoveRules.{AcceptsMove}
-use Rattle.command_answers.specs.declared.status.Status.{Status}
-use Rattle.command_answers.specs.declared.status.Status.TheVariants as status
-use Rattle.command_answers.specs.Answers.{Stream, GavePlan}
+use Rattle.plan_values.{specs.declared.plan.Plan.{Plan}, specs.declared.certificate.Certificate.{Certificate}, specs.CertificateValues.{certificate_value}, specs.PlanValues.{node_names, plan_value}, specs.WellFormed.{IsWellFormed}}
+use Rattle.net_plan.{specs.CertificateJson.{certificate_text}, specs.CertificateText.{IsCertificateOf}, specs.Texts.{IsJsonTextOf}}
+use Rattle.net_rules.{specs.declared.move_obstacle.MoveObstacle.{MoveObstacle}, specs.MoveObstacles.{IsExactForMove}, specs.MoveRules.{AcceptsMove}}
+use Rattle.command_answers.{specs.declared.status.Status.{Status}, specs.Answers.{Stream, GavePlan}}
 use Rattle.fault_texts.specs.RuledOutMoves.{IsMoveRuledOutBy}
+use Rattle.command_answers.specs.declared.status.Status.TheVariants as status
 
 -- Every rule of a move holds of the plans and the certificate; the certificate gives each level and place as the plan
 -- before has them and each rank as the rows of both have it; and the text is the certificate's, read for the plan

@@ -1,13 +1,9 @@
 -- What the end of `move` says of the plans and the certificate that it read, and of what it wrote.
 use Rattle.std.specs.Prelude.{◌≡◌, ℕ, List}
 use Rattle.net_rules.specs.MoveRules.{AcceptsMove}
-use Rattle.plan_values.specs.declared.plan.Plan.{Plan}
-use Rattle.plan_values.specs.declared.certificate.Certificate.{Certificate}
-use Rattle.command_answers.specs.declared.status.Status.{Status}
+use Rattle.plan_values.{specs.declared.plan.Plan.{Plan}, specs.declared.certificate.Certificate.{Certificate}}
+use Rattle.command_answers.{specs.declared.status.Status.{Status}, specs.Answers.{Stream}, specs.Statuses.{yes_line}, specs.Moves.{IsMoveGiven, IsMoveFaultText}}
 use Rattle.command_answers.specs.declared.status.Status.TheVariants as status
-use Rattle.command_answers.specs.Answers.{Stream}
-use Rattle.command_answers.specs.Statuses.{yes_line}
-use Rattle.command_answers.specs.Moves.{IsMoveGiven, IsMoveFaultText}
 
 -- the text answers on two plans and a certificate, in a run that ends so: it is `yes`, and every rule of a move holds
 -- of them, or it is the line of their first fault

@@ -2,14 +2,10 @@
 use Rattle.std.specs.Prelude.{◌≡◌, ℕ, List}
 use Rattle.plan_values.specs.declared.plan.Plan.{Plan}
 use Rattle.command_questions.specs.declared.planned.PlanQuestion.{PlanQuestion}
+use Rattle.command_answers.{specs.declared.status.Status.{Status}, specs.Answers.{Stream, GavePlanText}, specs.Certifying.{Certifies}}
+use Rattle.plan_commands.{specs.FaultListing.{IsListed}, specs.Linting.{IsLinted}, specs.Making.{IsRowed}}
 use Rattle.command_questions.specs.declared.planned.PlanQuestion.TheVariants as question
-use Rattle.command_answers.specs.declared.status.Status.{Status}
 use Rattle.command_answers.specs.declared.status.Status.TheVariants as status
-use Rattle.command_answers.specs.Answers.{Stream, GavePlanText}
-use Rattle.command_answers.specs.Certifying.{Certifies}
-use Rattle.plan_commands.specs.FaultListing.{IsListed}
-use Rattle.plan_commands.specs.Linting.{IsLinted}
-use Rattle.plan_commands.specs.Making.{IsRowed}
 
 -- the lines answer the question about the plan, which stands in this text, in a run that ends so
 abbrev pub IsSaidOf : PlanQuestion → List ℕ → Plan → Status → List ℕ → Type 0

@@ -1,22 +1,11 @@
 -- What the end of `require` says of the plan, the certificate and the text that it read, and of what it wrote.
-use Rattle.std.specs.Prelude.{◌≡◌, ◌≢◌, ◌⊎◌, ℕ, Bool, true, false, List, [], ◌++◌, codes, All}
-use Rattle.std.specs.Fmt.{decimal}
-use Rattle.std.specs.Str.{IsUtf8}
-use Rattle.plan_values.specs.declared.plan.Plan.{Plan}
-use Rattle.plan_values.specs.declared.certificate.Certificate.{Certificate}
-use Rattle.net_plan.specs.Stream.{TakesMoreThan}
-use Rattle.net_plan.specs.Texts.{Gave}
-use Rattle.net_reached.specs.declared.reading.BadLine.{BadLine}
-use Rattle.net_reached.specs.declared.reading.WishError.TheVariants.{Unread}
-use Rattle.net_reached.specs.declared.wish.Wish.{Wish}
-use Rattle.net_reached.specs.Lines.{wish_lines}
-use Rattle.net_reached.specs.Reading.{AreWishesOf, IsWhyUnread}
-use Rattle.net_reached.specs.Wishes.{IsMet, AreUnmet}
+use Rattle.std.{specs.Prelude.{◌≡◌, ◌≢◌, ◌⊎◌, ℕ, Bool, true, false, List, [], ◌++◌, codes, All}, specs.Fmt.{decimal}, specs.Str.{IsUtf8}}
+use Rattle.plan_values.{specs.declared.plan.Plan.{Plan}, specs.declared.certificate.Certificate.{Certificate}}
+use Rattle.net_plan.{specs.Stream.{TakesMoreThan}, specs.Texts.{Gave}, specs.Limits.{most_text_bytes}}
+use Rattle.net_reached.{specs.declared.reading.BadLine.{BadLine}, specs.declared.reading.WishError.TheVariants.{Unread}, specs.declared.wish.Wish.{Wish}, specs.Lines.{wish_lines}, specs.Reading.{AreWishesOf, IsWhyUnread}, specs.Wishes.{IsMet, AreUnmet}}
 use Rattle.net_rules.specs.Rules.{Accepts}
-use Rattle.command_answers.specs.declared.status.Status.{Status}
+use Rattle.command_answers.{specs.declared.status.Status.{Status}, specs.Answers.{Stream, Fails, AreGiven, IsFaultText}, specs.Statuses.{yes_line}}
 use Rattle.command_answers.specs.declared.status.Status.TheVariants as status
-use Rattle.command_answers.specs.Answers.{Stream, Fails, AreGiven, IsFaultText}
-use Rattle.command_answers.specs.Statuses.{yes_line}
 
 -- ---- wishes that were read
 
@@ -64,13 +53,13 @@ RequiresOn plan certificate wanted ended text = (Accepts plan certificate × IsR
 -- the source of what is wanted gave no text to its end: too many bytes, or it failed
 abbrev pub IsWithoutWanted : Stream → List ℕ → Type 0
 IsWithoutWanted wanted text =
-    (TakesMoreThan 16777216 wanted.before.bytes wanted.after.bytes × (text ≡ unread_wanted (codes "J08")))
+    (TakesMoreThan most_text_bytes wanted.before.bytes wanted.after.bytes × (text ≡ unread_wanted (codes "J08")))
     ⊎ (Fails wanted × (text ≡ unread_wanted (codes "file")))
 
 -- the same of a plan, a certificate and the text that a source gave, or why it gave none
 abbrev pub RequiresOf : Plan → Certificate → Stream → Status → List ℕ → Type 0
 RequiresOf plan certificate wanted ended text =
-    Gave 16777216 wanted.before.bytes wanted.after.bytes (λ bytes. RequiresOn plan certificate bytes ended text)
+    Gave most_text_bytes wanted.before.bytes wanted.after.bytes (λ bytes. RequiresOn plan certificate bytes ended text)
     ⊎ ((ended ≡ status.Unreadable) × IsWithoutWanted wanted text)
 
 -- the same of the plan and the certificate that were given

@@ -1,12 +1,8 @@
 -- What the end of `trace` says of the plan and the certificate that it read, and of what it wrote.
 use Rattle.std.specs.Prelude.{◌≡◌, ◌≤◌, ℕ, List, length}
 use Rattle.net_tables.specs.Ranks.{rank}
-use Rattle.plan_values.specs.declared.plan.Plan.{Plan}
-use Rattle.plan_values.specs.declared.certificate.Certificate.{Certificate}
-use Rattle.net_questions.specs.declared.step.WayStep.{WayStep}
-use Rattle.net_questions.specs.declared.way.End.{End}
-use Rattle.net_questions.specs.Packets.{KeepsToWays}
-use Rattle.net_questions.specs.Ways.{IsWay}
+use Rattle.plan_values.{specs.declared.plan.Plan.{Plan}, specs.declared.certificate.Certificate.{Certificate}}
+use Rattle.net_questions.{specs.declared.step.WayStep.{WayStep}, specs.declared.way.End.{End}, specs.Packets.{KeepsToWays}, specs.Ways.{IsWay}}
 use Rattle.command_answers.specs.Naming.{IsFirstNamed, IsDestination}
 use Rattle.question_texts.specs.WayLines.{trace_text}
 

@@ -1,13 +1,10 @@
 //! Commands that read a plan and its certificate, check them, and answer a question about them.
-ghost use Rattle.std.specs.Prelude.{◌≡◌, ◌⊎◌, true, false, IfOk, IfErr};
-ghost use Rattle.std.specs.Cow.{cow_str_bytes};
+ghost use Rattle.std.{specs.Prelude.{◌≡◌, ◌⊎◌, true, false, IfOk, IfErr}, specs.Cow.{cow_str_bytes}};
 ghost use Rattle.net_check.specs.Errors.{NamesFirstFault};
 ghost use Rattle.net_plan.specs.Stream.{HasRoom};
-ghost use Rattle.command_answers.specs.declared.status.Status.TheVariants.{Fault};
-ghost use Rattle.command_answers.specs.declared.refused.Refused.TheVariants as refused;
-ghost use Rattle.command_answers.specs.Answers.{stream, IsWithoutPlan};
-ghost use Rattle.command_answers.specs.Told.{Concludes};
+ghost use Rattle.command_answers.{specs.declared.status.Status.TheVariants.{Fault}, specs.Answers.{stream, IsWithoutPlan}, specs.Told.{Concludes}};
 ghost use Rattle.plan_commands.specs.Certified.{IsAnswer, IsFaultAnswer, IsNamedIn, IsTooMuch, AnswersOn, AnswersSo, IsUnansweredOn, IsUnansweredFor};
+ghost use Rattle.command_answers.specs.declared.refused.Refused.TheVariants as refused;
 
 use crate::assign::requests_text;
 use crate::draw::certified_drawing;

@@ -1,11 +1,8 @@
 //! The command `certifymove`: the certificate of a move from one plan to another, or why there is none.
-ghost use Rattle.std.specs.Prelude.{◌≡◌, IfOk};
-ghost use Rattle.std.specs.Cow.{cow_str_bytes};
+ghost use Rattle.std.{specs.Prelude.{◌≡◌, IfOk}, specs.Cow.{cow_str_bytes}};
 ghost use Rattle.net_plan.specs.Stream.{HasRoom};
-ghost use Rattle.command_answers.specs.Answers.{stream, IsWithoutPlan};
+ghost use Rattle.command_answers.{specs.Answers.{stream, IsWithoutPlan}, specs.Moves.{ArePlansUnread}, specs.Told.{Concludes}};
 ghost use Rattle.plan_commands.specs.MoveCertifying.{CertifiesMove, CertifiesMoveSo};
-ghost use Rattle.command_answers.specs.Moves.{ArePlansUnread};
-ghost use Rattle.command_answers.specs.Told.{Concludes};
 
 use command_answers::{Answer, Status, read_plans, refuse, tell_made};
 use net_check::certify_move;

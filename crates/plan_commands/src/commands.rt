@@ -1,12 +1,9 @@
 //! The commands of one question each: `check`, `certify`, `assign` and `walk`.
 ghost use Rattle.std.specs.Prelude.{◌≡◌};
 ghost use Rattle.net_plan.specs.Stream.{HasRoom};
-ghost use Rattle.command_answers.specs.Answers.{stream, IsPlanUnread, IsWithoutPlan};
-ghost use Rattle.command_answers.specs.Told.{Concludes};
-ghost use Rattle.command_questions.specs.declared.certified.Question.TheVariants.{Check, Assign, Walk};
-ghost use Rattle.command_questions.specs.declared.planned.PlanQuestion.TheVariants.{Certify};
-ghost use Rattle.plan_commands.specs.Certified.{AnswersSo, IsUnansweredFor};
-ghost use Rattle.plan_commands.specs.Planned.{SaysSo};
+ghost use Rattle.command_answers.{specs.Answers.{stream, IsPlanUnread, IsWithoutPlan}, specs.Told.{Concludes}};
+ghost use Rattle.command_questions.{specs.declared.certified.Question.TheVariants.{Check, Assign, Walk}, specs.declared.planned.PlanQuestion.TheVariants.{Certify}};
+ghost use Rattle.plan_commands.{specs.Certified.{AnswersSo, IsUnansweredFor}, specs.Planned.{SaysSo}};
 
 use crate::certified::run_certified;
 use crate::planned::run_planned;

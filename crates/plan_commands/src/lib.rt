@@ -7,6 +7,7 @@ mod certified;
 mod certify_move;
 mod commands;
 mod draw;
+mod keeping;
 mod lint;
 mod listing;
 mod make;
@@ -20,8 +21,9 @@ mod walk;
 
 pub use certified::run_certified;
 pub use certify_move::run_certify_move;
-pub use command_questions::{DrawnRows, PlanQuestion, Question, RecordFiles};
+pub use command_questions::{DrawnRows, MakeFiles, PlanQuestion, Question, RecordFiles};
 pub use commands::{run_assign, run_certify, run_check, run_walk};
+pub use keeping::run_make_kept;
 pub use make::{run_make, run_make_certified};
 pub use moving::run_move;
 pub use planned::run_planned;

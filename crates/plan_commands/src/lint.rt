@@ -1,6 +1,5 @@
 //! The command `lint`: what is lawful in a plan and still looks wrong.
-ghost use Rattle.std.specs.Prelude.{IfOk};
-ghost use Rattle.std.specs.Cow.{cow_str_bytes};
+ghost use Rattle.std.{specs.Prelude.{IfOk}, specs.Cow.{cow_str_bytes}};
 ghost use Rattle.plan_commands.specs.Linting.{IsLinted};
 
 use command_answers::Answer;

@@ -1,6 +1,5 @@
 //! The command `faults`: every fault of a plan, or of a plan and its certificate.
-ghost use Rattle.std.specs.Prelude.{◌≡◌, [], IfOk, IfErr, None, string_bytes};
-ghost use Rattle.std.specs.Cow.{cow_str_bytes};
+ghost use Rattle.std.{specs.Prelude.{◌≡◌, [], IfOk, IfErr, None, string_bytes}, specs.Cow.{cow_str_bytes}};
 ghost use Rattle.net_check.specs.Errors.{NamesFirstFault};
 ghost use Rattle.net_rules.specs.FaultLists.{AreFaults};
 ghost use Rattle.command_answers.specs.declared.status.Status.TheVariants.{Fault};

@@ -1,18 +1,15 @@
 //! The command `make`: the plan that is made of a board.
-ghost use Rattle.std.specs.Prelude.{◌≡◌, ℕ, List, IfOk, IfErr, OnOk, string_bytes};
-ghost use Rattle.std.specs.Cow.{cow_str_bytes};
-ghost use Rattle.std.specs.Io.KnownBytes.{Appends};
+ghost use Rattle.std.{specs.Prelude.{◌≡◌, ℕ, List, IfOk, IfErr, OnOk, string_bytes}, specs.Cow.{cow_str_bytes}, specs.Io.KnownBytes.{Appends}};
 ghost use Rattle.net_plan.specs.Stream.{HasRoom};
-ghost use Rattle.command_answers.specs.declared.status.Status.TheVariants.{Fault};
-ghost use Rattle.command_answers.specs.declared.refused.Refused.TheVariants as refused;
-ghost use Rattle.command_answers.specs.Answers.{stream};
+ghost use Rattle.command_answers.{specs.declared.status.Status.TheVariants.{Fault}, specs.Answers.{stream}, specs.Told.{ConcludesOnBoth, ConcludesOnOutput}};
 ghost use Rattle.plan_commands.specs.Making.{long_board, failed_board, AreHeld, IsFileUnread, IsAnswerWith, IsAnswerOf, MakesSo, MakesWithSo, IsUnwrittenBy};
-ghost use Rattle.command_answers.specs.Told.{ConcludesOnBoth, ConcludesOnOutput};
+ghost use Rattle.command_answers.specs.declared.refused.Refused.TheVariants as refused;
 
 use board_made::{BoardAnswer, RecordFile, answer_board, files_of_board, unread_file};
 use command_answers::{Answer, Input, Refused, Status, tell};
 use command_questions::RecordFiles;
 use net_plan::{PlanError, Sink, Source, TEXT_LIMIT, TextFault, read_within, write_whole};
+use plan_values::Plan;
 use std::alloc::{AllocError, AllocFailed, Global};
 
 /// Prints on `output` the plan that is made of a board, or why none is, also where the board can't be read.
@@ -70,7 +67,7 @@ fn answer_make<B: Source, F: RecordFiles>(
         IfOk result (λ answer. MakesSo (F.holds files.now) boards answer.status (cow_str_bytes answer.text)) }
     ensures refused { IfErr result (λ why. why ≡ refused.NoMemory) }
 {
-    match answered_board(alloc, board, files)? {
+    match answered_board(alloc, board, files, None)? {
         BoardAnswer::Made(made) => Ok(Answer::found(made.plan)),
         BoardAnswer::NoPlan(reason) => Ok(Answer::fault(reason)),
         BoardAnswer::Unread(line) => Ok(Answer::unread(line)),
@@ -92,7 +89,7 @@ fn answer_certified<B: Source, F: RecordFiles, C: Sink>(
         IfErr result (λ why. IsUnwrittenBy certificates why) }
     ensures kept { IfOk result (λ answer. answer.status ≡ Fault → certificate.new ≡ certificate.old) }
 {
-    match answered_board(alloc, board, files)? {
+    match answered_board(alloc, board, files, None)? {
         BoardAnswer::Made(made) => {
             write_certificate(certificate, &made.certificate)?;
             Ok(Answer::found(made.plan))
@@ -117,18 +114,19 @@ fn write_certificate<C: Sink>(certificate: &mut C, text: &str) -> Result<(), Ref
     }
 }
 
-/// What is answered of the board that a source gives.
-fn answered_board<B: Source, F: RecordFiles>(
+/// What is answered of the board that a source gives, where the numbers of an old plan are kept.
+pub(crate) fn answered_board<B: Source, F: RecordFiles>(
     alloc: Global,
     board: &mut B,
     files: &F,
+    old: Option<&Plan>,
 ) -> Result<BoardAnswer, AllocError>
     requires { HasRoom (B.account board.old) }
     ensures { let boards = stream B.account board.old board.new in
         IfOk result (λ answer. IsAnswerOf (F.holds files.now) boards answer) }
 {
     match read_within(alloc, board, TEXT_LIMIT) {
-        Ok(text) => Ok(answered_with(alloc, &text, files)?),
+        Ok(text) => Ok(answered_with(alloc, &text, files, old)?),
         Err(TextFault::TooLong) => Ok(BoardAnswer::Unread(long_line(alloc)?)),
         Err(TextFault::Device) => Ok(BoardAnswer::Unread(failed_line(alloc)?)),
         Err(TextFault::OutOfMemory) => Err(AllocError),
@@ -140,12 +138,13 @@ fn answered_with<F: RecordFiles>(
     alloc: Global,
     board: &[u8],
     files: &F,
+    old: Option<&Plan>,
 ) -> Result<BoardAnswer, AllocError>
     ensures { IfOk result (λ answer. IsAnswerWith (F.holds files.now) board.now answer) }
 {
     let names = files_of_board(alloc, board)?;
     match read_files(alloc, files, &names) {
-        Ok(list) => Ok(answer_board(alloc, board, &list)?),
+        Ok(list) => Ok(answer_board(alloc, board, &list, old)?),
         Err(FileFault::Unread(line)) => Ok(BoardAnswer::Unread(line)),
         Err(FileFault::OutOfMemory) => Err(AllocError),
     }

@@ -1,11 +1,8 @@
 //! The command `move`: whether the nodes of a running network may go from the rows of one plan to those of another.
-ghost use Rattle.std.specs.Prelude.{◌≡◌, IfOk};
+ghost use Rattle.std.{specs.Prelude.{◌≡◌, IfOk}, specs.Cow.{cow_str_bytes}};
 ghost use Rattle.net_plan.specs.Stream.{HasRoom};
-ghost use Rattle.std.specs.Cow.{cow_str_bytes};
-ghost use Rattle.command_answers.specs.Answers.{stream, IsWithoutPlan};
+ghost use Rattle.command_answers.{specs.Answers.{stream, IsWithoutPlan}, specs.Moves.{IsMoveUnread}, specs.Told.{Concludes}};
 ghost use Rattle.plan_commands.specs.Moving.{AnswersMoveOn, AnswersMoveSo};
-ghost use Rattle.command_answers.specs.Moves.{IsMoveUnread};
-ghost use Rattle.command_answers.specs.Told.{Concludes};
 
 use command_answers::{Answer, Status, move_fault_answer, read_move, refuse, tell_made};
 use net_check::check_move;

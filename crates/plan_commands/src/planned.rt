@@ -1,9 +1,7 @@
 //! Commands that read a plan alone, and answer a question about it.
-ghost use Rattle.std.specs.Prelude.{◌≡◌, IfOk};
-ghost use Rattle.std.specs.Cow.{cow_str_bytes};
+ghost use Rattle.std.{specs.Prelude.{◌≡◌, IfOk}, specs.Cow.{cow_str_bytes}};
 ghost use Rattle.net_plan.specs.Stream.{HasRoom};
-ghost use Rattle.command_answers.specs.Answers.{stream, IsPlanUnread};
-ghost use Rattle.command_answers.specs.Told.{Concludes};
+ghost use Rattle.command_answers.{specs.Answers.{stream, IsPlanUnread}, specs.Told.{Concludes}};
 ghost use Rattle.plan_commands.specs.Planned.{IsSaidOf, SaysSo};
 
 use crate::draw::drawing_of_plan;

@@ -1,13 +1,9 @@
 //! The command `require`: whether a checked plan's nodes reach whom they are to reach.
-ghost use Rattle.std.specs.Prelude.{◌≡◌, ◌++◌, codes, IfOk, IfErr, string_bytes};
-ghost use Rattle.std.specs.Fmt.{decimal};
-ghost use Rattle.std.specs.Cow.{cow_str_bytes};
+ghost use Rattle.std.{specs.Prelude.{◌≡◌, ◌++◌, codes, IfOk, IfErr, string_bytes}, specs.Fmt.{decimal}, specs.Cow.{cow_str_bytes}};
 ghost use Rattle.net_plan.specs.Stream.{HasRoom};
-ghost use Rattle.command_answers.specs.declared.status.Status.TheVariants.{Unreadable};
-ghost use Rattle.command_answers.specs.declared.refused.Refused.TheVariants as refused;
-ghost use Rattle.command_answers.specs.Answers.{stream, AreUnread, IsWithoutPlan, AreWithoutCertificate};
+ghost use Rattle.command_answers.{specs.declared.status.Status.TheVariants.{Unreadable}, specs.Answers.{stream, AreUnread, IsWithoutPlan, AreWithoutCertificate}, specs.Told.{ConcludesOnBoth}};
 ghost use Rattle.plan_commands.specs.Requiring.{AnswersWishes, unread_wanted, unread_line_text, IsRequiredOn, RequiresOn, RequiresOf, RequiresSo};
-ghost use Rattle.command_answers.specs.Told.{ConcludesOnBoth};
+ghost use Rattle.command_answers.specs.declared.refused.Refused.TheVariants as refused;
 
 use command_answers::{Answer, Refused, Status, fault_answer, read_inputs, refuse, tell};
 use net_check::{Checked, check};

@@ -1,6 +1,5 @@
 //! The command `rows`: a plan with rows.
-ghost use Rattle.std.specs.Prelude.{IfOk};
-ghost use Rattle.std.specs.Cow.{cow_str_bytes};
+ghost use Rattle.std.{specs.Prelude.{IfOk}, specs.Cow.{cow_str_bytes}};
 ghost use Rattle.plan_commands.specs.Making.{IsRowed};
 
 use board_made::{RowsAnswer, answer_rows};

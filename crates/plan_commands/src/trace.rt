@@ -1,8 +1,7 @@
 //! The command `trace`: the way of a packet in the network of a checked plan.
 ghost use Rattle.std.specs.Prelude.{◌≡◌, IfOk, IfErr, string_bytes};
-ghost use Rattle.command_answers.specs.declared.refused.Refused.TheVariants.{NoMemory};
+ghost use Rattle.command_answers.{specs.declared.refused.Refused.TheVariants.{NoMemory}, specs.Naming.{NameTheEnds}};
 ghost use Rattle.plan_commands.specs.Tracing.{IsWayText, IsTraceText};
-ghost use Rattle.command_answers.specs.Naming.{NameTheEnds};
 
 use command_answers::{Refused, named_ends};
 use mctp_transport::Eid;

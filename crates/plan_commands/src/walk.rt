@@ -2,10 +2,8 @@
 ghost use Rattle.std.specs.Prelude.{◌≡◌, ◌⊎◌, Some, IfOk, IfErr, string_bytes};
 ghost use Rattle.net_tables.specs.Repositories.{terminus_of, records_by_place};
 ghost use Rattle.net_rules.specs.Rules.{Accepts};
-ghost use Rattle.command_answers.specs.declared.refused.Refused.TheVariants.{NoMemory, TooMuch};
-ghost use Rattle.plan_commands.specs.Collecting.{EndsEarlyFor};
-ghost use Rattle.command_answers.specs.Naming.{HasTerminusNamed};
-ghost use Rattle.plan_commands.specs.Walking.{HasTooManyBytes, IsWalkText, walk_text};
+ghost use Rattle.command_answers.{specs.declared.refused.Refused.TheVariants.{NoMemory, TooMuch}, specs.Naming.{HasTerminusNamed}};
+ghost use Rattle.plan_commands.{specs.Collecting.{EndsEarlyFor}, specs.Walking.{HasTooManyBytes, IsWalkText, walk_text}};
 
 mod collecting;
 mod ordering;

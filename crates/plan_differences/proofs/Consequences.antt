@@ -1,23 +1,9 @@
 -- What is told of a change.
-use Rattle.std.proofs.Common.{◌≡◌, ◌≢◌, inl, inr, ◌<◌, ℕ, List, [], ◌∷◌, ◌++◌, length, map, Some, Result, Ok, Err, subst, sym, ap, ◌∙◌, refl, arith}
-use Rattle.std.specs.Prelude.{IfOk, codes}
-use Rattle.std.specs.List.{flat_map}
-use Rattle.plan_values.specs.declared.certificate.Certificate.{Certificate}
-use Rattle.plan_values.specs.declared.plan.Plan.{Plan}
+use Rattle.std.{proofs.Common.{◌≡◌, ◌≢◌, inl, inr, ◌<◌, ℕ, List, [], ◌∷◌, ◌++◌, length, map, Some, Result, Ok, Err, subst, sym, ap, ◌∙◌, refl, arith}, specs.Prelude.{IfOk, codes}, specs.List.{flat_map}}
+use Rattle.plan_values.{specs.declared.certificate.Certificate.{Certificate}, specs.declared.plan.Plan.{Plan}}
 use Rattle.net_rules.specs.Rules.{Accepts}
-use Rattle.net_rollout.specs.Steps.{HasCertificate, IsRollout}
-use Rattle.net_rollout.specs.declared.change.Rollout.{Rollout}
-use Rattle.plan_differences.specs.declared.difference.Difference.{Difference}
-use Rattle.plan_differences.specs.declared.fact.Fact.{Fact}
-use Rattle.plan_differences.specs.declared.told.Standing.{Standing}
-use Rattle.plan_differences.specs.declared.told.Standing.TheVariants.{Certified, RuledOut}
-use Rattle.plan_differences.specs.declared.ways.OtherWay.{OtherWay}
-use Rattle.plan_differences.specs.WayDifferences.{AreOtherWays}
-use Rattle.plan_differences.specs.WayLines.{need_text, way_text}
-use Rattle.plan_differences.specs.Facts.{FactValue, fact_value, plan_facts}
-use Rattle.plan_differences.specs.Differences.{AreDifferences}
-use Rattle.plan_differences.specs.DifferenceLines.{difference_text}
-use Rattle.plan_differences.specs.Changes.{AreChangesTold, AreConsequencesTold, AreFactsTold, AreWaysTold, IsReason, IsRuledOut, IsStanding, reason_of}
+use Rattle.net_rollout.{specs.Steps.{HasCertificate, IsRollout}, specs.declared.change.Rollout.{Rollout}}
+use Rattle.plan_differences.{specs.declared.difference.Difference.{Difference}, specs.declared.fact.Fact.{Fact}, specs.declared.told.Standing.{Standing}, specs.declared.told.Standing.TheVariants.{Certified, RuledOut}, specs.declared.ways.OtherWay.{OtherWay}, specs.WayDifferences.{AreOtherWays}, specs.WayLines.{need_text, way_text}, specs.Facts.{FactValue, fact_value, plan_facts}, specs.Differences.{AreDifferences}, specs.DifferenceLines.{difference_text}, specs.Changes.{AreChangesTold, AreConsequencesTold, AreFactsTold, AreWaysTold, IsReason, IsRuledOut, IsStanding, reason_of}}
 
 -- ---- facts
 

@@ -1,19 +1,6 @@
 -- Indices of facts, by words.
-use Rattle.std.proofs.Common.{◌≡◌, ◌≢◌, ◌⊎◌, inl, inr, ◌<◌, ◌≤◌, ℕ, ◌+◌, Bool, true, false, cond, List, [], ◌∷◌, ◌++◌, length, take, get_or, Some, subst, sym, ap, ◌∙◌, refl, arith}
-use Rattle.std.specs.Prelude.{Contains, slice_get, if◌then◌else◌}
-use Rattle.std.specs.Cmp.Lexicographic.{bytes_decides}
-use Rattle.std.specs.Str.{bytes_eq}
-use Rattle.std.proofs.lemmas.Bool.{cases_lt, false≢true}
-use Rattle.std.proofs.lemmas.List.{append-nil, get_or_default, get_or-take, length-take, take_all, take_more}
-use Rattle.std.proofs.lemmas.List.Elements.{Contains-append_left, Contains-push, Contains-push_cases}
-use Rattle.std.proofs.lemmas.Option.{slice_get_within}
-use Rattle.plan_differences.specs.DifferenceLines.{fact_text, thing_text, thing_words}
-use Rattle.plan_differences.specs.Facts.{FactValue}
-use Rattle.plan_differences.specs.Indexes.{AreOfWords, IsNotedIf, IsOfWords, IsOnlyWith, Says}
-use Rattle.plan_differences.specs.Listed.{AreJust}
-use Rattle.plan_differences.specs.Things.{ThingValue, thing_of}
-use Rattle.plan_differences.specs.Differences.{AreOnlyOf, IsOnlyOf}
-use Rattle.plan_differences.proofs.Items.{contained_at, contains_none, item_same, told_join, told_none, told_one}
+use Rattle.std.{proofs.Common.{◌≡◌, ◌≢◌, ◌⊎◌, inl, inr, ◌<◌, ◌≤◌, ℕ, ◌+◌, Bool, true, false, cond, List, [], ◌∷◌, ◌++◌, length, take, get_or, Some, subst, sym, ap, ◌∙◌, refl, arith}, specs.Prelude.{Contains, slice_get, if◌then◌else◌}, specs.Cmp.Lexicographic.{bytes_decides}, specs.Str.{bytes_eq}, proofs.lemmas.Bool.{cases_lt, false≢true}, proofs.lemmas.List.{append-nil, get_or_default, get_or-take, length-take, take_all, take_more}, proofs.lemmas.List.Elements.{Contains-append_left, Contains-push, Contains-push_cases}, proofs.lemmas.Option.{slice_get_within}}
+use Rattle.plan_differences.{specs.DifferenceLines.{fact_text, thing_text, thing_words}, specs.Facts.{FactValue}, specs.Indexes.{AreOfWords, IsNotedIf, IsOfWords, IsOnlyWith, Says}, specs.Listed.{AreJust}, specs.Things.{ThingValue, thing_of}, specs.Differences.{AreOnlyOf, IsOnlyOf}, proofs.Items.{contained_at, contains_none, item_same, told_join, told_none, told_one}}
 
 -- just those numbers of a part that are so, in ascending order
 abbrev pub AreAscending : (Is IsOf : ℕ → Type 0) → List ℕ → Type 0

@@ -1,10 +1,5 @@
 -- Items of lists, and lists of just what is so.
-use Rattle.std.proofs.Common.{◌≡◌, ◌⊎◌, inl, inr, ◌<◌, ◌≤◌, ℕ, suc, ◌+◌, List, [], ◌∷◌, ◌++◌, length, map, take, get_or, Some, subst, sym, ap, ◌∙◌, refl, arith}
-use Rattle.std.specs.Prelude.{AllPairs, Contains, slice_get, option_map}
-use Rattle.std.proofs.lemmas.List.{append-nil, append_assoc, get_or_default, get_or-map, length-map, map_more, take_all}
-use Rattle.std.proofs.lemmas.List.Elements.{Contains-append_left, Contains-append_right, Contains-append_cases, Contains-get_or, Contains-push_cases}
-use Rattle.std.proofs.lemmas.List.Quantifiers.{all_pairs_push}
-use Rattle.std.proofs.lemmas.Option.{slice_get_read, slice_get_within, slice_get-map}
+use Rattle.std.{proofs.Common.{◌≡◌, ◌⊎◌, inl, inr, ◌<◌, ◌≤◌, ℕ, suc, ◌+◌, List, [], ◌∷◌, ◌++◌, length, map, take, get_or, Some, subst, sym, ap, ◌∙◌, refl, arith}, specs.Prelude.{AllPairs, Contains, slice_get, option_map}, proofs.lemmas.List.{append-nil, append_assoc, get_or_default, get_or-map, length-map, map_more, take_all}, proofs.lemmas.List.Elements.{Contains-append_left, Contains-append_right, Contains-append_cases, Contains-get_or, Contains-push_cases}, proofs.lemmas.List.Quantifiers.{all_pairs_push}, proofs.lemmas.Option.{slice_get_read, slice_get_within, slice_get-map}}
 use Rattle.plan_differences.specs.Listed.{AreJust}
 
 -- ---- items of lists

@@ -1,23 +1,11 @@
 -- Ways between nodes of two plans whose hops differ.
-use Rattle.std.proofs.Common.{◌≡◌, ◌≢◌, ◌⊎◌, inl, inr, ◌<◌, ◌≤◌, ℕ, ◌+◌, List, [], ◌∷◌, ◌++◌, length, Option, Some, None, option_map, subst, sym, ap, ◌∙◌, refl, arith}
-use Rattle.std.specs.Prelude.{MatchOption, slice_get, string_bytes}
-use Rattle.std.proofs.lemmas.Bool.{cases_lt}
-use Rattle.std.proofs.lemmas.List.{append-nil}
-use Rattle.std.proofs.lemmas.Option.{same_Some, slice_get_past}
-use Rattle.plan_values.specs.declared.certificate.Certificate.{Certificate}
-use Rattle.plan_values.specs.declared.nodes.Node.{Node}
-use Rattle.plan_values.specs.declared.plan.Plan.{Plan}
-use Rattle.net_rules.specs.Names.{name_of}
-use Rattle.net_rules.specs.Rules.{Accepts}
-use Rattle.net_questions.specs.declared.way.End.TheVariants.{Arrives}
-use Rattle.net_questions.specs.Ways.{ArrivesAfter}
-use Rattle.net_questions.proofs.WayLaws.{ways_are_alone}
+use Rattle.std.{proofs.Common.{◌≡◌, ◌≢◌, ◌⊎◌, inl, inr, ◌<◌, ◌≤◌, ℕ, ◌+◌, List, [], ◌∷◌, ◌++◌, length, Option, Some, None, option_map, subst, sym, ap, ◌∙◌, refl, arith}, specs.Prelude.{MatchOption, slice_get, string_bytes}, proofs.lemmas.Bool.{cases_lt}, proofs.lemmas.List.{append-nil}, proofs.lemmas.Option.{same_Some, slice_get_past}}
+use Rattle.plan_values.{specs.declared.certificate.Certificate.{Certificate}, specs.declared.nodes.Node.{Node}, specs.declared.plan.Plan.{Plan}}
+use Rattle.net_rules.{specs.Names.{name_of}, specs.Rules.{Accepts}}
+use Rattle.net_questions.{specs.declared.way.End.TheVariants.{Arrives}, specs.Ways.{ArrivesAfter}, proofs.WayLaws.{ways_are_alone}}
 use Rattle.net_reached.specs.Wishes.{ComesTo}
 use Rattle.command_answers.specs.Naming.{IsFirstNamed}
-use Rattle.plan_differences.specs.declared.ways.OtherWay.{OtherWay}
-use Rattle.plan_differences.specs.Listed.{AreJust}
-use Rattle.plan_differences.specs.WayDifferences.{AreOtherWays, AreWaysBefore, AreWaysFrom, IsFrom, IsHops, IsNoOtherBetween, IsOneNode, IsOtherBetween, IsOtherWay, LeadsBefore, found_way}
-use Rattle.plan_differences.proofs.Items.{told_join, told_one}
+use Rattle.plan_differences.{specs.declared.ways.OtherWay.{OtherWay}, specs.Listed.{AreJust}, specs.WayDifferences.{AreOtherWays, AreWaysBefore, AreWaysFrom, IsFrom, IsHops, IsNoOtherBetween, IsOneNode, IsOtherBetween, IsOtherWay, LeadsBefore, found_way}, proofs.Items.{told_join, told_one}}
 
 -- ---- what is so in one way alone
 

@@ -1,17 +1,6 @@
 -- What is told of parts of two plans' facts.
-use Rattle.std.proofs.Common.{◌≡◌, ◌⊎◌, inl, inr, ◌<◌, ℕ, ◌+◌, List, [], ◌∷◌, ◌++◌, length, map, get_or, Some, subst, sym, ap, ◌∙◌, refl, arith}
-use Rattle.std.specs.Prelude.{Contains, slice_get, Result, Ok, Err, IfOk, Vec}
-use Rattle.std.specs.declared.alloc.AllocError.{AllocError}
-use Rattle.std.specs.declared.alloc.Global.{Global}
-use Rattle.std.proofs.lemmas.Bool.{cases_lt}
-use Rattle.std.proofs.lemmas.List.Elements.{Contains-get_or}
-use Rattle.std.proofs.lemmas.Option.{slice_get_within}
-use Rattle.plan_differences.specs.declared.difference.Difference.{Difference}
-use Rattle.plan_differences.specs.declared.difference.Difference.TheVariants.{Removed, Changed, Added}
-use Rattle.plan_differences.specs.Facts.{FactValue}
-use Rattle.plan_differences.specs.Things.{ThingValue, thing_of}
-use Rattle.plan_differences.specs.Differences.{AreDifferences, AreOnlyOf, AreToldIn, HasOnlyIn, IsAfter, IsAlone, IsBefore, IsDifference, IsOfNew, IsOfOld, IsOnlyOf, StandsBefore}
-use Rattle.plan_differences.proofs.Items.{contained_at, contains_at, contains_none, contains_map, item_same, map_contains, pairs_map, told_join, told_none, told_one}
+use Rattle.std.{proofs.Common.{◌≡◌, ◌⊎◌, inl, inr, ◌<◌, ℕ, ◌+◌, List, [], ◌∷◌, ◌++◌, length, map, get_or, Some, subst, sym, ap, ◌∙◌, refl, arith}, specs.Prelude.{Contains, slice_get, Result, Ok, Err, IfOk, Vec}, specs.declared.alloc.AllocError.{AllocError}, specs.declared.alloc.Global.{Global}, proofs.lemmas.Bool.{cases_lt}, proofs.lemmas.List.Elements.{Contains-get_or}, proofs.lemmas.Option.{slice_get_within}}
+use Rattle.plan_differences.{specs.declared.difference.Difference.{Difference}, specs.declared.difference.Difference.TheVariants.{Removed, Changed, Added}, specs.Facts.{FactValue}, specs.Things.{ThingValue, thing_of}, specs.Differences.{AreDifferences, AreOnlyOf, AreToldIn, HasOnlyIn, IsAfter, IsAlone, IsBefore, IsDifference, IsOfNew, IsOfOld, IsOnlyOf, StandsBefore}, proofs.Items.{contained_at, contains_at, contains_none, contains_map, item_same, map_contains, pairs_map, told_join, told_none, told_one}}
 
 -- ---- facts of the old plan
 

@@ -1,11 +1,7 @@
 -- The facts of one port more.
-use Rattle.std.proofs.Common.{◌≡◌, ◌<◌, ◌+◌, ℕ, suc, List, [], ◌∷◌, ◌++◌, length, map, take, get_or, ap, sym, ◌∙◌, arith}
-use Rattle.std.proofs.Math.Seq.{take-suc}
-use Rattle.std.proofs.lemmas.List.{length-take, map-append}
-use Rattle.plan_values.specs.declared.nodes.Port.{Port}
-use Rattle.plan_values.specs.declared.plan.Plan.{Plan}
-use Rattle.plan_differences.specs.declared.fact.Fact.{Fact}
-use Rattle.plan_differences.specs.Facts.{fact_value, port_fact, port_facts}
+use Rattle.std.{proofs.Common.{◌≡◌, ◌<◌, ◌+◌, ℕ, suc, List, [], ◌∷◌, ◌++◌, length, map, take, get_or, ap, sym, ◌∙◌, arith}, proofs.Math.Seq.{take-suc}, proofs.lemmas.List.{length-take, map-append}}
+use Rattle.plan_values.{specs.declared.nodes.Port.{Port}, specs.declared.plan.Plan.{Plan}}
+use Rattle.plan_differences.{specs.declared.fact.Fact.{Fact}, specs.Facts.{fact_value, port_fact, port_facts}}
 
 port_more : (plan : Plan) (name : List ℕ) (index : ℕ) (ports : List Port) (p : Port)
     → port_facts plan name index (ports ++ p ∷ []) ≡ port_facts plan name index ports ++ port_fact plan name (index + length ports) p ∷ []

@@ -1,21 +1,10 @@
 -- What is told of a change from one plan to another.
-use Rattle.std.specs.Prelude.{◌≡◌, ◌⊎◌, ℕ, List, [], ◌∷◌, ◌++◌, Some, codes, string_bytes}
-use Rattle.std.specs.List.{flat_map}
+use Rattle.std.{specs.Prelude.{◌≡◌, ◌⊎◌, ℕ, List, [], ◌∷◌, ◌++◌, Some, codes, string_bytes}, specs.List.{flat_map}}
 use Rattle.plan_values.specs.declared.plan.Plan.{Plan}
-use Rattle.net_rules.specs.Rules.{Accepts}
-use Rattle.net_rules.specs.declared.certify_error.CertifyError.{CertifyError}
-use Rattle.net_rollout.specs.declared.change.Rollout.{Rollout}
-use Rattle.net_rollout.specs.Steps.{HasCertificate, IsRollout}
+use Rattle.net_rules.{specs.Rules.{Accepts}, specs.declared.certify_error.CertifyError.{CertifyError}}
+use Rattle.net_rollout.{specs.declared.change.Rollout.{Rollout}, specs.Steps.{HasCertificate, IsRollout}}
 use Rattle.command_answers.specs.Certifying.{IsRuledOutBy}
-use Rattle.plan_differences.specs.declared.difference.Difference.{Difference}
-use Rattle.plan_differences.specs.declared.told.Standing.{Standing}
-use Rattle.plan_differences.specs.declared.told.Standing.TheVariants.{Certified, RuledOut}
-use Rattle.plan_differences.specs.declared.ways.OtherWay.{OtherWay}
-use Rattle.plan_differences.specs.Facts.{FactValue, plan_facts}
-use Rattle.plan_differences.specs.Differences.{AreDifferences}
-use Rattle.plan_differences.specs.DifferenceLines.{difference_text}
-use Rattle.plan_differences.specs.WayDifferences.{AreOtherWays}
-use Rattle.plan_differences.specs.WayLines.{need_text, way_text}
+use Rattle.plan_differences.{specs.declared.difference.Difference.{Difference}, specs.declared.told.Standing.{Standing}, specs.declared.told.Standing.TheVariants.{Certified, RuledOut}, specs.declared.ways.OtherWay.{OtherWay}, specs.Facts.{FactValue, plan_facts}, specs.Differences.{AreDifferences}, specs.DifferenceLines.{difference_text}, specs.WayDifferences.{AreOtherWays}, specs.WayLines.{need_text, way_text}}
 
 -- a line for each difference; where there is none, and the facts aren't the same, they stand in another order
 abbrev pub facts_text : List FactValue → List FactValue → List Difference → List ℕ

@@ -1,12 +1,8 @@
 -- The lines that tell how two plans differ.
-use Rattle.std.specs.Prelude.{ℕ, List, [], ◌++◌, Option, Some, None, codes, option_map, slice_get, unwrap_or}
-use Rattle.std.specs.Fmt.{decimal}
+use Rattle.std.{specs.Prelude.{ℕ, List, [], ◌++◌, Option, Some, None, codes, option_map, slice_get, unwrap_or}, specs.Fmt.{decimal}}
 use Rattle.hex.specs.Hex.{encode_lower}
 use Rattle.net_tables.specs.Names.{kind_word}
-use Rattle.plan_differences.specs.declared.difference.Difference.{Difference}
-use Rattle.plan_differences.specs.declared.difference.Difference.TheVariants.{Removed, Changed, Added}
-use Rattle.plan_differences.specs.Facts.{FactValue, unit, bus, node, pool, port, row, terminus, record_of}
-use Rattle.plan_differences.specs.Things.{ThingValue, thing_of}
+use Rattle.plan_differences.{specs.declared.difference.Difference.{Difference}, specs.declared.difference.Difference.TheVariants.{Removed, Changed, Added}, specs.Facts.{FactValue, unit, bus, node, pool, port, row, terminus, record_of}, specs.Things.{ThingValue, thing_of}}
 use Rattle.plan_texts.specs.LineParts.{address_text}
 
 -- the words for a thing

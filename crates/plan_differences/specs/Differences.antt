@@ -1,10 +1,6 @@
 -- How the facts of two plans differ.
 use Rattle.std.specs.Prelude.{◌≡◌, ◌⊎◌, ℕ, ◌<◌, List, Some, slice_get, Contains, ⊤}
-use Rattle.plan_differences.specs.declared.difference.Difference.{Difference}
-use Rattle.plan_differences.specs.declared.difference.Difference.TheVariants.{Removed, Changed, Added}
-use Rattle.plan_differences.specs.Listed.{AreJust}
-use Rattle.plan_differences.specs.Facts.{FactValue}
-use Rattle.plan_differences.specs.Things.{ThingValue, thing_of}
+use Rattle.plan_differences.{specs.declared.difference.Difference.{Difference}, specs.declared.difference.Difference.TheVariants.{Removed, Changed, Added}, specs.Listed.{AreJust}, specs.Facts.{FactValue}, specs.Things.{ThingValue, thing_of}}
 
 -- some fact of these is of the thing, and isn't one of those
 abbrev pub HasOnlyIn : List FactValue → List FactValue → ThingValue → Type 0

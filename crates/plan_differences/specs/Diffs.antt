@@ -1,11 +1,9 @@
 -- What `diff` prints of two plans.
 use Rattle.std.specs.Prelude.{◌≡◌, ◌≢◌, ℕ, List, []}
 use Rattle.plan_values.specs.declared.plan.Plan.{Plan}
-use Rattle.command_answers.specs.declared.status.Status.{Status}
+use Rattle.command_answers.{specs.declared.status.Status.{Status}, specs.Answers.{Stream, GavePlan}}
+use Rattle.plan_differences.{specs.Facts.{plan_facts}, specs.Changes.{AreChangesTold}}
 use Rattle.command_answers.specs.declared.status.Status.TheVariants as status
-use Rattle.command_answers.specs.Answers.{Stream, GavePlan}
-use Rattle.plan_differences.specs.Facts.{plan_facts}
-use Rattle.plan_differences.specs.Changes.{AreChangesTold}
 
 -- The text answers for the plans, in a run that ends so: it is empty where they say the same in the same order, and it
 -- tells what differs where they don't.

@@ -1,9 +1,6 @@
 -- The facts of a plan with their index.
-use Rattle.std.specs.Prelude.{ℕ, String, Vec, map}
-use Rattle.std.specs.BTreeMap.{BTreeMap}
-use Rattle.plan_differences.specs.Facts.{fact_value}
-use Rattle.plan_differences.specs.Indexes.{IsIndexOf, IsOnlyWith, Says}
-use Rattle.plan_differences.specs.declared.index.IndexedFacts.{IndexedFacts}
+use Rattle.std.{specs.Prelude.{ℕ, String, Vec, map}, specs.BTreeMap.{BTreeMap}}
+use Rattle.plan_differences.{specs.Facts.{fact_value}, specs.Indexes.{IsIndexOf, IsOnlyWith, Says}, specs.declared.index.IndexedFacts.{IndexedFacts}}
 
 -- the places are those of the facts, by all that they say
 abbrev pub IsIndexed : IndexedFacts → Type 0

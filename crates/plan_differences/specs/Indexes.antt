@@ -1,11 +1,6 @@
 -- Where facts stand, by words.
-use Rattle.std.specs.Prelude.{◌≡◌, ◌⊎◌, ℕ, ◌<◌, List, [], ◌∷◌, ◌++◌, Contains, Some, slice_get}
-use Rattle.std.specs.Prelude.{String, Vec}
-use Rattle.std.specs.Option.{option_map_or}
-use Rattle.std.specs.BTreeMap.{BTreeMap, get_by_text}
-use Rattle.plan_differences.specs.DifferenceLines.{fact_text, thing_text}
-use Rattle.plan_differences.specs.Facts.{FactValue}
-use Rattle.plan_differences.specs.Listed.{AreJust}
+use Rattle.std.{specs.Prelude.{◌≡◌, ◌⊎◌, ℕ, ◌<◌, List, [], ◌∷◌, ◌++◌, Contains, Some, slice_get, String, Vec}, specs.Option.{option_map_or}, specs.BTreeMap.{BTreeMap, get_by_text}}
+use Rattle.plan_differences.{specs.DifferenceLines.{fact_text, thing_text}, specs.Facts.{FactValue}, specs.Listed.{AreJust}}
 
 -- these words say all that the fact says
 abbrev pub Says : List ℕ → FactValue → Type 0

@@ -1,8 +1,7 @@
 -- What facts are about.
 use Rattle.std.specs.Prelude.{ℕ, List}
-use Rattle.plan_differences.specs.declared.fact.Thing.{Thing}
+use Rattle.plan_differences.{specs.declared.fact.Thing.{Thing}, specs.Facts.{FactValue}}
 use Rattle.plan_differences.specs.declared.fact.Thing.TheVariants as thing
-use Rattle.plan_differences.specs.Facts.{FactValue}
 
 -- what a fact is about, in plain lists and numbers
 pub data ThingValue : Type 0 where

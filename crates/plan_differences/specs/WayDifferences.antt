@@ -4,8 +4,7 @@ use Rattle.plan_values.specs.declared.plan.Plan.{Plan}
 use Rattle.net_rules.specs.Names.{name_of}
 use Rattle.net_reached.specs.Wishes.{ComesTo, ReachesNode}
 use Rattle.command_answers.specs.Naming.{IsFirstNamed}
-use Rattle.plan_differences.specs.declared.ways.OtherWay.{OtherWay}
-use Rattle.plan_differences.specs.Listed.{AreJust}
+use Rattle.plan_differences.{specs.declared.ways.OtherWay.{OtherWay}, specs.Listed.{AreJust}}
 
 -- node n of the old plan has the name of node m of the new one, the first of that name
 abbrev pub IsOneNode : Plan → Plan → ℕ → ℕ → Type 0

@@ -1,12 +1,11 @@
 -- The lines that tell what becomes of ways, and what a roll-out needs.
-use Rattle.std.specs.Prelude.{ℕ, ◌+◌, List, ◌++◌, Option, Some, None, codes, length, option_map}
-use Rattle.std.specs.Fmt.{decimal}
+use Rattle.std.{specs.Prelude.{ℕ, ◌+◌, List, ◌++◌, Option, Some, None, codes, length, option_map}, specs.Fmt.{decimal}}
 use Rattle.plan_values.specs.declared.plan.Plan.{Plan}
 use Rattle.net_tables.specs.Names.{node_name}
 use Rattle.net_rollout.specs.declared.change.Rollout.{Rollout}
-use Rattle.net_rollout.specs.declared.change.Rollout.TheVariants as way
 use Rattle.plan_texts.specs.MoveLines.{move_obstacle_text}
 use Rattle.plan_differences.specs.declared.ways.OtherWay.{OtherWay}
+use Rattle.net_rollout.specs.declared.change.Rollout.TheVariants as way
 
 -- the names of two nodes
 abbrev pub ends_text : Plan → ℕ → ℕ → List ℕ

@@ -1,10 +1,6 @@
 //! How the facts of two plans differ.
 ghost use Rattle.std.specs.Prelude.{◌≡◌, ◌<◌, IfOk, length, map};
-ghost use Rattle.plan_differences.specs.Facts.{fact_value};
-ghost use Rattle.plan_differences.specs.Indexed.{IsIndexed, IsOnlyIndex};
-ghost use Rattle.plan_differences.specs.Things.{thing_of};
-ghost use Rattle.plan_differences.specs.Differences.{AreDifferences, AreOnlyOf, AreToldIn, IsAfter, IsBefore, IsDifference, IsOfNew, IsOfOld};
-ghost use Rattle.plan_differences.specs.declared.difference.Difference.TheVariants.{Changed};
+ghost use Rattle.plan_differences.{specs.Facts.{fact_value}, specs.Indexed.{IsIndexed, IsOnlyIndex}, specs.Things.{thing_of}, specs.Differences.{AreDifferences, AreOnlyOf, AreToldIn, IsAfter, IsBefore, IsDifference, IsOfNew, IsOfOld}, specs.declared.difference.Difference.TheVariants.{Changed}};
 
 use crate::fact::{Fact, are_of_one};
 use crate::index::{IndexedFacts, Places, contains, fact_at, only_places, places_of};

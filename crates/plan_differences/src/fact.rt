@@ -1,7 +1,6 @@
 //! What a plan says of one thing.
 ghost use Rattle.std.specs.Prelude.{◌≡◌, ◌↔◌, IsTrue};
-ghost use Rattle.plan_differences.specs.Facts.{fact_value};
-ghost use Rattle.plan_differences.specs.Things.{thing_of, thing_value};
+ghost use Rattle.plan_differences.{specs.Facts.{fact_value}, specs.Things.{thing_of, thing_value}};
 
 use mctp_transport::Eid;
 use plan_values::{Kind, Pool};

@@ -1,6 +1,5 @@
 //! What a plan says, thing by thing.
-ghost use Rattle.std.specs.Prelude.{◌≡◌, IfOk, map, option_map};
-ghost use Rattle.std.specs.List.{flat_map};
+ghost use Rattle.std.{specs.Prelude.{◌≡◌, IfOk, map, option_map}, specs.List.{flat_map}};
 ghost use Rattle.net_tables.specs.Names.{bus_name, node_name};
 ghost use Rattle.plan_differences.specs.Facts.{fact_value, bus_fact, facts_of_node, node_fact, plan_facts, pool_facts, port_fact, port_facts, record_fact, row_fact, terminus_facts};
 

@@ -1,10 +1,6 @@
 //! Where the facts of a plan stand, by words.
-ghost use Rattle.std.specs.Prelude.{◌≡◌, ◌<◌, ◌↔◌, ◌++◌, ◌∷◌, [], ℕ, Contains, IfOk, IsTrue, List, OnOk, Some, length, map, slice_get, string_bytes, if◌then◌else◌};
-ghost use Rattle.std.specs.Str.{bytes_eq};
-ghost use Rattle.plan_differences.specs.DifferenceLines.{fact_text};
-ghost use Rattle.plan_differences.specs.Facts.{fact_value};
-ghost use Rattle.plan_differences.specs.Indexed.{IsIndexed};
-ghost use Rattle.plan_differences.specs.Indexes.{IsIndexOf, IsNotedIf, IsOnlyWith, Says, places_at};
+ghost use Rattle.std.{specs.Prelude.{◌≡◌, ◌<◌, ◌↔◌, ◌++◌, ◌∷◌, [], ℕ, Contains, IfOk, IsTrue, List, OnOk, Some, length, map, slice_get, string_bytes, if◌then◌else◌}, specs.Str.{bytes_eq}};
+ghost use Rattle.plan_differences.{specs.DifferenceLines.{fact_text}, specs.Facts.{fact_value}, specs.Indexed.{IsIndexed}, specs.Indexes.{IsIndexOf, IsNotedIf, IsOnlyWith, Says, places_at}};
 
 use crate::fact::{Fact, is_same};
 use crate::lines::{fact_text, thing_text};

@@ -1,9 +1,6 @@
 //! The lines that tell how two plans differ.
-ghost use Rattle.std.specs.Prelude.{◌≡◌, IfOk, map, option_map, string_bytes};
-ghost use Rattle.std.specs.List.{flat_map};
-ghost use Rattle.plan_differences.specs.Facts.{fact_value};
-ghost use Rattle.plan_differences.specs.DifferenceLines.{difference_text, fact_text, name_or_dash, said_at, said_text, thing_at, thing_text, thing_words};
-ghost use Rattle.plan_differences.specs.Things.{thing_value};
+ghost use Rattle.std.{specs.Prelude.{◌≡◌, IfOk, map, option_map, string_bytes}, specs.List.{flat_map}};
+ghost use Rattle.plan_differences.{specs.Facts.{fact_value}, specs.DifferenceLines.{difference_text, fact_text, name_or_dash, said_at, said_text, thing_at, thing_text, thing_words}, specs.Things.{thing_value}};
 
 use crate::difference::Difference;
 use crate::fact::{Fact, Thing};

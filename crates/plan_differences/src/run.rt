@@ -1,10 +1,7 @@
 //! The command `diff`: what a change of plans does.
-ghost use Rattle.std.specs.Prelude.{◌≡◌, IfOk, IfErr};
-ghost use Rattle.std.specs.Cow.{cow_str_bytes};
+ghost use Rattle.std.{specs.Prelude.{◌≡◌, IfOk, IfErr}, specs.Cow.{cow_str_bytes}};
 ghost use Rattle.net_plan.specs.Stream.{HasRoom};
-ghost use Rattle.command_answers.specs.Answers.{stream, IsWithoutPlan};
-ghost use Rattle.command_answers.specs.Moves.{ArePlansUnread};
-ghost use Rattle.command_answers.specs.Told.{Concludes};
+ghost use Rattle.command_answers.{specs.Answers.{stream, IsWithoutPlan}, specs.Moves.{ArePlansUnread}, specs.Told.{Concludes}};
 ghost use Rattle.plan_differences.specs.Diffs.{Diffs, DiffsSo};
 
 use crate::told::changes_told;

@@ -1,9 +1,7 @@
 //! What a change of plans does.
 ghost use Rattle.std.specs.Prelude.{◌≡◌, ◌≢◌, ◌↔◌, IfOk, IsTrue, MatchOption, codes, map, string_bytes};
-ghost use Rattle.net_rules.specs.Certificates.{NamesObstacle, RulesOutCertificates};
-ghost use Rattle.net_rules.specs.Rules.{Accepts};
-ghost use Rattle.plan_differences.specs.Facts.{fact_value, plan_facts};
-ghost use Rattle.plan_differences.specs.Changes.{AreChangesTold, AreConsequencesTold, AreFactsTold, AreWaysTold, IsRuledOut, IsStanding, reason_of};
+ghost use Rattle.net_rules.{specs.Certificates.{NamesObstacle, RulesOutCertificates}, specs.Rules.{Accepts}};
+ghost use Rattle.plan_differences.{specs.Facts.{fact_value, plan_facts}, specs.Changes.{AreChangesTold, AreConsequencesTold, AreFactsTold, AreWaysTold, IsRuledOut, IsStanding, reason_of}};
 
 use crate::difference::differences;
 use crate::fact::{Fact, is_same};

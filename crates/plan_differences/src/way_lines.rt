@@ -1,6 +1,5 @@
 //! The lines that tell what becomes of ways and certificates, and what a roll-out needs.
-ghost use Rattle.std.specs.Prelude.{◌≡◌, Some, None, IfOk, string_bytes};
-ghost use Rattle.std.specs.List.{flat_map};
+ghost use Rattle.std.{specs.Prelude.{◌≡◌, Some, None, IfOk, string_bytes}, specs.List.{flat_map}};
 ghost use Rattle.net_tables.specs.Names.{node_name};
 ghost use Rattle.plan_differences.specs.WayLines.{hops_line, need_text, way_text};
 

@@ -1,18 +1,8 @@
 -- A bridge that is asked for its table tells all of it, in as many answers as it takes.
-use Rattle.std.proofs.Common.{◌≡◌, ℕ, ◌+◌, ◌-◌, ◌<◌, List, [], ◌∷◌, ◌++◌, length, slice_index, map, drop, Option, None, Some, refl, sym, ap, subst, ◌∙◌, inl, inr, arith}
-use Rattle.std.specs.Prelude.{◌⊎◌, All}
-use Rattle.std.proofs.lemmas.Bool.{cases_lt}
-use Rattle.std.proofs.lemmas.List.{length-take-le, map-append}
-use Rattle.std.proofs.lemmas.List.Elements.{All-push}
+use Rattle.std.{proofs.Common.{◌≡◌, ℕ, ◌+◌, ◌-◌, ◌<◌, List, [], ◌∷◌, ◌++◌, length, slice_index, map, drop, Option, None, Some, refl, sym, ap, subst, ◌∙◌, inl, inr, arith}, specs.Prelude.{◌⊎◌, All}, proofs.lemmas.Bool.{cases_lt}, proofs.lemmas.List.{length-take-le, map-append}, proofs.lemmas.List.Elements.{All-push}}
 use Rattle.mctp_transport.specs.declared.device_kind.DeviceKind.TheVariants.{Bridge}
-use Rattle.mctp_control.specs.RouteEntries.{EntryValue}
-use Rattle.mctp_control.specs.EntryLists.{entries_bytes}
-use Rattle.mctp_control.specs.Devices.{DeviceValue}
-use Rattle.mctp_control.specs.Replies.{Replies, reply_bytes}
-use Rattle.mctp_bridge.specs.Readers.{asking, handle_after}
-use Rattle.mctp_bridge.specs.Reads.{Exchange, AreShort, IsTablePart, Reads, due_after}
-use Rattle.mctp_bridge.proofs.Readings.{goes_on, next_before, next_last, some_entry, ends_within, due_pushed, reads_pushed}
-use Rattle.mctp_bridge.proofs.Replying.{request, tells_table, asks, spells, exchange, part_of}
+use Rattle.mctp_control.{specs.RouteEntries.{EntryValue}, specs.EntryLists.{entries_bytes}, specs.Devices.{DeviceValue}, specs.Replies.{Replies, reply_bytes}}
+use Rattle.mctp_bridge.{specs.Readers.{asking, handle_after}, specs.Reads.{Exchange, AreShort, IsTablePart, Reads, due_after}, proofs.Readings.{goes_on, next_before, next_last, some_entry, ends_within, due_pushed, reads_pushed}, proofs.Replying.{request, tells_table, asks, spells, exchange, part_of}}
 use Rattle.plan_exports.specs.TableAnswers.{message_of, GivesAnswer, IsAnswer}
 
 abbrev pub IsKnown : List EntryValue → ℕ → Type 0

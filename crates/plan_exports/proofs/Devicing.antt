@@ -1,13 +1,8 @@
 -- The devices of buses, one after another, and the links that were looked at.
-use Rattle.std.proofs.Common.{◌≡◌, ℕ, ◌+◌, ◌<◌, ◌≤◌, Bool, true, false, List, [], ◌∷◌, ◌++◌, length, get_or, take, Some, refl, sym, ap, ◌∙◌, subst, inl, inr, arith}
-use Rattle.std.specs.Prelude.{◌≢◌, All, MatchBool, slice_get}
-use Rattle.std.proofs.lemmas.List.{take_more, take_all, length_push}
-use Rattle.std.proofs.lemmas.List.Elements.{All-push}
-use Rattle.std.proofs.lemmas.Option.{slice_get-get_or}
+use Rattle.std.{proofs.Common.{◌≡◌, ℕ, ◌+◌, ◌<◌, ◌≤◌, Bool, true, false, List, [], ◌∷◌, ◌++◌, length, get_or, take, Some, refl, sym, ap, ◌∙◌, subst, inl, inr, arith}, specs.Prelude.{◌≢◌, All, MatchBool, slice_get}, proofs.lemmas.List.{take_more, take_all, length_push}, proofs.lemmas.List.Elements.{All-push}, proofs.lemmas.Option.{slice_get-get_or}}
 use Rattle.plan_values.specs.declared.plan.Plan.{Plan}
 use Rattle.net_tables.proofs.Elements.{in_push}
-use Rattle.plan_exports.specs.Devices.{IsDeviceOf, IsLinked}
-use Rattle.plan_exports.specs.declared.links.Link.{Link}
+use Rattle.plan_exports.{specs.Devices.{IsDeviceOf, IsLinked}, specs.declared.links.Link.{Link}}
 
 abbrev pub IsOther : List ℕ → Link → Type 0
 IsOther name link = link.bus.now ≢ name

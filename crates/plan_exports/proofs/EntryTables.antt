@@ -1,34 +1,13 @@
 -- The entries of a planned bridge: at most as many as there are endpoint IDs, each with a short address.
-use Rattle.std.proofs.Common.{rules, ◌≡◌, ℕ, suc, ◌+◌, ◌<◌, ◌≤◌, ◌==◌, Bool, true, false, List, [], ◌∷◌, length, get_or, map, Option, None, Some, refl, sym, ap, subst, ◌∙◌, inl, inr, arith, length-append}
-use Rattle.std.specs.Prelude.{◌⊎◌, All, find, slice_get, option_map, unwrap_or}
-use Rattle.std.specs.List.{zip}
-use Rattle.std.proofs.lemmas.Bool.{cases_lt, ltb-true}
-use Rattle.std.proofs.lemmas.List.{get_or-map, length-map}
-use Rattle.std.proofs.lemmas.List.Concat.{flat_map-cons}
-use Rattle.std.proofs.lemmas.List.Elements.{All-append, All-cons, All-map, All-nil, All-tail}
-use Rattle.std.proofs.lemmas.List.Sorted.{All-permutation}
-use Rattle.std.proofs.lemmas.Option.{slice_get_within, slice_get-get_or}
-use Rattle.mctp_transport.specs.declared.device_kind.DeviceKind.{DeviceKind}
-use Rattle.mctp_transport.specs.declared.device_kind.DeviceKind.TheVariants.{Bridge, Endpoint}
-use Rattle.mctp_routing.specs.declared.row.TableRow.{TableRow}
-use Rattle.mctp_routing.specs.Rows.{IsTable, IsLawful}
-use Rattle.mctp_bridge.specs.Entries.{row_entries, entries_to, bridge_entries, table_entries, lies_later, own_entry, entry_before, run_entry}
-use Rattle.mctp_control.specs.declared.route_entry.EntryKind.TheVariants as kind
+use Rattle.std.{proofs.Common.{rules, ◌≡◌, ℕ, suc, ◌+◌, ◌<◌, ◌≤◌, ◌==◌, Bool, true, false, List, [], ◌∷◌, length, get_or, map, Option, None, Some, refl, sym, ap, subst, ◌∙◌, inl, inr, arith, length-append}, specs.Prelude.{◌⊎◌, All, find, slice_get, option_map, unwrap_or}, specs.List.{zip}, proofs.lemmas.Bool.{cases_lt, ltb-true}, proofs.lemmas.List.{get_or-map, length-map}, proofs.lemmas.List.Concat.{flat_map-cons}, proofs.lemmas.List.Elements.{All-append, All-cons, All-map, All-nil, All-tail}, proofs.lemmas.List.Sorted.{All-permutation}, proofs.lemmas.Option.{slice_get_within, slice_get-get_or}}
+use Rattle.mctp_transport.{specs.declared.device_kind.DeviceKind.{DeviceKind}, specs.declared.device_kind.DeviceKind.TheVariants.{Bridge, Endpoint}}
+use Rattle.mctp_routing.{specs.declared.row.TableRow.{TableRow}, specs.Rows.{IsTable, IsLawful}}
+use Rattle.mctp_bridge.{specs.Entries.{row_entries, entries_to, bridge_entries, table_entries, lies_later, own_entry, entry_before, run_entry}, specs.declared.routing_entries.Neighbor.{Neighbor}, specs.Reads.{AreShort}}
 use Rattle.mctp_control.specs.RouteEntries.{EntryValue}
-use Rattle.mctp_bridge.specs.declared.routing_entries.Neighbor.{Neighbor}
-use Rattle.plan_values.specs.declared.nodes.Node.{Node}
-use Rattle.plan_values.specs.declared.nodes.Port.{Port}
-use Rattle.plan_values.specs.declared.nodes.Row.{Row}
-use Rattle.plan_values.specs.declared.plan.Plan.{Plan}
-use Rattle.net_tables.specs.Routing.{rows_of, ports_of, node_at}
-use Rattle.net_tables.specs.Rows.{NamesNeighbor, IsJoined, bus_of}
-use Rattle.net_tables.specs.Tables.{table_row}
-use Rattle.net_tables.proofs.Elements.{element}
-use Rattle.plan_exports.specs.Neighbors.{neighbor_value, neighbor_of}
-use Rattle.net_tables.specs.Names.{address_on}
-use Rattle.plan_exports.specs.PlannedTables.{IsPlannedTable, HasLawfulRows}
-use Rattle.mctp_bridge.specs.Reads.{AreShort}
-use Rattle.plan_values.proofs.Placed.{both}
+use Rattle.plan_values.{specs.declared.nodes.Node.{Node}, specs.declared.nodes.Port.{Port}, specs.declared.nodes.Row.{Row}, specs.declared.plan.Plan.{Plan}, proofs.Placed.{both}}
+use Rattle.net_tables.{specs.Routing.{rows_of, ports_of, node_at}, specs.Rows.{NamesNeighbor, IsJoined, bus_of}, specs.Tables.{table_row}, proofs.Elements.{element}, specs.Names.{address_on}}
+use Rattle.plan_exports.{specs.Neighbors.{neighbor_value, neighbor_of}, specs.PlannedTables.{IsPlannedTable, HasLawfulRows}}
+use Rattle.mctp_control.specs.declared.route_entry.EntryKind.TheVariants as kind
 
 -- ---- how many entries
 

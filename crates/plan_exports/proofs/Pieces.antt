@@ -1,6 +1,5 @@
 -- Texts of which each piece is what it should be.
-use Rattle.std.proofs.Common.{◌≡◌, ℕ, List, ◌++◌, ap, subst, ◌∙◌}
-use Rattle.std.specs.Prelude.{IfOk, Result}
+use Rattle.std.{proofs.Common.{◌≡◌, ℕ, List, ◌++◌, ap, subst, ◌∙◌}, specs.Prelude.{IfOk, Result}}
 use Rattle.plan_exports.specs.CSources.{row_of_words}
 
 -- a text that was made, said otherwise

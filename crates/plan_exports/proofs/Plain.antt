@@ -1,16 +1,8 @@
 -- Names are spelled by letters, digits, `-`, `.` and `_`.
-use Rattle.std.proofs.Common.{◌≡◌, ℕ, Bool, true, false, List, Option, None, Some, refl, sym, ap, subst, inl, inr}
-use Rattle.std.specs.Prelude.{◌&&◌, IsTrue, option_map, slice_get, string_bytes, unwrap_or, codes}
-use Rattle.std.specs.List.{list_all}
-use Rattle.plan_values.specs.NameText.{is_name_byte}
-use Rattle.plan_values.specs.declared.name.Name.{Name}
-use Rattle.plan_values.specs.declared.nodes.Bus.{Bus}
-use Rattle.plan_values.specs.declared.nodes.Node.{Node}
-use Rattle.plan_values.specs.declared.plan.Plan.{Plan}
-use Rattle.net_tables.specs.Routing.{node_at}
-use Rattle.plan_exports.specs.Devices.{AreDevices, IsDeviceOf, device_at}
-use Rattle.net_tables.specs.Names.{bus_name, node_name}
-use Rattle.plan_exports.specs.declared.links.Link.{Link}
+use Rattle.std.{proofs.Common.{◌≡◌, ℕ, Bool, true, false, List, Option, None, Some, refl, sym, ap, subst, inl, inr}, specs.Prelude.{◌&&◌, IsTrue, option_map, slice_get, string_bytes, unwrap_or, codes}, specs.List.{list_all}}
+use Rattle.plan_values.{specs.NameText.{is_name_byte}, specs.declared.name.Name.{Name}, specs.declared.nodes.Bus.{Bus}, specs.declared.nodes.Node.{Node}, specs.declared.plan.Plan.{Plan}}
+use Rattle.net_tables.{specs.Routing.{node_at}, specs.Names.{bus_name, node_name}}
+use Rattle.plan_exports.{specs.Devices.{AreDevices, IsDeviceOf, device_at}, specs.declared.links.Link.{Link}}
 
 abbrev IsPlain : List ℕ → Type 0
 IsPlain text = IsTrue (list_all is_name_byte text)

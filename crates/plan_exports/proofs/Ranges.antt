@@ -1,7 +1,5 @@
 -- One endpoint ID or several.
-use Rattle.std.proofs.Common.{◌≡◌, ℕ, refl, inl, inr}
-use Rattle.std.specs.Prelude.{◌≢◌}
-use Rattle.std.proofs.lemmas.Bool.Decides.{eqb_tells}
+use Rattle.std.{proofs.Common.{◌≡◌, ℕ, refl, inl, inr}, specs.Prelude.{◌≢◌}, proofs.lemmas.Bool.Decides.{eqb_tells}}
 use Rattle.plan_exports.specs.LinuxScripts.{range_text, span_text}
 
 pub several : (first size : ℕ) → size ≢ 1 → range_text first size ≡ span_text first size

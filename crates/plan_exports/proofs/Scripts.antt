@@ -1,10 +1,7 @@
 -- A script with its devices and rows is that of the node.
 use Rattle.std.proofs.Common.{◌≡◌, ℕ, List, ap}
 use Rattle.plan_values.specs.declared.plan.Plan.{Plan}
-use Rattle.plan_exports.specs.Devices.{AreDevices}
-use Rattle.plan_exports.specs.LinuxScripts.{IsLinuxScript, linux_text}
-use Rattle.plan_exports.specs.PlannedRows.{RowFacts, ArePlannedRows}
-use Rattle.plan_exports.specs.declared.links.Link.{Link}
+use Rattle.plan_exports.{specs.Devices.{AreDevices}, specs.LinuxScripts.{IsLinuxScript, linux_text}, specs.PlannedRows.{RowFacts, ArePlannedRows}, specs.declared.links.Link.{Link}}
 
 pub is_script : (plan : Plan) (n : ℕ) (links : List Link) (devices : List (List ℕ)) (rows : List RowFacts) (text : List ℕ) → AreDevices plan links devices
     → ArePlannedRows plan n rows → text ≡ linux_text plan n devices rows → IsLinuxScript plan n links text

@@ -1,18 +1,9 @@
 -- The C source of a node's tables.
-use Rattle.std.specs.Prelude.{◌≡◌, ℕ, ◌+◌, ◌&&◌, ◌||◌, Bool, List, [], ◌∷◌, ◌++◌, codes, if◌then◌else◌, length}
-use Rattle.std.specs.Prelude.{nat_le}
-use Rattle.std.specs.Prelude.{Option, Some, None, option_map, unwrap_or}
-use Rattle.std.specs.Fmt.{decimal}
-use Rattle.std.specs.List.{flat_map}
-use Rattle.plan_values.specs.declared.nodes.Pool.{Pool}
-use Rattle.plan_values.specs.declared.plan.Plan.{Plan}
-use Rattle.net_tables.specs.Ownership.{pool_of}
-use Rattle.net_tables.specs.Routing.{eid_of}
+use Rattle.std.{specs.Prelude.{◌≡◌, ℕ, ◌+◌, ◌&&◌, ◌||◌, Bool, List, [], ◌∷◌, ◌++◌, codes, if◌then◌else◌, length, nat_le, Option, Some, None, option_map, unwrap_or}, specs.Fmt.{decimal}, specs.List.{flat_map}}
+use Rattle.plan_values.{specs.declared.nodes.Pool.{Pool}, specs.declared.plan.Plan.{Plan}}
+use Rattle.net_tables.{specs.Ownership.{pool_of}, specs.Routing.{eid_of}, specs.Names.{node_name}}
 use Rattle.pdr_repository.specs.Records.{Entry, entries}
-use Rattle.plan_exports.specs.PlannedRows.{RowFacts, ArePlannedRows}
-use Rattle.plan_exports.specs.declared.c_sources.CTerminus.{CTerminus}
-use Rattle.net_tables.specs.Names.{node_name}
-use Rattle.plan_exports.specs.Words.{hex_list}
+use Rattle.plan_exports.{specs.PlannedRows.{RowFacts, ArePlannedRows}, specs.declared.c_sources.CTerminus.{CTerminus}, specs.Words.{hex_list}}
 
 -- ---- names
 

@@ -1,16 +1,8 @@
 -- The shell script that gives a Linux node its planned state.
-use Rattle.std.specs.Prelude.{◌≡◌, ℕ, ◌+◌, ◌-◌, ◌/◌, ◌==◌, List, [], ◌++◌, codes, if◌then◌else◌, filter, length}
-use Rattle.std.specs.Prelude.{Option, Some, None, map, unwrap_or}
-use Rattle.std.specs.Fmt.{decimal}
-use Rattle.std.specs.List.{flat_map, list_any, range_with_len}
+use Rattle.std.{specs.Prelude.{◌≡◌, ℕ, ◌+◌, ◌-◌, ◌/◌, ◌==◌, List, [], ◌++◌, codes, if◌then◌else◌, filter, length, Option, Some, None, map, unwrap_or}, specs.Fmt.{decimal}, specs.List.{flat_map, list_any, range_with_len}}
 use Rattle.plan_values.specs.declared.plan.Plan.{Plan}
-use Rattle.net_tables.specs.Routing.{eid_of, ports_of}
-use Rattle.plan_exports.specs.Devices.{AreDevices, device_at}
-use Rattle.plan_exports.specs.Neighbors.{bus_numbers}
-use Rattle.plan_exports.specs.PlannedRows.{RowFacts, ArePlannedRows}
-use Rattle.net_tables.specs.Names.{bus_name, node_name}
-use Rattle.plan_exports.specs.Words.{hex_list}
-use Rattle.plan_exports.specs.declared.links.Link.{Link}
+use Rattle.net_tables.{specs.Routing.{eid_of, ports_of}, specs.Names.{bus_name, node_name}}
+use Rattle.plan_exports.{specs.Devices.{AreDevices, device_at}, specs.Neighbors.{bus_numbers}, specs.PlannedRows.{RowFacts, ArePlannedRows}, specs.Words.{hex_list}, specs.declared.links.Link.{Link}}
 
 -- the buses on which n has a port, in the plan's order
 abbrev pub buses_at : Plan → ℕ → List ℕ

@@ -1,15 +1,12 @@
 -- The node to which a hop of a planned node leads, as the node itself is told of it.
 use Rattle.std.specs.Prelude.{ℕ, List, Option, Some, None, option_map, unwrap_or, slice_get}
 use Rattle.mctp_transport.specs.declared.device_kind.DeviceKind.{DeviceKind}
-use Rattle.mctp_transport.specs.declared.device_kind.DeviceKind.TheVariants as kind
 use Rattle.mctp_routing.specs.declared.row.Hop.{Hop}
 use Rattle.mctp_bridge.specs.declared.routing_entries.Neighbor.{Neighbor}
-use Rattle.plan_values.specs.declared.plan.Plan.{Plan}
-use Rattle.plan_values.specs.declared.nodes.Bus.{Bus}
+use Rattle.plan_values.{specs.declared.plan.Plan.{Plan}, specs.declared.nodes.Bus.{Bus}}
+use Rattle.net_tables.{specs.Names.{address_on, device_kind}, specs.Routing.{node_at, eid_of}, specs.Rows.{bus_of}}
+use Rattle.mctp_transport.specs.declared.device_kind.DeviceKind.TheVariants as kind
 use Rattle.plan_values.specs.declared.nodes.Kind.TheVariants as planned
-use Rattle.net_tables.specs.Names.{address_on, device_kind}
-use Rattle.net_tables.specs.Routing.{node_at, eid_of}
-use Rattle.net_tables.specs.Rows.{bus_of}
 
 -- a neighbor: whether it is a bridge, its EID, the identifiers of the bus, its physical address there
 pub record NeighborValue : Type 0 where

@@ -1,14 +1,9 @@
 -- The rows of a planned node as texts show them.
-use Rattle.std.specs.Prelude.{◌≡◌, ℕ, List, Option, map}
-use Rattle.std.specs.List.Sorted.{IsPermutation}
-use Rattle.mctp_routing.specs.declared.row.TableRow.{TableRow}
-use Rattle.mctp_routing.specs.Rows.{IsTable}
+use Rattle.std.{specs.Prelude.{◌≡◌, ℕ, List, Option, map}, specs.List.Sorted.{IsPermutation}}
+use Rattle.mctp_routing.{specs.declared.row.TableRow.{TableRow}, specs.Rows.{IsTable}}
 use Rattle.plan_values.specs.declared.plan.Plan.{Plan}
-use Rattle.net_tables.specs.Routing.{rows_of}
-use Rattle.net_tables.specs.Rows.{bus_of}
-use Rattle.net_tables.specs.Tables.{table_row}
-use Rattle.plan_exports.specs.Neighbors.{neighbor_of}
-use Rattle.plan_exports.specs.declared.rows.PlannedRow.{PlannedRow}
+use Rattle.net_tables.{specs.Routing.{rows_of}, specs.Rows.{bus_of}, specs.Tables.{table_row}}
+use Rattle.plan_exports.{specs.Neighbors.{neighbor_of}, specs.declared.rows.PlannedRow.{PlannedRow}}
 
 -- `size` endpoint IDs from the first on, the port and its bus, the next node, that node's endpoint ID, and its address
 -- on the bus

@@ -3,11 +3,8 @@ use Rattle.std.specs.Prelude.{◌≡◌, ℕ, List, map}
 use Rattle.mctp_routing.specs.declared.row.TableRow.{TableRow}
 use Rattle.mctp_bridge.specs.declared.routing_entries.Neighbor.{Neighbor}
 use Rattle.plan_values.specs.declared.plan.Plan.{Plan}
-use Rattle.net_tables.specs.Routing.{rows_of, OfItem}
-use Rattle.net_tables.specs.Rows.{NamesNeighbor}
-use Rattle.net_tables.specs.Tables.{AreRows}
-use Rattle.plan_exports.specs.Neighbors.{neighbor_of, neighbor_value}
-use Rattle.plan_exports.specs.PlannedRows.{IsOrdered}
+use Rattle.net_tables.{specs.Routing.{rows_of, OfItem}, specs.Rows.{NamesNeighbor}, specs.Tables.{AreRows}}
+use Rattle.plan_exports.{specs.Neighbors.{neighbor_of, neighbor_value}, specs.PlannedRows.{IsOrdered}}
 
 -- The table has the rows of n in their order. For each of them there is the node to which it leads, with that node's
 -- endpoint ID, and its address on the bus of the row's port.

@@ -1,6 +1,5 @@
 -- The bytes of a repository.
-use Rattle.std.specs.Prelude.{ℕ, List}
-use Rattle.std.specs.List.{flat_map}
+use Rattle.std.{specs.Prelude.{ℕ, List}, specs.List.{flat_map}}
 use Rattle.pdr_repository.specs.Records.{Entry}
 
 -- the bytes of each record, one record after another

@@ -1,18 +1,11 @@
 -- How a planned bridge tells its routing table: the answers to Get Routing Table Entries, from the first entry to the
 -- last (DSP0236).
-use Rattle.std.specs.Prelude.{◌≡◌, ℕ, ◌∷◌, ◌++◌, List, map, length, All, Some, None, codes}
-use Rattle.std.specs.List.{flat_map}
+use Rattle.std.{specs.Prelude.{◌≡◌, ℕ, ◌∷◌, ◌++◌, List, map, length, All, Some, None, codes}, specs.List.{flat_map}}
 use Rattle.hex.specs.Hex.{encode_lower}
 use Rattle.mctp_transport.specs.declared.device_kind.DeviceKind.TheVariants.{Bridge}
 use Rattle.mctp_routing.specs.declared.row.TableRow.{TableRow}
-use Rattle.mctp_control.specs.Devices.{DeviceValue}
-use Rattle.mctp_bridge.specs.Entries.{table_entries}
-use Rattle.mctp_control.specs.EntryLists.{entries_bytes}
-use Rattle.mctp_bridge.specs.Readers.{asking}
-use Rattle.mctp_bridge.specs.Reads.{Exchange, IsTablePart, Reads, due_after}
-use Rattle.mctp_control.specs.Replies.{Replies, reply_bytes}
-use Rattle.mctp_control.specs.RouteEntries.{EntryValue}
-use Rattle.mctp_bridge.specs.declared.routing_entries.Neighbor.{Neighbor}
+use Rattle.mctp_control.{specs.Devices.{DeviceValue}, specs.EntryLists.{entries_bytes}, specs.Replies.{Replies, reply_bytes}, specs.RouteEntries.{EntryValue}}
+use Rattle.mctp_bridge.{specs.Entries.{table_entries}, specs.Readers.{asking}, specs.Reads.{Exchange, IsTablePart, Reads, due_after}, specs.declared.routing_entries.Neighbor.{Neighbor}}
 use Rattle.plan_values.specs.declared.plan.Plan.{Plan}
 use Rattle.plan_exports.specs.PlannedTables.{IsPlannedTable}
 

@@ -1,6 +1,5 @@
 -- Bytes in hex.
-use Rattle.std.specs.Prelude.{ℕ, List, [], ◌∷◌, ◌++◌}
-use Rattle.std.specs.List.{flat_map}
+use Rattle.std.{specs.Prelude.{ℕ, List, [], ◌∷◌, ◌++◌}, specs.List.{flat_map}}
 use Rattle.hex.specs.Hex.{encode_lower}
 pub use Rattle.net_tables.specs.Names.{bus_name, node_name}
 

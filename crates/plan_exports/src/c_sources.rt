@@ -1,11 +1,8 @@
 //! The C source of a node's tables, for firmware.
-ghost use Rattle.std.specs.Prelude.{◌≡◌, ◌+◌, ◌++◌, IfOk, map, option_map, string_bytes, unwrap_or};
-ghost use Rattle.std.specs.List.{flat_map};
-ghost use Rattle.net_tables.specs.Routing.{eid_of, rows_of};
-ghost use Rattle.net_tables.specs.Tables.{AreRows};
+ghost use Rattle.std.{specs.Prelude.{◌≡◌, ◌+◌, ◌++◌, IfOk, map, option_map, string_bytes, unwrap_or}, specs.List.{flat_map}};
+ghost use Rattle.net_tables.{specs.Routing.{eid_of, rows_of}, specs.Tables.{AreRows}};
 ghost use Rattle.pdr_repository.specs.Records.{entries, entry_of};
-ghost use Rattle.plan_exports.specs.CSources.{IsCSource, address_list, bytes_line, c_text, eid_text, head_text, named_text, numbers_text, pool_first, pool_size, pool_text, record_line, record_lines, record_type_text, records_of_lines, records_text, repository_text, row_line, row_lines, row_of_words, row_type_text, rows_of_lines, rows_text, terminus_facts, terminus_text, tid_text};
-ghost use Rattle.plan_exports.specs.PlannedRows.{row_facts};
+ghost use Rattle.plan_exports.{specs.CSources.{IsCSource, address_list, bytes_line, c_text, eid_text, head_text, named_text, numbers_text, pool_first, pool_size, pool_text, record_line, record_lines, record_type_text, records_of_lines, records_text, repository_text, row_line, row_lines, row_of_words, row_type_text, rows_of_lines, rows_text, terminus_facts, terminus_text, tid_text}, specs.PlannedRows.{row_facts}};
 
 use crate::identifiers::identifier;
 use crate::rows::{PlannedRow, planned_rows};

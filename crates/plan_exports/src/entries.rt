@@ -1,13 +1,9 @@
 //! The answers of a planned bridge that tell its routing table (DSP0236, Get Routing Table Entries).
-ghost use Rattle.std.specs.Prelude.{◌≡◌, ◌⊎◌, ◌<◌, ◌≤◌, All, IfOk, length, map, slice_index, string_bytes};
-ghost use Rattle.std.specs.List.{flat_map};
-ghost use Rattle.mctp_control.specs.Devices.{device_value};
-ghost use Rattle.mctp_control.specs.EntryLists.{values_of};
-ghost use Rattle.mctp_bridge.specs.Readers.{handle_after};
-ghost use Rattle.mctp_bridge.specs.Reads.{AreShort};
+ghost use Rattle.std.{specs.Prelude.{◌≡◌, ◌⊎◌, ◌<◌, ◌≤◌, All, IfOk, length, map, slice_index, string_bytes}, specs.List.{flat_map}};
+ghost use Rattle.mctp_control.{specs.Devices.{device_value}, specs.EntryLists.{values_of}};
+ghost use Rattle.mctp_bridge.{specs.Readers.{handle_after}, specs.Reads.{AreShort}};
 ghost use Rattle.mctp_transport.specs.PacketValues.{IsAssignable};
-ghost use Rattle.plan_exports.specs.PlannedTables.{HasLawfulRows};
-ghost use Rattle.plan_exports.specs.TableAnswers.{AreAnswers, AreEntriesOf, AreEntryLines, AreEntryMessages, IsAnswer, hex_line};
+ghost use Rattle.plan_exports.{specs.PlannedTables.{HasLawfulRows}, specs.TableAnswers.{AreAnswers, AreEntriesOf, AreEntryLines, AreEntryMessages, IsAnswer, hex_line}};
 
 use crate::planned_tables::planned_table;
 use arrayvec::ArrayVec;

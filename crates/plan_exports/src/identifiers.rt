@@ -1,6 +1,5 @@
 //! The name of a node as it begins a C identifier.
-ghost use Rattle.std.specs.Prelude.{◌≡◌, ◌++◌, ◌∷◌, [], IfOk, OnOk, encode_utf8, string_bytes};
-ghost use Rattle.std.specs.List.{flat_map};
+ghost use Rattle.std.{specs.Prelude.{◌≡◌, ◌++◌, ◌∷◌, [], IfOk, OnOk, encode_utf8, string_bytes}, specs.List.{flat_map}};
 ghost use Rattle.plan_exports.specs.CSources.{cleaned, identifier, identifier_front, is_letter};
 
 use std::alloc::{AllocError, Global};

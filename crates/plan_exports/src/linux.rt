@@ -1,12 +1,7 @@
 //! The shell script that gives a Linux node its planned state, with the tool `mctp`.
-ghost use Rattle.std.specs.Prelude.{◌≡◌, ◌++◌, ◌∷◌, [], if◌then◌else◌, IfOk, OnOk, map, string_bytes};
-ghost use Rattle.std.specs.List.{flat_map, range_with_len};
-ghost use Rattle.std.specs.Fmt.{decimal};
-ghost use Rattle.net_tables.specs.Routing.{rows_of};
-ghost use Rattle.net_tables.specs.Tables.{AreRows};
-ghost use Rattle.plan_exports.specs.Devices.{device_at};
-ghost use Rattle.plan_exports.specs.LinuxScripts.{IsLinuxScript, buses_at, device_on, eid_line, head_lines, link_address, link_byte, link_lines, linux_text, neighbor_line, neighbor_lines, range_text, route_line, span_text};
-ghost use Rattle.plan_exports.specs.PlannedRows.{row_facts};
+ghost use Rattle.std.{specs.Prelude.{◌≡◌, ◌++◌, ◌∷◌, [], if◌then◌else◌, IfOk, OnOk, map, string_bytes}, specs.List.{flat_map, range_with_len}, specs.Fmt.{decimal}};
+ghost use Rattle.net_tables.{specs.Routing.{rows_of}, specs.Tables.{AreRows}};
+ghost use Rattle.plan_exports.{specs.Devices.{device_at}, specs.LinuxScripts.{IsLinuxScript, buses_at, device_on, eid_line, head_lines, link_address, link_byte, link_lines, linux_text, neighbor_line, neighbor_lines, range_text, route_line, span_text}, specs.PlannedRows.{row_facts}};
 
 use crate::devices::devices_of;
 use crate::links::Link;

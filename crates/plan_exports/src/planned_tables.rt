@@ -1,10 +1,7 @@
 //! The routing table of a planned node, and whom its rows lead to.
 ghost use Rattle.std.specs.Prelude.{◌≡◌, IfOk, map};
-ghost use Rattle.plan_exports.specs.PlannedRows.{IsOrdered};
-ghost use Rattle.net_tables.specs.Routing.{rows_of};
-ghost use Rattle.net_tables.specs.Tables.{AreRows};
-ghost use Rattle.plan_exports.specs.Neighbors.{kind_at, bus_numbers, neighbor_of, neighbor_value};
-ghost use Rattle.plan_exports.specs.PlannedTables.{IsPlannedTable};
+ghost use Rattle.plan_exports.{specs.PlannedRows.{IsOrdered}, specs.Neighbors.{kind_at, bus_numbers, neighbor_of, neighbor_value}, specs.PlannedTables.{IsPlannedTable}};
+ghost use Rattle.net_tables.{specs.Routing.{rows_of}, specs.Tables.{AreRows}};
 
 use mctp_bridge::Neighbor;
 use mctp_routing::{DeviceKind, Hop, RangeTable, TableRow};

@@ -1,7 +1,6 @@
 //! The rows of a planned node as texts show them.
 ghost use Rattle.std.specs.Prelude.{◌≡◌, IfOk, map};
-ghost use Rattle.net_tables.specs.Routing.{rows_of};
-ghost use Rattle.net_tables.specs.Tables.{AreRows};
+ghost use Rattle.net_tables.{specs.Routing.{rows_of}, specs.Tables.{AreRows}};
 ghost use Rattle.plan_exports.specs.PlannedRows.{ArePlannedRows, facts_of, row_facts};
 
 use crate::planned_tables::{neighbor_at, range_table};

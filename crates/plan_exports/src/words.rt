@@ -1,6 +1,5 @@
 //! Bytes in hex.
-ghost use Rattle.std.specs.Prelude.{◌≡◌, ◌∷◌, ◌++◌, [], IfOk, OnOk, string_bytes};
-ghost use Rattle.std.specs.List.{flat_map};
+ghost use Rattle.std.{specs.Prelude.{◌≡◌, ◌∷◌, ◌++◌, [], IfOk, OnOk, string_bytes}, specs.List.{flat_map}};
 ghost use Rattle.hex.specs.Hex.{encode_lower};
 ghost use Rattle.plan_exports.specs.Words.{hex_list};
 

@@ -1,8 +1,7 @@
 -- Drafts, one after the other.
 use Rattle.std.proofs.Common.{ℕ, List, sym, subst}
 use Rattle.plan_values.specs.declared.plan.Plan.{Plan}
-use Rattle.plan_fixes.specs.Fixes.{AreFixes, IsDraftOf, LeadsOn}
-use Rattle.plan_fixes.specs.declared.fixing.Draft.{Draft}
+use Rattle.plan_fixes.{specs.Fixes.{AreFixes, IsDraftOf, LeadsOn}, specs.declared.fixing.Draft.{Draft}}
 
 -- one more edit
 pub led_on : (text : List ℕ) (plan : Plan) (last next : Draft) → IsDraftOf text plan last → LeadsOn last next → IsDraftOf text plan next

@@ -1,20 +1,10 @@
 -- Edits of a plan and of its text, one after the other.
 use Rattle.std.specs.Prelude.{◌≡◌, ℕ, List, [], ◌++◌, Option, Some, None, string_bytes}
-use Rattle.net_explained.specs.Edits.{IsEdited}
-use Rattle.net_explained.specs.Obstacles.{IsTried}
-use Rattle.net_explained.specs.declared.edit.Edit.{Edit}
-use Rattle.net_explained.specs.declared.trial.Tried.{Tried}
-use Rattle.net_plan.specs.PlanText.{IsPlanOf}
-use Rattle.net_plan.specs.Texts.{IsJsonTextOf}
-use Rattle.plan_values.specs.PlanValues.{plan_value}
-use Rattle.plan_values.specs.declared.certificate.Certificate.{Certificate}
-use Rattle.plan_values.specs.declared.plan.Plan.{Plan}
-use Rattle.net_rules.specs.Certificates.{HasNoCertificate, NamesObstacle}
-use Rattle.net_rules.specs.Rules.{Accepts}
-use Rattle.net_rules.specs.declared.certify_error.CertifyError.{CertifyError}
-use Rattle.plan_fixes.specs.Splices.{IsSpliced}
-use Rattle.plan_fixes.specs.declared.fixing.Draft.{Draft}
-use Rattle.plan_fixes.specs.declared.fixing.Fixed.{Fixed}
+use Rattle.net_explained.{specs.Edits.{IsEdited}, specs.Obstacles.{IsTried}, specs.declared.edit.Edit.{Edit}, specs.declared.trial.Tried.{Tried}}
+use Rattle.net_plan.{specs.PlanText.{IsPlanOf}, specs.Texts.{IsJsonTextOf}}
+use Rattle.plan_values.{specs.PlanValues.{plan_value}, specs.declared.certificate.Certificate.{Certificate}, specs.declared.plan.Plan.{Plan}}
+use Rattle.net_rules.{specs.Certificates.{HasNoCertificate, NamesObstacle}, specs.Rules.{Accepts}, specs.declared.certify_error.CertifyError.{CertifyError}}
+use Rattle.plan_fixes.{specs.Splices.{IsSpliced}, specs.declared.fixing.Draft.{Draft}, specs.declared.fixing.Fixed.{Fixed}}
 use Rattle.explanation_texts.specs.EditLines.{edit_text}
 
 -- the text is that of the plan

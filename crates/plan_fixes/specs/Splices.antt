@@ -2,13 +2,10 @@
 use Rattle.std.specs.Prelude.{◌≡◌, ◌≤◌, ◌-◌, ℕ, List, [], ◌∷◌, ◌++◌, length, take, drop, codes}
 use Rattle.json.specs.Json.{Json}
 use Rattle.fault_texts.specs.Places.{part_pointer, row_pointer, record_pointer}
-use Rattle.net_explained.specs.declared.edit.Change.{Change}
-use Rattle.net_explained.specs.declared.edit.Change.TheVariants as change
-use Rattle.net_explained.specs.declared.edit.Edit.{Edit}
-use Rattle.net_plan.specs.Finding.{Step}
-use Rattle.net_plan.specs.Finding.Step.{key}
-use Rattle.net_plan.specs.Texts.{IsTree}
+use Rattle.net_explained.{specs.declared.edit.Change.{Change}, specs.declared.edit.Edit.{Edit}}
+use Rattle.net_plan.{specs.Finding.{Step}, specs.Finding.Step.{key}, specs.Texts.{IsTree}}
 use Rattle.net_pointers.specs.Offsets.{LeadsTo}
+use Rattle.net_explained.specs.declared.edit.Change.TheVariants as change
 
 -- what a change of node n is made in: the value that becomes another, or the list of the rows
 abbrev pub changed_pointer : ℕ → Change → List Step

@@ -1,6 +1,5 @@
 -- A page that tells its verdict.
-use Rattle.std.proofs.Common.{◌≡◌, ◌++◌, ℕ, List, Result, Ok, Err, subst}
-use Rattle.std.specs.Prelude.{IfOk}
+use Rattle.std.{proofs.Common.{◌≡◌, ◌++◌, ℕ, List, Result, Ok, Err, subst}, specs.Prelude.{IfOk}}
 use Rattle.plan_pages.specs.Pages.{TellsVerdict, verdict_text}
 
 pub tells : {A E : Type 0} (bytes : A → List ℕ) (class verdict before shown after : List ℕ) (result : Result A E) → shown ≡ verdict_text class verdict

@@ -1,6 +1,5 @@
 -- How a text stands in HTML, and which verdict a page tells.
-use Rattle.std.specs.Prelude.{◌≡◌, ℕ, List, [], ◌∷◌, ◌++◌, ◌==◌, chars, codes, encode_utf8_all, if◌then◌else◌}
-use Rattle.std.specs.List.{flat_map}
+use Rattle.std.{specs.Prelude.{◌≡◌, ℕ, List, [], ◌∷◌, ◌++◌, ◌==◌, chars, codes, encode_utf8_all, if◌then◌else◌}, specs.List.{flat_map}}
 
 -- a character, or its reference: `&`, `<`, `>` and `"` have one
 abbrev pub escaped_char : ℕ → List ℕ

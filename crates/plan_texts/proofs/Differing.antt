@@ -1,10 +1,5 @@
 -- Where two lists of lines differ first.
-use Rattle.std.proofs.Common.{◌≡◌, ◌≢◌, ℕ, ◌+◌, ◌<◌, ◌≤◌, List, [], ◌∷◌, ◌++◌, length, map, take, get_or, Some, None, Bool, true, false, not, Bor, refl, sym, ◌∙◌, ap, min, zero, suc, true≢false, ◌⊎◌, inl, inr, arith}
-use Rattle.std.specs.Prelude.{slice_get, option_map}
-use Rattle.std.specs.Str.{bytes_eq}
-use Rattle.std.proofs.lemmas.List.{map_more, length-map, take_all, take-map}
-use Rattle.std.proofs.lemmas.Option.{slice_get-map, slice_get-get_or, slice_get_cases}
-use Rattle.std.proofs.lemmas.Slice.Eq.{bytes_eq-Decides}
+use Rattle.std.{proofs.Common.{◌≡◌, ◌≢◌, ℕ, ◌+◌, ◌<◌, ◌≤◌, List, [], ◌∷◌, ◌++◌, length, map, take, get_or, Some, None, Bool, true, false, not, Bor, refl, sym, ◌∙◌, ap, min, zero, suc, true≢false, ◌⊎◌, inl, inr, arith}, specs.Prelude.{slice_get, option_map}, specs.Str.{bytes_eq}, proofs.lemmas.List.{map_more, length-map, take_all, take-map}, proofs.lemmas.Option.{slice_get-map, slice_get-get_or, slice_get_cases}, proofs.lemmas.Slice.Eq.{bytes_eq-Decides}}
 use Rattle.plan_texts.specs.DifferenceLines.{DifferFirstAt}
 
 not_not : (b : Bool) → false ≡ not b → b ≡ true

@@ -1,9 +1,7 @@
 -- The hops along a loop.
-use Rattle.std.proofs.Common.{◌≡◌, ◌+◌, ◌-◌, ◌<◌, ◌≤◌, ℕ, List, [], ◌∷◌, ◌++◌, length, take, get_or, refl, sym, ◌∙◌, ap, arith}
-use Rattle.std.proofs.lemmas.List.{take_more}
+use Rattle.std.{proofs.Common.{◌≡◌, ◌+◌, ◌-◌, ◌<◌, ◌≤◌, ℕ, List, [], ◌∷◌, ◌++◌, length, take, get_or, refl, sym, ◌∙◌, ap, arith}, proofs.lemmas.List.{take_more}}
 use Rattle.mctp_transport.specs.declared.address.Eid.{Eid}
-use Rattle.plan_texts.specs.declared.drawings.red.Hop.{Hop}
-use Rattle.plan_texts.specs.Drawings.{hops_along}
+use Rattle.plan_texts.{specs.declared.drawings.red.Hop.{Hop}, specs.Drawings.{hops_along}}
 
 abbrev hop : Eid → ℕ → ℕ → Hop
 hop eid n m = record { eid = eid; from = n; to = m }

@@ -1,6 +1,5 @@
 -- The line of what rules certificates out, by its words.
-use Rattle.std.proofs.Common.{◌≡◌, List, ℕ, Some, Result, Ok, Err, sym, ◌∙◌, ap}
-use Rattle.std.specs.Prelude.{IfOk, option_map}
+use Rattle.std.{proofs.Common.{◌≡◌, List, ℕ, Some, Result, Ok, Err, sym, ◌∙◌, ap}, specs.Prelude.{IfOk, option_map}}
 use Rattle.plan_values.specs.declared.plan.Plan.{Plan}
 use Rattle.net_rules.specs.declared.certify_error.CertifyError.{CertifyError}
 use Rattle.plan_texts.specs.Lines.{as_line, obstacle_words, obstacle_text}

@@ -1,31 +1,13 @@
 -- Lines of plans of one value.
-use Rattle.std.proofs.Common.{◌≡◌, ℕ, ◌-◌, List, ◌++◌, length, replicate, map, Option, Some, None, refl, sym, ap, ◌∙◌}
-use Rattle.std.specs.Prelude.{codes, option_map, slice_get, string_bytes, unwrap_or}
-use Rattle.std.specs.Fmt.{decimal}
-use Rattle.std.specs.List.{flat_map}
-use Rattle.std.proofs.lemmas.Option.{slice_get-map}
-use Rattle.plan_values.specs.declared.plan.Plan.{Plan}
-use Rattle.plan_values.specs.declared.nodes.Node.{Node}
-use Rattle.plan_values.specs.PlanValues.{plan_value}
-use Rattle.plan_values.specs.NodeValues.{NodeValue, node_value}
-use Rattle.net_tables.specs.Names.{node_name}
-use Rattle.net_tables.specs.Routing.{eid_number}
-use Rattle.net_rules.specs.Rules.{code_of}
-use Rattle.net_rules.specs.RecordChains.{chain_word_of}
-use Rattle.net_rules.specs.MoveFaults.{code_of_move}
-use Rattle.net_rules.specs.declared.fault.Fault.{Fault}
-use Rattle.net_rules.specs.declared.certify_error.CertifyError.{CertifyError}
+use Rattle.std.{proofs.Common.{◌≡◌, ℕ, ◌-◌, List, ◌++◌, length, replicate, map, Option, Some, None, refl, sym, ap, ◌∙◌}, specs.Prelude.{codes, option_map, slice_get, string_bytes, unwrap_or}, specs.Fmt.{decimal}, specs.List.{flat_map}, proofs.lemmas.Option.{slice_get-map}}
+use Rattle.plan_values.{specs.declared.plan.Plan.{Plan}, specs.declared.nodes.Node.{Node}, specs.PlanValues.{plan_value}, specs.NodeValues.{NodeValue, node_value}}
+use Rattle.net_tables.{specs.Names.{node_name}, specs.Routing.{eid_number}}
+use Rattle.net_rules.{specs.Rules.{code_of}, specs.RecordChains.{chain_word_of}, specs.MoveFaults.{code_of_move}, specs.declared.fault.Fault.{Fault}, specs.declared.certify_error.CertifyError.{CertifyError}, specs.declared.mixed_loop.Side.{Side}, specs.declared.move_fault.MoveFault.{MoveFault}, specs.declared.move_fault.MoveRule.TheVariants.{OfPlan}, specs.declared.move_error.MoveError.{MoveError}, specs.declared.move_obstacle.MoveObstacle.{MoveObstacle}}
+use Rattle.plan_texts.{specs.Lines.{number_or_dash, names_text, as_line, fault_text, obstacle_text}, specs.MoveLines.{move_fault_text, move_error_text, move_obstacle_text, sides_text}}
 use Rattle.net_rules.specs.declared.certify_error.CertifyError.TheVariants as alone
-use Rattle.net_rules.specs.declared.mixed_loop.Side.{Side}
 use Rattle.net_rules.specs.declared.mixed_loop.Side.TheVariants as side
-use Rattle.net_rules.specs.declared.move_fault.MoveFault.{MoveFault}
-use Rattle.net_rules.specs.declared.move_fault.MoveRule.TheVariants.{OfPlan}
-use Rattle.net_rules.specs.declared.move_error.MoveError.{MoveError}
 use Rattle.net_rules.specs.declared.move_error.MoveError.TheVariants as error
-use Rattle.net_rules.specs.declared.move_obstacle.MoveObstacle.{MoveObstacle}
 use Rattle.net_rules.specs.declared.move_obstacle.MoveObstacle.TheVariants as obstacle
-use Rattle.plan_texts.specs.Lines.{number_or_dash, names_text, as_line, fault_text, obstacle_text}
-use Rattle.plan_texts.specs.MoveLines.{move_fault_text, move_error_text, move_obstacle_text, sides_text}
 
 name_seen : (o : Option Node) → unwrap_or (option_map (λ (v : NodeValue). v.name) (option_map node_value o)) (codes "-") ≡ unwrap_or (option_map (λ (node : Node). string_bytes node.name.text) o) (codes "-")
 name_seen None = refl

@@ -1,7 +1,5 @@
 -- The first line in which two texts differ.
-use Rattle.std.specs.Prelude.{◌≡◌, ◌≢◌, ℕ, ◌+◌, List, ◌++◌, Option, Some, None, take, slice_get, codes}
-use Rattle.std.specs.Fmt.{decimal}
-use Rattle.std.specs.Str.Lines.{lines}
+use Rattle.std.{specs.Prelude.{◌≡◌, ◌≢◌, ℕ, ◌+◌, List, ◌++◌, Option, Some, None, take, slice_get, codes}, specs.Fmt.{decimal}, specs.Str.Lines.{lines}}
 
 -- The lines are the same before this index, and differ there: there is another line, or in one of them there is none.
 pub record DifferFirstAt (wanted came : List (List ℕ)) (index : ℕ) : Type 0 where

@@ -1,13 +1,10 @@
 -- What is red in the drawing of a plan.
 use Rattle.std.specs.Prelude.{◌≢◌, ℕ, List, [], ◌∷◌, Option, Some, None}
 use Rattle.mctp_transport.specs.declared.address.Eid.{Eid}
-use Rattle.net_rules.specs.Certificates.{NamesObstacle, HasNoCertificate}
-use Rattle.net_rules.specs.declared.certify_error.CertifyError.{CertifyError}
-use Rattle.net_rules.specs.declared.certify_error.CertifyError.TheVariants as error
-use Rattle.net_rules.specs.Rules.{Accepts}
-use Rattle.plan_values.specs.declared.certificate.Certificate.{Certificate}
-use Rattle.plan_values.specs.declared.plan.Plan.{Plan}
+use Rattle.net_rules.{specs.Certificates.{NamesObstacle, HasNoCertificate}, specs.declared.certify_error.CertifyError.{CertifyError}, specs.Rules.{Accepts}}
+use Rattle.plan_values.{specs.declared.certificate.Certificate.{Certificate}, specs.declared.plan.Plan.{Plan}}
 use Rattle.plan_texts.specs.declared.drawings.red.Hop.{Hop}
+use Rattle.net_rules.specs.declared.certify_error.CertifyError.TheVariants as error
 
 -- what comes first, in the order of the rules, of what rules certificates of the plan out; nothing where it has one
 abbrev pub IsFirstObstacle : Plan → Option CertifyError → Type 0

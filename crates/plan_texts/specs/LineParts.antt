@@ -1,6 +1,5 @@
 -- What several lines have: a node, a bus, an address, endpoint IDs.
-use Rattle.std.specs.Prelude.{◌==◌, ◌+◌, ◌-◌, ◌++◌, ℕ, List, length, Option, Some, None, codes, if◌then◌else◌}
-use Rattle.std.specs.Fmt.{decimal}
+use Rattle.std.{specs.Prelude.{◌==◌, ◌+◌, ◌-◌, ◌++◌, ℕ, List, length, Option, Some, None, codes, if◌then◌else◌}, specs.Fmt.{decimal}}
 use Rattle.hex.specs.Hex.{encode_lower}
 use Rattle.net_tables.specs.Names.{bus_name, node_name}
 use Rattle.plan_values.specs.declared.plan.Plan.{Plan}

@@ -1,23 +1,13 @@
 -- The lines of what is wrong with a move, and of what rules its certificates out.
-use Rattle.std.specs.Prelude.{ℕ, ◌-◌, List, ◌++◌, Option, Some, None, codes, length, replicate}
-use Rattle.std.specs.Fmt.{decimal}
-use Rattle.std.specs.List.{flat_map}
-use Rattle.net_rules.specs.declared.certify_error.CertifyError.{CertifyError}
-use Rattle.net_rules.specs.declared.certify_error.CertifyError.TheVariants as alone
-use Rattle.net_rules.specs.declared.mixed_loop.Side.{Side}
-use Rattle.net_rules.specs.declared.mixed_loop.Side.TheVariants as side
-use Rattle.net_rules.specs.declared.move_obstacle.MoveObstacle.{MoveObstacle}
-use Rattle.net_rules.specs.declared.move_obstacle.MoveObstacle.TheVariants as obstacle
-use Rattle.net_rules.specs.declared.move_fault.MoveRule.TheVariants.{OfPlan}
-use Rattle.net_rules.specs.declared.move_error.MoveError.{MoveError}
-use Rattle.net_rules.specs.declared.move_error.MoveError.TheVariants as error
-use Rattle.net_rules.specs.declared.move_fault.MoveFault.{MoveFault}
-use Rattle.net_tables.specs.Routing.{eid_number}
-use Rattle.net_rules.specs.MoveFaults.{code_of_move}
+use Rattle.std.{specs.Prelude.{ℕ, ◌-◌, List, ◌++◌, Option, Some, None, codes, length, replicate}, specs.Fmt.{decimal}, specs.List.{flat_map}}
+use Rattle.net_rules.{specs.declared.certify_error.CertifyError.{CertifyError}, specs.declared.mixed_loop.Side.{Side}, specs.declared.move_obstacle.MoveObstacle.{MoveObstacle}, specs.declared.move_fault.MoveRule.TheVariants.{OfPlan}, specs.declared.move_error.MoveError.{MoveError}, specs.declared.move_fault.MoveFault.{MoveFault}, specs.MoveFaults.{code_of_move}}
+use Rattle.net_tables.{specs.Routing.{eid_number}, specs.Names.{node_name}}
 use Rattle.plan_values.specs.declared.plan.Plan.{Plan}
-use Rattle.net_tables.specs.Names.{node_name}
-use Rattle.plan_texts.specs.Lines.{number_or_dash, names_text, obstacle_text}
-use Rattle.plan_texts.specs.LineParts.{name_or_none}
+use Rattle.plan_texts.{specs.Lines.{number_or_dash, names_text, obstacle_text}, specs.LineParts.{name_or_none}}
+use Rattle.net_rules.specs.declared.certify_error.CertifyError.TheVariants as alone
+use Rattle.net_rules.specs.declared.mixed_loop.Side.TheVariants as side
+use Rattle.net_rules.specs.declared.move_obstacle.MoveObstacle.TheVariants as obstacle
+use Rattle.net_rules.specs.declared.move_error.MoveError.TheVariants as error
 
 -- whose rule is broken: the code, the node's name, the entry and the endpoint ID
 abbrev pub move_fault_text : Plan → List ℕ → MoveFault → List ℕ

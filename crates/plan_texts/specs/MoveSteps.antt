@@ -1,19 +1,11 @@
 -- The lines of the steps from the rows of one plan to those of another.
-use Rattle.std.specs.Prelude.{ℕ, suc, ◌+◌, List, [], ◌∷◌, ◌++◌, codes, length, nat_eq, if◌then◌else◌}
-use Rattle.std.specs.Prelude.{Option, Some, option_map}
-use Rattle.std.specs.Fmt.{decimal}
-use Rattle.std.specs.List.{flat_map}
+use Rattle.std.{specs.Prelude.{ℕ, suc, ◌+◌, List, [], ◌∷◌, ◌++◌, codes, length, nat_eq, if◌then◌else◌, Option, Some, option_map}, specs.Fmt.{decimal}, specs.List.{flat_map}}
 use Rattle.plan_values.specs.declared.plan.Plan.{Plan}
-use Rattle.net_rollout.specs.declared.change.Part.{Part}
-use Rattle.net_rollout.specs.declared.change.Change.{Change}
-use Rattle.net_rollout.specs.declared.change.Change.TheVariants as change
-use Rattle.net_rollout.specs.declared.change.Step.{Step}
-use Rattle.net_rollout.specs.declared.change.Rollout.{Rollout}
-use Rattle.net_rollout.specs.declared.change.Rollout.TheVariants as way
+use Rattle.net_rollout.{specs.declared.change.Part.{Part}, specs.declared.change.Change.{Change}, specs.declared.change.Step.{Step}, specs.declared.change.Rollout.{Rollout}}
 use Rattle.net_tables.specs.Names.{node_name}
-use Rattle.plan_texts.specs.Lines.{names_text}
-use Rattle.plan_texts.specs.MoveLines.{move_obstacle_text}
-use Rattle.plan_texts.specs.LineParts.{name_or_none}
+use Rattle.plan_texts.{specs.Lines.{names_text}, specs.MoveLines.{move_obstacle_text}, specs.LineParts.{name_or_none}}
+use Rattle.net_rollout.specs.declared.change.Change.TheVariants as change
+use Rattle.net_rollout.specs.declared.change.Rollout.TheVariants as way
 
 -- the endpoint IDs of a part: the one, or the first and the last
 abbrev pub eids_text : ℕ → ℕ → List ℕ

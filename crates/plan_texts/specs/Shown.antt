@@ -1,13 +1,8 @@
 -- The lines that show packets and records.
-use Rattle.std.specs.Prelude.{ℕ, List, ◌++◌, length, codes}
-use Rattle.std.specs.Fmt.{decimal}
+use Rattle.std.{specs.Prelude.{ℕ, List, ◌++◌, length, codes}, specs.Fmt.{decimal}}
 use Rattle.hex.specs.Hex.{encode_lower}
 use Rattle.mctp_transport.specs.PacketValues.{PacketValue, bit}
-use Rattle.pdr_record.specs.Fields.{bytes_of}
-use Rattle.pdr_record.specs.Layouts.{EntityValue, SensorValue, TerminusValue}
-use Rattle.pdr_record.specs.Layouts.{NumericValue, StateValue, AssociationValue}
-use Rattle.pdr_record.specs.Records.{BodyValue, Terminus, Numeric, State, Association}
-use Rattle.pdr_record.specs.Records.{Other, type_of, body_fields, RecordValue}
+use Rattle.pdr_record.{specs.Fields.{bytes_of}, specs.Layouts.{EntityValue, SensorValue, TerminusValue, NumericValue, StateValue, AssociationValue}, specs.Records.{BodyValue, Terminus, Numeric, State, Association, Other, type_of, body_fields, RecordValue}}
 
 -- the code of a cause
 abbrev pub refused_bytes : List ℕ → List ℕ

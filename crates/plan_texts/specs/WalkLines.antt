@@ -1,6 +1,5 @@
 -- The lines of the records that a walk collects.
-use Rattle.std.specs.Prelude.{◌-◌, ℕ, List, ◌++◌, length, codes}
-use Rattle.std.specs.Fmt.{decimal}
+use Rattle.std.{specs.Prelude.{◌-◌, ℕ, List, ◌++◌, length, codes}, specs.Fmt.{decimal}}
 use Rattle.pdr_repository.specs.Records.{handle_in}
 
 -- a record's handle, and how many bytes follow its header of ten bytes

@@ -1,7 +1,5 @@
 //! The first line in which two texts differ.
-ghost use Rattle.std.specs.Prelude.{◌≡◌, ◌+◌, ◌<◌, ◌^◌, IfOk, IfNone, IfSome, map, string_bytes};
-ghost use Rattle.std.specs.Option.{option_copied};
-ghost use Rattle.std.specs.Str.Lines.{lines};
+ghost use Rattle.std.{specs.Prelude.{◌≡◌, ◌+◌, ◌<◌, ◌^◌, IfOk, IfNone, IfSome, map, string_bytes}, specs.Option.{option_copied}, specs.Str.Lines.{lines}};
 ghost use Rattle.plan_texts.specs.DifferenceLines.{DifferFirstAt, IsDifferenceText, difference_text, expected_text, came_text};
 
 use std::alloc::{AllocError, Global};

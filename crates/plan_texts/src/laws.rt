@@ -1,13 +1,8 @@
 //! Laws of lines. The functions do nothing: their contracts are the laws.
 ghost use Rattle.std.specs.Prelude.{◌≡◌};
-ghost use Rattle.plan_values.specs.declared.plan.Plan.{Plan};
-ghost use Rattle.plan_values.specs.PlanValues.{plan_value};
-ghost use Rattle.net_rules.specs.declared.fault.Fault.{Fault};
-ghost use Rattle.net_rules.specs.declared.certify_error.CertifyError.{CertifyError};
-ghost use Rattle.net_rules.specs.declared.move_error.MoveError.{MoveError};
-ghost use Rattle.net_rules.specs.declared.move_obstacle.MoveObstacle.{MoveObstacle};
-ghost use Rattle.plan_texts.specs.Lines.{fault_text, obstacle_text};
-ghost use Rattle.plan_texts.specs.MoveLines.{move_error_text, move_obstacle_text};
+ghost use Rattle.plan_values.{specs.declared.plan.Plan.{Plan}, specs.PlanValues.{plan_value}};
+ghost use Rattle.net_rules.{specs.declared.fault.Fault.{Fault}, specs.declared.certify_error.CertifyError.{CertifyError}, specs.declared.move_error.MoveError.{MoveError}, specs.declared.move_obstacle.MoveObstacle.{MoveObstacle}};
+ghost use Rattle.plan_texts.{specs.Lines.{fault_text, obstacle_text}, specs.MoveLines.{move_error_text, move_obstacle_text}};
 
 /// The lines of a fault, of what rules certificates out, and of both of a move, depend on what the plan says alone.
 pub fn lines_depend_on_values_alone()

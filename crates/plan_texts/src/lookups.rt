@@ -1,7 +1,6 @@
 //! What several lines have: numbers, nodes, buses, addresses, endpoint IDs.
 ghost use Rattle.std.specs.Prelude.{◌≡◌, IfOk, string_bytes};
-ghost use Rattle.plan_texts.specs.LineParts.{address_text, bus_text, from_to, name_or_none, span_text};
-ghost use Rattle.plan_texts.specs.Lines.{number_or_dash};
+ghost use Rattle.plan_texts.{specs.LineParts.{address_text, bus_text, from_to, name_or_none, span_text}, specs.Lines.{number_or_dash}};
 
 use net_tables::lookup::{bus_name, node_name};
 use plan_values::Plan;

@@ -1,11 +1,7 @@
 //! What the command `show` prints.
 ghost use Rattle.std.specs.Prelude.{◌≡◌, IfOk, string_bytes};
 ghost use Rattle.mctp_transport.specs.Packets.{packet_value_of};
-ghost use Rattle.pdr_record.specs.Bodies.{body_value};
-ghost use Rattle.pdr_record.specs.ListValues.{state_value, association_value};
-ghost use Rattle.pdr_record.specs.NumericValues.{numeric_value};
-ghost use Rattle.pdr_record.specs.RecordValues.{record_value};
-ghost use Rattle.pdr_record.specs.Values.{terminus_value, sensor_value, entity_value};
+ghost use Rattle.pdr_record.{specs.Bodies.{body_value}, specs.ListValues.{state_value, association_value}, specs.NumericValues.{numeric_value}, specs.RecordValues.{record_value}, specs.Values.{terminus_value, sensor_value, entity_value}};
 ghost use Rattle.plan_texts.specs.Shown.{refused_bytes, packet_bytes, address_words_of, position_words_of, tag_words_of, record_text_bytes, body_bytes, terminus_bytes, locator_words_of, numeric_bytes, state_bytes, sensor_words_of, entity_words_of, association_bytes};
 
 use mctp_transport::PacketView;

@@ -1,6 +1,5 @@
 //! What the command `walk` prints.
-ghost use Rattle.std.specs.Prelude.{◌≡◌, ◌≤◌, ◌++◌, length, map, slice_index, IfOk, string_bytes};
-ghost use Rattle.std.specs.List.{flat_map};
+ghost use Rattle.std.{specs.Prelude.{◌≡◌, ◌≤◌, ◌++◌, length, map, slice_index, IfOk, string_bytes}, specs.List.{flat_map}};
 ghost use Rattle.pdr_repository.specs.Records.{handle_in};
 ghost use Rattle.plan_texts.specs.WalkLines.{record_line, count_line};
 

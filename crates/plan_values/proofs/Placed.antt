@@ -1,10 +1,6 @@
 -- That what is named in a plan stands in the plan's own lists.
-use Rattle.std.proofs.Common.{◌≡◌, ℕ, zero, suc, List, [], ◌∷◌, length, map, Bool, true, false, ◌&&◌, refl, sym, ap, ◌∙◌, slice_get, Some, true≢false}
-use Rattle.std.proofs.lemmas.List.{length-map}
-use Rattle.std.specs.List.{list_all}
-use Rattle.plan_values.specs.NodeValues.{port_value, row_value, node_value}
-use Rattle.plan_values.specs.Placed.{is_port_placed, is_row_placed, is_node_placed, are_placed, is_placed}
-use Rattle.plan_values.specs.declared.nodes.Node.{Node}
+use Rattle.std.{proofs.Common.{◌≡◌, ℕ, zero, suc, List, [], ◌∷◌, length, map, Bool, true, false, ◌&&◌, refl, sym, ap, ◌∙◌, slice_get, Some, true≢false}, proofs.lemmas.List.{length-map}, specs.List.{list_all}}
+use Rattle.plan_values.{specs.NodeValues.{port_value, row_value, node_value}, specs.Placed.{is_port_placed, is_row_placed, is_node_placed, are_placed, is_placed}, specs.declared.nodes.Node.{Node}}
 
 pub list_all_mapped : {A B : Type 0} (p : B → Bool) (f : A → B) (xs : List A) → list_all p (map f xs) ≡ list_all (λ x. p (f x)) xs
 list_all_mapped p f [] = refl

@@ -1,7 +1,5 @@
 -- Two lists of which each item has the same value.
-use Rattle.std.proofs.Common.{◌≡◌, ℕ, suc, ◌<◌, ◌≤◌, List, [], ◌∷◌, length, get_or, Some, refl, sym, ◌∙◌, ap, arith}
-use Rattle.std.specs.Prelude.{map, slice_get, option_map}
-use Rattle.std.proofs.lemmas.Option.{same_Some, slice_get_read, slice_get_past, slice_get-map}
+use Rattle.std.{proofs.Common.{◌≡◌, ℕ, suc, ◌<◌, ◌≤◌, List, [], ◌∷◌, length, get_or, Some, refl, sym, ◌∙◌, ap, arith}, specs.Prelude.{map, slice_get, option_map}, proofs.lemmas.Option.{same_Some, slice_get_read, slice_get_past, slice_get-map}}
 
 -- the items at one place have the same value
 abbrev pub IsSameAt : {A B : Type 0} → (A → B) → List A → List A → ℕ → Type 0

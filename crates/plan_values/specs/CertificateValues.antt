@@ -1,11 +1,6 @@
 -- A certificate as plain lists and numbers.
-use Rattle.std.specs.Prelude.{ℕ, ◌+◌, ◌≤◌, ◌&&◌, List, map, Bool, nat_lt, AllPairs}
-use Rattle.std.specs.List.{list_all}
-use Rattle.plan_values.specs.declared.certificate.Certificate.{Certificate}
-use Rattle.plan_values.specs.declared.certificate.NodeLevel.{NodeLevel}
-use Rattle.plan_values.specs.declared.certificate.NodePlaces.{NodePlaces}
-use Rattle.plan_values.specs.declared.certificate.NodeRanks.{NodeRanks}
-use Rattle.plan_values.specs.declared.certificate.RankRange.{RankRange}
+use Rattle.std.{specs.Prelude.{ℕ, ◌+◌, ◌≤◌, ◌&&◌, List, map, Bool, nat_lt, AllPairs}, specs.List.{list_all}}
+use Rattle.plan_values.{specs.declared.certificate.Certificate.{Certificate}, specs.declared.certificate.NodeLevel.{NodeLevel}, specs.declared.certificate.NodePlaces.{NodePlaces}, specs.declared.certificate.NodeRanks.{NodeRanks}, specs.declared.certificate.RankRange.{RankRange}}
 
 -- `node` is the index of the node in the plan's list
 pub record LevelValue : Type 0 where

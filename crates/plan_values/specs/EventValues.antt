@@ -1,8 +1,6 @@
 -- Events as plain lists and numbers.
 use Rattle.std.specs.Prelude.{ℕ, Bool, true, List, nat_lt}
-use Rattle.plan_values.specs.declared.event.Event.{Event}
-use Rattle.plan_values.specs.declared.event.Event.TheVariants.{Put, Move, Lose, Expire, Answer}
-use Rattle.plan_values.specs.declared.event.Event.TheVariants.{Switch, Walk, Ask, Collected}
+use Rattle.plan_values.{specs.declared.event.Event.{Event}, specs.declared.event.Event.TheVariants.{Put, Move, Lose, Expire, Answer, Switch, Walk, Ask, Collected}}
 
 -- an entry of a list of events; nodes are indices into the plan's list
 pub data EventEntry : Type 0 where

@@ -1,6 +1,5 @@
 -- How a name is spelled.
-use Rattle.std.specs.Prelude.{ℕ, ◌&&◌, ◌||◌, ◌==◌, Bool, List, length, nat_le}
-use Rattle.std.specs.List.{list_all}
+use Rattle.std.{specs.Prelude.{ℕ, ◌&&◌, ◌||◌, ◌==◌, Bool, List, length, nat_le}, specs.List.{list_all}}
 
 -- an ASCII letter or digit, `-`, `.` or `_`
 abbrev pub is_name_byte : ℕ → Bool

@@ -1,14 +1,6 @@
 -- Buses and nodes as plain lists and numbers.
 use Rattle.std.specs.Prelude.{ℕ, List, [], map, string_bytes, Option, option_map}
-use Rattle.plan_values.specs.declared.name.Name.{Name}
-use Rattle.plan_values.specs.declared.nodes.Bus.{Bus}
-use Rattle.plan_values.specs.declared.nodes.Kind.{Kind}
-use Rattle.plan_values.specs.declared.nodes.Node.{Node}
-use Rattle.plan_values.specs.declared.nodes.Pool.{Pool}
-use Rattle.plan_values.specs.declared.nodes.Port.{Port}
-use Rattle.plan_values.specs.declared.nodes.Row.{Row}
-use Rattle.plan_values.specs.declared.terminus.PlannedRecord.{PlannedRecord}
-use Rattle.plan_values.specs.declared.terminus.PlannedTerminus.{PlannedTerminus}
+use Rattle.plan_values.{specs.declared.name.Name.{Name}, specs.declared.nodes.Bus.{Bus}, specs.declared.nodes.Kind.{Kind}, specs.declared.nodes.Node.{Node}, specs.declared.nodes.Pool.{Pool}, specs.declared.nodes.Port.{Port}, specs.declared.nodes.Row.{Row}, specs.declared.terminus.PlannedRecord.{PlannedRecord}, specs.declared.terminus.PlannedTerminus.{PlannedTerminus}}
 
 pub record BusValue : Type 0 where
   pub name : List ℕ

@@ -1,8 +1,6 @@
 -- That what is named in a plan stands in the plan's own lists.
-use Rattle.std.specs.Prelude.{ℕ, ◌&&◌, List, length, Bool, true, nat_lt, Option, Some, None}
-use Rattle.std.specs.List.{list_all}
-use Rattle.plan_values.specs.declared.nodes.Node.{Node}
-use Rattle.plan_values.specs.NodeValues.{PortValue, RowValue, NodeValue}
+use Rattle.std.{specs.Prelude.{ℕ, ◌&&◌, List, length, Bool, true, nat_lt, Option, Some, None}, specs.List.{list_all}}
+use Rattle.plan_values.{specs.declared.nodes.Node.{Node}, specs.NodeValues.{PortValue, RowValue, NodeValue}}
 
 -- the port's bus is one of so many
 abbrev pub is_port_placed : ℕ → PortValue → Bool

@@ -1,9 +1,7 @@
 -- A plan as plain lists and numbers.
 use Rattle.std.specs.Prelude.{ℕ, List, map}
 use Rattle.plan_values.specs.declared.plan.Plan.{Plan}
-pub use Rattle.plan_values.specs.NodeValues.{BusValue, PortValue, RowValue, PoolValue, RecordValue, TerminusValue}
-pub use Rattle.plan_values.specs.NodeValues.{NodeValue, name_bytes, bus_value, bus_names, node_names, port_value}
-pub use Rattle.plan_values.specs.NodeValues.{row_value, pool_value, record_value, terminus_value, node_value}
+pub use Rattle.plan_values.specs.NodeValues.{BusValue, PortValue, RowValue, PoolValue, RecordValue, TerminusValue, NodeValue, name_bytes, bus_value, bus_names, node_names, port_value, row_value, pool_value, record_value, terminus_value, node_value}
 
 -- `unit` is the transmission unit
 pub record PlanValue : Type 0 where

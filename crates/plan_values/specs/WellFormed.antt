@@ -1,9 +1,6 @@
 -- Which certificates are well formed for their plan.
 use Rattle.std.specs.Prelude.{◌≢◌, length, IsTrue, AllPairs, All}
-use Rattle.plan_values.specs.CertificateValues.{are_known}
-use Rattle.plan_values.specs.CertificateValues.{IsAscending}
-use Rattle.plan_values.specs.CertificateValues.{CertificateValue}
-use Rattle.plan_values.specs.PlanValues.{PlanValue, node_names}
+use Rattle.plan_values.{specs.CertificateValues.{are_known, IsAscending, CertificateValue}, specs.PlanValues.{PlanValue, node_names}}
 
 -- No two nodes of the plan have one name; all entries are of the plan's nodes, in no list two of one node; the ranges
 -- of each node ascend apart. The numbers are in bounds by their types.

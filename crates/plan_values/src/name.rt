@@ -1,6 +1,5 @@
 //! The names of buses and nodes.
-ghost use Rattle.std.specs.Prelude.{◌≡◌, string_bytes, IsTrue};
-ghost use Rattle.std.specs.List.{list_all};
+ghost use Rattle.std.{specs.Prelude.{◌≡◌, string_bytes, IsTrue}, specs.List.{list_all}};
 ghost use Rattle.plan_values.specs.NameText.{is_name, is_name_byte, has_name_length};
 
 /// The name of a bus or a node: 1 to 32 ASCII letters, digits, `-`, `_` or `.`.
@@ -12,8 +11,7 @@ pub struct Name {
 
 impl Name {
     ghost use Rattle.std.specs.Prelude.{◌≡◌, Some, None, option_map, if◌then◌else◌, string_bytes};
-    ghost use Rattle.plan_values.specs.NameText.{is_name};
-    ghost use Rattle.plan_values.specs.NodeValues.{name_bytes};
+    ghost use Rattle.plan_values.{specs.NameText.{is_name}, specs.NodeValues.{name_bytes}};
 
     /// The name that a text is. `None` where it is none.
     pub fn of(text: String) -> Option<Name>

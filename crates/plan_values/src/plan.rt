@@ -1,7 +1,6 @@
 //! A plan: its transmission unit, its buses and its nodes.
 ghost use Rattle.std.specs.Prelude.{◌≤◌, vec_len, map, IsTrue};
-ghost use Rattle.plan_values.specs.NodeValues.{node_value};
-ghost use Rattle.plan_values.specs.Placed.{are_placed};
+ghost use Rattle.plan_values.{specs.NodeValues.{node_value}, specs.Placed.{are_placed}};
 
 use crate::nodes::{Bus, Node};
 use crate::references::are_placed;
@@ -30,8 +29,7 @@ pub struct Plan {
 
 impl Plan {
     ghost use Rattle.std.specs.Prelude.{◌≡◌, ◌↔◌, ◌≤◌, vec_len, map, IsTrue, IsSome, IfSome};
-    ghost use Rattle.plan_values.specs.NodeValues.{node_value};
-    ghost use Rattle.plan_values.specs.Placed.{are_placed};
+    ghost use Rattle.plan_values.{specs.NodeValues.{node_value}, specs.Placed.{are_placed}};
 
     /// The plan of this transmission unit, these buses and these nodes. `None` where the unit is not 64 to 1024, where
     /// there are more than 64 buses or nodes, or where they name others than each other.

@@ -1,8 +1,6 @@
 //! Whether what a plan's nodes name stands in the plan's lists.
-ghost use Rattle.std.specs.Prelude.{◌≡◌, ◌&&◌, length, map, nat_lt};
-ghost use Rattle.std.specs.List.{list_all};
-ghost use Rattle.plan_values.specs.NodeValues.{node_value};
-ghost use Rattle.plan_values.specs.Placed.{is_owner_placed, is_placed, are_placed};
+ghost use Rattle.std.{specs.Prelude.{◌≡◌, ◌&&◌, length, map, nat_lt}, specs.List.{list_all}};
+ghost use Rattle.plan_values.{specs.NodeValues.{node_value}, specs.Placed.{is_owner_placed, is_placed, are_placed}};
 
 use crate::nodes::{Node, Port, Row};
 

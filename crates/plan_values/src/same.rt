@@ -1,8 +1,6 @@
 //! Plans and their parts, compared by what they say.
 ghost use Rattle.std.specs.Prelude.{◌≡◌, ◌↔◌, IsTrue, map, option_map};
-ghost use Rattle.plan_values.specs.NodeValues.{BusValue, PortValue, RowValue, RecordValue, TerminusValue, NodeValue};
-ghost use Rattle.plan_values.specs.NodeValues.{bus_value, port_value, row_value, record_value, terminus_value, node_value, but_rows};
-ghost use Rattle.plan_values.specs.PlanValues.{plan_value};
+ghost use Rattle.plan_values.{specs.NodeValues.{BusValue, PortValue, RowValue, RecordValue, TerminusValue, NodeValue, bus_value, port_value, row_value, record_value, terminus_value, node_value, but_rows}, specs.PlanValues.{plan_value}};
 
 use crate::nodes::{Bus, Node, Port, Row};
 use crate::plan::Plan;

@@ -1,24 +1,12 @@
 -- What the end of `expect` tells, and the lines that are expected.
-use Rattle.std.proofs.Common.{◌≡◌, ◌∙◌, ◌≤◌, ℕ, List, length, map, take, Result, Ok, Err, sym, ap}
-use Rattle.std.specs.Prelude.{IfOk}
-use Rattle.std.specs.Cow.{cow_str_bytes}
-use Rattle.std.proofs.lemmas.List.{take_all}
+use Rattle.std.{proofs.Common.{◌≡◌, ◌∙◌, ◌≤◌, ℕ, List, length, map, take, Result, Ok, Err, sym, ap}, specs.Prelude.{IfOk}, specs.Cow.{cow_str_bytes}, proofs.lemmas.List.{take_all}}
 use Rattle.net_plan.specs.declared.error.PlanError.{PlanError}
-use Rattle.plan_values.specs.declared.certificate.Certificate.{Certificate}
-use Rattle.plan_values.specs.declared.event.Event.{Event}
-use Rattle.plan_values.specs.declared.plan.Plan.{Plan}
-use Rattle.net_sim.specs.declared.outcome.Outcome.{Outcome}
-use Rattle.net_sim.specs.Outcomes.{event_value, outcome_value}
+use Rattle.plan_values.{specs.declared.certificate.Certificate.{Certificate}, specs.declared.event.Event.{Event}, specs.declared.plan.Plan.{Plan}}
+use Rattle.net_sim.{specs.declared.outcome.Outcome.{Outcome}, specs.Outcomes.{event_value, outcome_value}}
 use Rattle.run_texts.specs.OutcomeLines.{outcome_lines}
-use Rattle.command_answers.specs.declared.answer.Answer.{Answer}
-use Rattle.command_answers.specs.declared.refused.Input.{Input}
+use Rattle.command_answers.{specs.declared.answer.Answer.{Answer}, specs.declared.refused.Input.{Input}, specs.declared.refused.Refused.{Refused}, specs.Answers.{Stream, AreGiven}, specs.Inputs.{GaveLines, IsUnreadAsLines, AreLinesUnread, GaveEvents}, proofs.Causes.{unread_also}}
+use Rattle.play_commands.{specs.Expecting.{AnswersLinesOn, AnswersLinesSo, IsUnreadInExpect, AreUnreadInExpect}, specs.Simulating.{IsUnreadAmong, AreUnreadAmong}}
 use Rattle.command_answers.specs.declared.refused.Input.TheVariants as input
-use Rattle.command_answers.specs.declared.refused.Refused.{Refused}
-use Rattle.command_answers.specs.Answers.{Stream, AreGiven}
-use Rattle.play_commands.specs.Expecting.{AnswersLinesOn, AnswersLinesSo, IsUnreadInExpect, AreUnreadInExpect}
-use Rattle.command_answers.specs.Inputs.{GaveLines, IsUnreadAsLines, AreLinesUnread, GaveEvents}
-use Rattle.play_commands.specs.Simulating.{IsUnreadAmong, AreUnreadAmong}
-use Rattle.command_answers.proofs.Causes.{unread_also}
 
 -- an input before the lines was not read
 pub among_unread : (why : Refused) (plans certificates happenings expectations : Stream) → AreUnreadAmong why plans certificates happenings

@@ -1,15 +1,9 @@
 -- Why the files of `simmove` were not read.
-use Rattle.plan_values.specs.declared.certificate.Certificate.{Certificate}
-use Rattle.plan_values.specs.declared.plan.Plan.{Plan}
+use Rattle.plan_values.{specs.declared.certificate.Certificate.{Certificate}, specs.declared.plan.Plan.{Plan}}
 use Rattle.net_plan.specs.declared.error.PlanError.{PlanError}
-use Rattle.command_answers.specs.declared.refused.Input.{Input}
-use Rattle.command_answers.specs.declared.refused.Input.TheVariants as input
-use Rattle.command_answers.specs.declared.refused.Refused.{Refused}
-use Rattle.command_answers.specs.Answers.{Stream}
-use Rattle.command_answers.specs.Moves.{IsMoveGiven, IsUnreadInMove, IsMoveUnread}
+use Rattle.command_answers.{specs.declared.refused.Input.{Input}, specs.declared.refused.Refused.{Refused}, specs.Answers.{Stream}, specs.Moves.{IsMoveGiven, IsUnreadInMove, IsMoveUnread}, specs.Inputs.{AreUnreadEvents, AreEventsUnread}, proofs.Causes.{unread_also}}
 use Rattle.play_commands.specs.MoveSimulating.{IsUnreadInPlay, IsPlayUnread}
-use Rattle.command_answers.specs.Inputs.{AreUnreadEvents, AreEventsUnread}
-use Rattle.command_answers.proofs.Causes.{unread_also}
+use Rattle.command_answers.specs.declared.refused.Input.TheVariants as input
 
 -- the plans or the certificate were not read
 pub inputs_unread : (why : Refused) (befores afters certificates happenings : Stream) → IsMoveUnread why befores afters certificates

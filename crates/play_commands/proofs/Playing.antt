@@ -1,20 +1,12 @@
 -- What the end of a run says of an answer that was written as it was found.
-use Rattle.std.proofs.Common.{◌≡◌, ◌⊎◌, ℕ, List, Result, Ok, Err, inl, inr, refl, sym, ◌∙◌, subst}
-use Rattle.std.specs.Prelude.{IfOk, IfErr}
-use Rattle.std.specs.Io.KnownBytes.{Appends}
+use Rattle.std.{proofs.Common.{◌≡◌, ◌⊎◌, ℕ, List, Result, Ok, Err, inl, inr, refl, sym, ◌∙◌, subst}, specs.Prelude.{IfOk, IfErr}, specs.Io.KnownBytes.{Appends}}
 use Rattle.net_tables.specs.TwoPlans.{Tables}
 use Rattle.net_runs.specs.Walkers.{WalkedEvent}
 use Rattle.plan_values.specs.declared.certificate.Certificate.{Certificate}
-use Rattle.command_answers.specs.declared.refused.Refused.{Refused}
-use Rattle.command_answers.specs.declared.refused.Refused.TheVariants as refused
-use Rattle.command_answers.specs.declared.status.Status.{Status}
-use Rattle.command_answers.specs.declared.status.Status.TheVariants as status
-use Rattle.command_answers.specs.Answers.{Stream, BreaksOff, Refuses}
+use Rattle.command_answers.{specs.declared.refused.Refused.{Refused}, specs.declared.status.Status.{Status}, specs.Answers.{Stream, BreaksOff, Refuses}, specs.Statuses.{status_of}, specs.Told.{IsUngivenFor}, proofs.Telling.{breaks_off_also}, proofs.Told.{refuses_so, of_memory}}
 use Rattle.play_commands.specs.Simulating.{IsWalksText, PlaysBy, SimulatesBy, PlaysSo, EndsPlay, ConcludesPlay, RunsIn, IsTextIn}
-use Rattle.command_answers.specs.Statuses.{status_of}
-use Rattle.command_answers.specs.Told.{IsUngivenFor}
-use Rattle.command_answers.proofs.Telling.{breaks_off_also}
-use Rattle.command_answers.proofs.Told.{refuses_so, of_memory}
+use Rattle.command_answers.specs.declared.refused.Refused.TheVariants as refused
+use Rattle.command_answers.specs.declared.status.Status.TheVariants as status
 
 module _ (Runs : Status → Stream → Type 0) (IsFault IsText : List ℕ → Type 0) (IsUnread : Refused → Type 0) (nothing : Type 0) (output : Stream) where
   abbrev Plays : Result Status Refused → Type 0

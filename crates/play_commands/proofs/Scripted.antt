@@ -1,38 +1,17 @@
 -- What comes of the last of some events, and how a text of events is judged.
-use Rattle.std.proofs.Common.{◌≡◌, ◌≢◌, ◌-◌, ◌<◌, ◌≤◌, ℕ, List, [], ◌∷◌, ◌++◌, length, map, take, Option, Some, None, Ok, inl, inr, refl, sym, ◌∙◌, ap, subst, length-append, arith}
-use Rattle.std.specs.Prelude.{slice_get, option_map, true, false, IsSome}
-use Rattle.std.specs.Cow.{cow_str_bytes}
-use Rattle.std.specs.Option.{option_to_list}
-use Rattle.std.proofs.lemmas.List.{length-map, take_all}
-use Rattle.std.proofs.lemmas.Option.{slice_get-map, slice_get_within}
-use Rattle.net_plan.specs.declared.error.PlanError.{PlanError}
-use Rattle.net_plan.specs.declared.error.PlanError.TheVariants as error
-use Rattle.net_plan.specs.EventReading.{events as read_events}
-use Rattle.net_plan.specs.EventText.{AreEventsOf}
-use Rattle.net_plan.specs.Refusals.{IsRefused}
-use Rattle.plan_values.specs.PlanValues.{plan_value, node_names}
-use Rattle.plan_values.specs.declared.certificate.Certificate.{Certificate}
-use Rattle.plan_values.specs.declared.event.Event.{Event}
-use Rattle.plan_values.specs.declared.nodes.Node.{Node}
-use Rattle.plan_values.specs.declared.plan.Plan.{Plan}
+use Rattle.std.{proofs.Common.{◌≡◌, ◌≢◌, ◌-◌, ◌<◌, ◌≤◌, ℕ, List, [], ◌∷◌, ◌++◌, length, map, take, Option, Some, None, Ok, inl, inr, refl, sym, ◌∙◌, ap, subst, length-append, arith}, specs.Prelude.{slice_get, option_map, true, false, IsSome}, specs.Cow.{cow_str_bytes}, specs.Option.{option_to_list}, proofs.lemmas.List.{length-map, take_all}, proofs.lemmas.Option.{slice_get-map, slice_get_within}}
+use Rattle.net_plan.{specs.declared.error.PlanError.{PlanError}, specs.EventReading.{events as read_events}, specs.EventText.{AreEventsOf}, specs.Refusals.{IsRefused}}
+use Rattle.plan_values.{specs.PlanValues.{plan_value, node_names}, specs.declared.certificate.Certificate.{Certificate}, specs.declared.event.Event.{Event}, specs.declared.nodes.Node.{Node}, specs.declared.plan.Plan.{Plan}}
 use Rattle.net_rules.specs.Rules.{Accepts}
 use Rattle.net_runs.specs.Walkers.{WalkedEvent, WalkedOutcome, walked_at_start}
-use Rattle.net_sim.specs.declared.outcome.Outcome.{Outcome}
-use Rattle.net_sim.specs.Outcomes.{event_value, outcome_value}
-use Rattle.net_sim.specs.Played.{IsRunOf}
-use Rattle.net_sim.specs.WalkedStanding.{NetworkValue}
-use Rattle.net_sim.specs.Walks.{HaveWalked}
-use Rattle.net_tables.specs.Repositories.{records_of}
-use Rattle.net_tables.specs.Routing.{Holds}
-use Rattle.net_tables.specs.TwoPlans.{one_plan}
+use Rattle.net_sim.{specs.declared.outcome.Outcome.{Outcome}, specs.Outcomes.{event_value, outcome_value}, specs.Played.{IsRunOf}, specs.WalkedStanding.{NetworkValue}, specs.Walks.{HaveWalked}}
+use Rattle.net_tables.{specs.Repositories.{records_of}, specs.Routing.{Holds}, specs.TwoPlans.{one_plan}}
 use Rattle.command_questions.specs.declared.walk_script.WalkScript.{WalkScript}
-use Rattle.command_answers.specs.declared.answer.Answer.{Answer}
-use Rattle.command_answers.specs.declared.status.Status.{Status}
+use Rattle.command_answers.{specs.declared.answer.Answer.{Answer}, specs.declared.status.Status.{Status}, specs.Naming.{IsFirstNamed}}
+use Rattle.play_commands.{specs.declared.script.judging.Judged.{Judged}, specs.Scripting.{last_item, EndsWith, HasRecords, IsDone, IsNotDoneBy, HasNoEvents, IsJudged, AnswersScriptOn, no_script}}
+use Rattle.net_plan.specs.declared.error.PlanError.TheVariants as error
 use Rattle.command_answers.specs.declared.status.Status.TheVariants as status
-use Rattle.command_answers.specs.Naming.{IsFirstNamed}
-use Rattle.play_commands.specs.declared.script.judging.Judged.{Judged}
 use Rattle.play_commands.specs.declared.script.judging.Judged.TheVariants as judged
-use Rattle.play_commands.specs.Scripting.{last_item, EndsWith, HasRecords, IsDone, IsNotDoneBy, HasNoEvents, IsJudged, AnswersScriptOn, no_script}
 
 -- ---- the last of a list
 

@@ -1,34 +1,15 @@
 -- Lines of outcomes, and runs of which they are.
-use Rattle.std.proofs.Common.{◌≡◌, ℕ, zero, suc, ◌+◌, ◌<◌, ◌≤◌, List, [], ◌∷◌, ◌++◌, length, map, take, drop, get_or, Option, Some, Result, Ok, Err, refl, sym, ◌∙◌, ap, subst, append_assoc, append-nil, arith}
-use Rattle.std.specs.Prelude.{slice_get, option_map, IfErr, OnOk, OnErr}
-use Rattle.std.specs.Io.KnownBytes.{Appends}
-use Rattle.std.proofs.KnownBytes.{Appends-nil}
-use Rattle.std.proofs.lemmas.List.{take-append-drop, length-map, length-take-le, take_more, take_all, take-map}
-use Rattle.std.proofs.lemmas.Option.{slice_get-map, slice_get-get_or, get_or_from_slice_get}
-use Rattle.plan_values.specs.declared.plan.Plan.{Plan}
-use Rattle.net_plan.specs.Stream.{AppendsBeginning}
-use Rattle.command_answers.specs.Gathering.{AppendsAllBut}
-use Rattle.command_answers.proofs.Waiting.{added_after, begins_after, begins_at_end, given_at_end}
-use Rattle.net_runs.specs.WalkedRuns.{WalkedTurn, WalkedRunFrom}
-use Rattle.net_runs.specs.Walkers.{WalkedState, WalkedEvent, WalkedOutcome, walked_at_start}
+use Rattle.std.{proofs.Common.{◌≡◌, ℕ, zero, suc, ◌+◌, ◌<◌, ◌≤◌, List, [], ◌∷◌, ◌++◌, length, map, take, drop, get_or, Option, Some, Result, Ok, Err, refl, sym, ◌∙◌, ap, subst, append_assoc, append-nil, arith}, specs.Prelude.{slice_get, option_map, IfErr, OnOk, OnErr}, specs.Io.KnownBytes.{Appends}, proofs.KnownBytes.{Appends-nil}, proofs.lemmas.List.{take-append-drop, length-map, length-take-le, take_more, take_all, take-map}, proofs.lemmas.Option.{slice_get-map, slice_get-get_or, get_or_from_slice_get}}
+use Rattle.plan_values.{specs.declared.plan.Plan.{Plan}, specs.declared.certificate.Certificate.{Certificate}}
+use Rattle.net_plan.{specs.Stream.{AppendsBeginning}, specs.declared.error.PlanError.{PlanError}}
+use Rattle.command_answers.{specs.Gathering.{AppendsAllBut}, proofs.Waiting.{added_after, begins_after, begins_at_end, given_at_end}, specs.declared.refused.Refused.{Refused}, specs.declared.refused.Input.{Input}, specs.Answers.{Stream, Fails, BreaksOff, AreGiven}, proofs.Causes.{unread_also}, proofs.Telling.{breaks_off_also}, specs.Inputs.{AreUnreadEvents, AreEventsUnread}}
+use Rattle.net_runs.{specs.WalkedRuns.{WalkedTurn, WalkedRunFrom}, specs.Walkers.{WalkedState, WalkedEvent, WalkedOutcome, walked_at_start}}
 use Rattle.net_tables.specs.TwoPlans.{Tables}
-use Rattle.net_sim.specs.declared.outcome.Outcome.{Outcome}
-use Rattle.net_sim.specs.Outcomes.{outcome_value}
-use Rattle.net_sim.specs.Played.{IsRunOf}
-use Rattle.net_sim.specs.WalkedStanding.{NetworkValue, StandsForWalked}
-use Rattle.net_sim.specs.Walks.{HaveWalked, PlaysWalks}
-use Rattle.command_answers.specs.declared.refused.Refused.{Refused}
-use Rattle.command_answers.specs.declared.refused.Refused.TheVariants as refused
-use Rattle.command_answers.specs.declared.refused.Input.{Input}
-use Rattle.command_answers.specs.declared.refused.Input.TheVariants as input
-use Rattle.command_answers.specs.Answers.{Stream, Fails, BreaksOff, AreGiven}
-use Rattle.command_answers.proofs.Causes.{unread_also}
-use Rattle.command_answers.proofs.Telling.{breaks_off_also}
-use Rattle.plan_values.specs.declared.certificate.Certificate.{Certificate}
-use Rattle.net_plan.specs.declared.error.PlanError.{PlanError}
+use Rattle.net_sim.{specs.declared.outcome.Outcome.{Outcome}, specs.Outcomes.{outcome_value}, specs.Played.{IsRunOf}, specs.WalkedStanding.{NetworkValue, StandsForWalked}, specs.Walks.{HaveWalked, PlaysWalks}}
 use Rattle.run_texts.specs.OutcomeLines.{outcome_line, lines_from, outcome_lines}
 use Rattle.play_commands.specs.Simulating.{IsRunText, ShowsRun, ShowsBeginning, ShowsWalks, ShowsBegunWalks, IsWalksText, ShowsAllOr, AreFirstLines, ShowsLines, IsUnreadAmong, AreUnreadAmong}
-use Rattle.command_answers.specs.Inputs.{AreUnreadEvents, AreEventsUnread}
+use Rattle.command_answers.specs.declared.refused.Refused.TheVariants as refused
+use Rattle.command_answers.specs.declared.refused.Input.TheVariants as input
 
 -- ---- lines
 

@@ -1,22 +1,14 @@
 -- What `expect` answers on a plan, its certificate, events, and the lines that are expected.
-use Rattle.std.specs.Prelude.{◌≡◌, ◌⊎◌, ℕ, List, [], map, Some}
-use Rattle.std.specs.Str.Lines.{lines}
-use Rattle.plan_values.specs.declared.certificate.Certificate.{Certificate}
+use Rattle.std.{specs.Prelude.{◌≡◌, ◌⊎◌, ℕ, List, [], map, Some}, specs.Str.Lines.{lines}}
+use Rattle.plan_values.{specs.declared.certificate.Certificate.{Certificate}, specs.declared.event.Event.{Event}, specs.declared.plan.Plan.{Plan}}
 use Rattle.net_plan.specs.declared.error.PlanError.{PlanError}
-use Rattle.plan_values.specs.declared.event.Event.{Event}
-use Rattle.plan_values.specs.declared.plan.Plan.{Plan}
 use Rattle.net_runs.specs.Walkers.{WalkedEvent}
 use Rattle.net_sim.specs.Outcomes.{event_value}
-use Rattle.command_answers.specs.declared.refused.Input.{Input}
-use Rattle.command_answers.specs.declared.refused.Input.TheVariants as input
-use Rattle.command_answers.specs.declared.refused.Refused.{Refused}
-use Rattle.command_answers.specs.declared.status.Status.{Status}
-use Rattle.command_answers.specs.declared.status.Status.TheVariants as status
-use Rattle.command_answers.specs.Answers.{Stream, AreGiven, IsFaultText}
-use Rattle.command_answers.specs.Inputs.{GaveEvents, GaveLines, GaveNoLines}
+use Rattle.command_answers.{specs.declared.refused.Input.{Input}, specs.declared.refused.Refused.{Refused}, specs.declared.status.Status.{Status}, specs.Answers.{Stream, AreGiven, IsFaultText}, specs.Inputs.{GaveEvents, GaveLines, GaveNoLines}, specs.Statuses.{HasCause, yes_line}}
 use Rattle.play_commands.specs.Simulating.{IsUnreadAmong, RunsOn}
-use Rattle.command_answers.specs.Statuses.{HasCause, yes_line}
 use Rattle.plan_texts.specs.DifferenceLines.{IsDifferenceText}
+use Rattle.command_answers.specs.declared.refused.Input.TheVariants as input
+use Rattle.command_answers.specs.declared.status.Status.TheVariants as status
 
 -- an output in memory that was given this text, and nothing else
 abbrev pub given_only : List ℕ → Stream

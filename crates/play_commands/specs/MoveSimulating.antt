@@ -3,21 +3,11 @@ use Rattle.std.specs.Prelude.{◌⊎◌, ℕ, List, map}
 use Rattle.net_tables.specs.TwoPlans.{moving}
 use Rattle.net_runs.specs.Walkers.{WalkedEvent}
 use Rattle.net_sim.specs.Outcomes.{event_value}
-use Rattle.plan_values.specs.declared.plan.Plan.{Plan}
-use Rattle.plan_values.specs.declared.certificate.Certificate.{Certificate}
-use Rattle.net_plan.specs.declared.error.PlanError.{PlanError}
-use Rattle.plan_values.specs.declared.event.Event.{Event}
-use Rattle.plan_values.specs.PlanValues.{plan_value}
-use Rattle.net_plan.specs.Unread.{GaveNoEvents}
-use Rattle.command_answers.specs.declared.refused.Input.{Input}
-use Rattle.command_answers.specs.declared.refused.Input.TheVariants as input
-use Rattle.command_answers.specs.declared.refused.Refused.{Refused}
-use Rattle.command_answers.specs.declared.status.Status.{Status}
-use Rattle.command_answers.specs.Answers.{Stream, GaveNothing}
-use Rattle.command_answers.specs.Moves.{IsMoveGiven, IsMoveFaultText, IsUnreadInMove}
+use Rattle.plan_values.{specs.declared.plan.Plan.{Plan}, specs.declared.certificate.Certificate.{Certificate}, specs.declared.event.Event.{Event}, specs.PlanValues.{plan_value}}
+use Rattle.net_plan.{specs.declared.error.PlanError.{PlanError}, specs.Unread.{GaveNoEvents}}
+use Rattle.command_answers.{specs.declared.refused.Input.{Input}, specs.declared.refused.Refused.{Refused}, specs.declared.status.Status.{Status}, specs.Answers.{Stream, GaveNothing}, specs.Moves.{IsMoveGiven, IsMoveFaultText, IsUnreadInMove}, specs.Inputs.{GaveEvents}, specs.Statuses.{HasCause}}
 use Rattle.play_commands.specs.Simulating.{RunsIn, IsTextIn}
-use Rattle.command_answers.specs.Inputs.{GaveEvents}
-use Rattle.command_answers.specs.Statuses.{HasCause}
+use Rattle.command_answers.specs.declared.refused.Input.TheVariants as input
 
 -- the sources gave the plans, the certificate, and the events at the nodes of the plan before
 pub record IsPlayGiven (befores afters certificates happenings : Stream) (before after : Plan)

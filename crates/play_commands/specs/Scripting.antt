@@ -1,41 +1,20 @@
 -- What `script` answers on a plan and its certificate.
-use Rattle.std.specs.Prelude.{◌≡◌, ◌≢◌, ◌⊎◌, ℕ, ◌-◌, ◌≤◌, List, ◌∷◌, length, map, slice_get, Option, Some, None}
-use Rattle.std.specs.Prelude.{All, Err, ⊤, MatchOption, codes, string_bytes}
-use Rattle.pdr_repository.specs.declared.walk_fault.WalkFault.{WalkFault}
-use Rattle.pdr_repository.specs.declared.walk_fault.WalkFault.TheVariants.{NotAsked}
-use Rattle.net_plan.specs.declared.error.PlanError.{PlanError}
-use Rattle.net_plan.specs.declared.error.PlanError.TheVariants as error
-use Rattle.net_plan.specs.EventReading.{events as read_events}
-use Rattle.net_plan.specs.EventText.{AreEventsOf}
-use Rattle.net_plan.specs.Refusals.{IsRefused}
-use Rattle.net_plan.specs.Texts.{IsJsonTextOf}
-use Rattle.plan_values.specs.declared.certificate.Certificate.{Certificate}
-use Rattle.plan_values.specs.declared.event.Event.{Event}
-use Rattle.plan_values.specs.declared.plan.Plan.{Plan}
-use Rattle.plan_values.specs.EventValues.{event_entry}
-use Rattle.plan_values.specs.PlanValues.{plan_value, node_names}
-use Rattle.net_rules.specs.Names.{name_of}
-use Rattle.net_rules.specs.Rules.{Accepts}
-use Rattle.net_runs.specs.Events.{OutcomeValue}
-use Rattle.net_runs.specs.Events as flight
-use Rattle.net_runs.specs.WalkedRuns.{WalkedTurn, WalkedRunFrom}
-use Rattle.net_runs.specs.Walkers.{WalkedEvent, Happening, BeginWalk, Ask, TellWalk, WalkedOutcome, Happened}
-use Rattle.net_runs.specs.Walkers.{ToldWalk, WalkRefused, Handed, Finished, EndedBy, walked_at_start}
-use Rattle.net_sim.specs.Outcomes.{event_value}
-use Rattle.net_sim.specs.Walks.{HaveWalked}
-use Rattle.net_tables.specs.Repositories.{records_of}
-use Rattle.net_tables.specs.Routing.{Holds}
-use Rattle.net_tables.specs.TwoPlans.{one_plan}
+use Rattle.std.specs.Prelude.{◌≡◌, ◌≢◌, ◌⊎◌, ℕ, ◌-◌, ◌≤◌, List, ◌∷◌, length, map, slice_get, Option, Some, None, All, Err, ⊤, MatchOption, codes, string_bytes}
+use Rattle.pdr_repository.{specs.declared.walk_fault.WalkFault.{WalkFault}, specs.declared.walk_fault.WalkFault.TheVariants.{NotAsked}}
+use Rattle.net_plan.{specs.declared.error.PlanError.{PlanError}, specs.EventReading.{events as read_events}, specs.EventText.{AreEventsOf}, specs.Refusals.{IsRefused}, specs.Texts.{IsJsonTextOf}, specs.Limits.{most_events}}
+use Rattle.plan_values.{specs.declared.certificate.Certificate.{Certificate}, specs.declared.event.Event.{Event}, specs.declared.plan.Plan.{Plan}, specs.EventValues.{event_entry}, specs.PlanValues.{plan_value, node_names}}
+use Rattle.net_rules.{specs.Names.{name_of}, specs.Rules.{Accepts}}
+use Rattle.net_runs.{specs.Events.{OutcomeValue}, specs.WalkedRuns.{WalkedTurn, WalkedRunFrom}, specs.Walkers.{WalkedEvent, Happening, BeginWalk, Ask, TellWalk, WalkedOutcome, Happened, ToldWalk, WalkRefused, Handed, Finished, EndedBy, walked_at_start}}
+use Rattle.net_sim.{specs.Outcomes.{event_value}, specs.Walks.{HaveWalked}}
+use Rattle.net_tables.{specs.Repositories.{records_of}, specs.Routing.{Holds}, specs.TwoPlans.{one_plan}}
 use Rattle.command_questions.specs.declared.walk_script.WalkScript.{WalkScript}
 use Rattle.play_commands.specs.declared.script.judging.Judged.{Judged}
-use Rattle.play_commands.specs.declared.script.judging.Judged.TheVariants as judged
-use Rattle.command_answers.specs.declared.refused.Refused.{Refused}
-use Rattle.command_answers.specs.declared.status.Status.{Status}
-use Rattle.command_answers.specs.declared.status.Status.TheVariants as status
-use Rattle.command_answers.specs.Answers.{Stream, AreGiven, AreUnread, IsFaultText}
-use Rattle.command_answers.specs.Statuses.{HasCause}
-use Rattle.command_answers.specs.Naming.{IsFirstNamed}
+use Rattle.command_answers.{specs.declared.refused.Refused.{Refused}, specs.declared.status.Status.{Status}, specs.Answers.{Stream, AreGiven, AreUnread, IsFaultText}, specs.Statuses.{HasCause}, specs.Naming.{IsFirstNamed}}
 use Rattle.run_texts.specs.OutcomeLines.{outcome_line}
+use Rattle.net_plan.specs.declared.error.PlanError.TheVariants as error
+use Rattle.net_runs.specs.Events as flight
+use Rattle.play_commands.specs.declared.script.judging.Judged.TheVariants as judged
+use Rattle.command_answers.specs.declared.status.Status.TheVariants as status
 
 -- ---- the events of a walk
 
@@ -119,7 +98,7 @@ IsDoneBy n script plan cert events = (last : WalkedOutcome) × AreOfWalk n scrip
 -- of the last one.
 abbrev pub IsStuckBy : ℕ → WalkScript → Plan → Certificate → List Event → List ℕ → Type 0
 IsStuckBy n script plan cert events line = (last : WalkedOutcome) × AreOfWalk n script events
-    × EndsWith plan cert (map event_value events) (Some last) × (IsStuck last ⊎ (100000 ≤ length events))
+    × EndsWith plan cert (map event_value events) (Some last) × (IsStuck last ⊎ (most_events ≤ length events))
     × (line ≡ outcome_line plan (length events) last)
 
 -- they aren't of it, or it isn't done at the end of their run

@@ -1,31 +1,16 @@
 -- What the end of `sim` says of the events that were played and of what was written.
-use Rattle.std.specs.Prelude.{◌≡◌, ◌⊎◌, ℕ, List, map, take, Result, Ok, Err, ⊤}
-use Rattle.std.specs.Io.KnownBytes.{Appends}
-use Rattle.plan_values.specs.declared.plan.Plan.{Plan}
-use Rattle.plan_values.specs.declared.certificate.Certificate.{Certificate}
-use Rattle.net_plan.specs.declared.error.PlanError.{PlanError}
-use Rattle.plan_values.specs.declared.event.Event.{Event}
-use Rattle.plan_values.specs.PlanValues.{plan_value}
-use Rattle.net_plan.specs.Unread.{GaveNoEvents}
+use Rattle.std.{specs.Prelude.{◌≡◌, ◌⊎◌, ℕ, List, map, take, Result, Ok, Err, ⊤}, specs.Io.KnownBytes.{Appends}}
+use Rattle.plan_values.{specs.declared.plan.Plan.{Plan}, specs.declared.certificate.Certificate.{Certificate}, specs.declared.event.Event.{Event}, specs.PlanValues.{plan_value}}
+use Rattle.net_plan.{specs.declared.error.PlanError.{PlanError}, specs.Unread.{GaveNoEvents}}
 use Rattle.net_check.specs.Accepted.{IsAccepted}
 use Rattle.net_tables.specs.TwoPlans.{Tables, one_plan}
-use Rattle.net_runs.specs.WalkedRuns.{WalkedTurn, WalkedRunFrom}
-use Rattle.net_runs.specs.Walkers.{WalkedState, WalkedEvent, WalkedOutcome, walked_at_start}
-use Rattle.net_sim.specs.Outcomes.{event_value}
-use Rattle.net_sim.specs.Promised.{IsPromised}
-use Rattle.net_sim.specs.Walks.{HaveWalked}
-use Rattle.command_answers.specs.declared.refused.Input.{Input}
-use Rattle.command_answers.specs.declared.refused.Input.TheVariants as input
-use Rattle.command_answers.specs.declared.refused.Refused.{Refused}
-use Rattle.command_answers.specs.declared.refused.Refused.TheVariants as refused
-use Rattle.command_answers.specs.declared.status.Status.{Status}
-use Rattle.command_answers.specs.declared.status.Status.TheVariants as status
-use Rattle.command_answers.specs.Answers.{Stream, BreaksOff, AreGiven, GaveNothing, IsUnread, IsFaultText}
-use Rattle.command_answers.specs.Answers.{IsReported, SaysWhy}
+use Rattle.net_runs.{specs.WalkedRuns.{WalkedTurn, WalkedRunFrom}, specs.Walkers.{WalkedState, WalkedEvent, WalkedOutcome, walked_at_start}}
+use Rattle.net_sim.{specs.Outcomes.{event_value}, specs.Promised.{IsPromised}, specs.Walks.{HaveWalked}}
+use Rattle.command_answers.{specs.declared.refused.Input.{Input}, specs.declared.refused.Refused.{Refused}, specs.declared.status.Status.{Status}, specs.Answers.{Stream, BreaksOff, AreGiven, GaveNothing, IsUnread, IsFaultText, IsReported, SaysWhy}, specs.Statuses.{HasCause}, specs.Told.{IsUngivenFor}, specs.Inputs.{GaveEvents}}
 use Rattle.run_texts.specs.OutcomeLines.{outcome_lines}
-use Rattle.command_answers.specs.Statuses.{HasCause}
-use Rattle.command_answers.specs.Told.{IsUngivenFor}
-use Rattle.command_answers.specs.Inputs.{GaveEvents}
+use Rattle.command_answers.specs.declared.refused.Input.TheVariants as input
+use Rattle.command_answers.specs.declared.refused.Refused.TheVariants as refused
+use Rattle.command_answers.specs.declared.status.Status.TheVariants as status
 
 -- The events are those of a run from the state, and the output was given the lines of what came of them.
 pub record ShowsRun (tables : Tables) (w : WalkedState) (events : List WalkedEvent) (output : Stream) : Type 0 where

@@ -1,15 +1,12 @@
 //! The command `expect`: whether `sim` prints the lines of a file.
-ghost use Rattle.std.specs.Prelude.{◌≡◌, IfOk, IfErr, map, string_bytes};
-ghost use Rattle.std.specs.Cow.{cow_str_bytes};
+ghost use Rattle.std.{specs.Prelude.{◌≡◌, IfOk, IfErr, map, string_bytes}, specs.Cow.{cow_str_bytes}};
 ghost use Rattle.net_plan.specs.Stream.{HasRoom};
 ghost use Rattle.net_sim.specs.Outcomes.{event_value, outcome_value};
 ghost use Rattle.net_tables.specs.TwoPlans.{one_plan};
-ghost use Rattle.command_answers.specs.declared.refused.Refused.TheVariants as refused;
-ghost use Rattle.command_answers.specs.Answers.{stream, IsWithoutPlan, AreWithoutCertificate};
-ghost use Rattle.play_commands.specs.Expecting.{given_only, IsPrinted, AnswersLinesOn, AnswersLinesSo, AreUnreadInExpect};
-ghost use Rattle.play_commands.specs.Simulating.{ShowsWalks};
-ghost use Rattle.command_answers.specs.Told.{Concludes};
+ghost use Rattle.command_answers.{specs.Answers.{stream, IsWithoutPlan, AreWithoutCertificate}, specs.Told.{Concludes}};
+ghost use Rattle.play_commands.{specs.Expecting.{given_only, IsPrinted, AnswersLinesOn, AnswersLinesSo, AreUnreadInExpect}, specs.Simulating.{ShowsWalks}};
 ghost use Rattle.run_texts.specs.OutcomeLines.{outcome_lines};
+ghost use Rattle.command_answers.specs.declared.refused.Refused.TheVariants as refused;
 
 use crate::sim::files::read_run;
 use command_answers::{Answer, Refused, Status, fault_text, given_lines, planned_network, tell};

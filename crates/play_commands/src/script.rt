@@ -1,12 +1,9 @@
 //! The command `script`: the events of a walk over a network, made as it runs.
-ghost use Rattle.std.specs.Prelude.{◌≡◌, IfOk, IfErr};
-ghost use Rattle.std.specs.Cow.{cow_str_bytes};
+ghost use Rattle.std.{specs.Prelude.{◌≡◌, IfOk, IfErr}, specs.Cow.{cow_str_bytes}};
 ghost use Rattle.net_plan.specs.Stream.{HasRoom};
-ghost use Rattle.command_answers.specs.declared.refused.Refused.TheVariants as refused;
-ghost use Rattle.command_answers.specs.Answers.{stream, IsWithoutPlan};
+ghost use Rattle.command_answers.{specs.Answers.{stream, IsWithoutPlan}, specs.Told.{Concludes}, specs.Naming.{IsFirstNamed}};
 ghost use Rattle.play_commands.specs.Scripting.{AnswersScriptOn, AnswersScriptSo, IsUnscriptedOn, IsUnscriptedFor};
-ghost use Rattle.command_answers.specs.Told.{Concludes};
-ghost use Rattle.command_answers.specs.Naming.{IsFirstNamed};
+ghost use Rattle.command_answers.specs.declared.refused.Refused.TheVariants as refused;
 
 mod course;
 mod judging;

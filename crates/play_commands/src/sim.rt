@@ -1,16 +1,10 @@
 //! The commands `sim` and `simmove`: what comes of events in the network of a checked plan, or of a checked move.
 ghost use Rattle.std.specs.Prelude.{◌≡◌, ◌⊎◌, ℕ, IfOk, IfErr, length, map};
 ghost use Rattle.net_plan.specs.Stream.{HasRoom};
-ghost use Rattle.command_answers.specs.declared.status.Status.TheVariants.{Yes, Fault, Unreadable};
-ghost use Rattle.command_answers.specs.declared.refused.Refused.TheVariants.{Unwritten};
+ghost use Rattle.command_answers.{specs.declared.status.Status.TheVariants.{Yes, Fault, Unreadable}, specs.declared.refused.Refused.TheVariants.{Unwritten}, specs.Answers.{stream, Refuses}};
 ghost use Rattle.net_tables.specs.TwoPlans.{one_plan, moving};
 ghost use Rattle.net_runs.specs.Walkers.{WalkedState, walked_at_start};
-ghost use Rattle.net_sim.specs.Dealing.{resting, at_rest, planned_termini};
-ghost use Rattle.net_sim.specs.Networks.{network_value, checked_of};
-ghost use Rattle.net_sim.specs.Outcomes.{event_value, outcome_value};
-ghost use Rattle.net_sim.specs.Promised.{IsPromised};
-ghost use Rattle.net_sim.specs.WalkedStanding.{StandsForWalked, without_walkers};
-ghost use Rattle.command_answers.specs.Answers.{stream, Refuses};
+ghost use Rattle.net_sim.{specs.Dealing.{resting, at_rest, planned_termini}, specs.Networks.{network_value, checked_of}, specs.Outcomes.{event_value, outcome_value}, specs.Promised.{IsPromised}, specs.WalkedStanding.{StandsForWalked, without_walkers}};
 ghost use Rattle.play_commands.specs.Simulating.{PlaysSo, RunsIn, IsTextIn, ShowsAllOr, PlaysFrom, PlaysBy, ReportsPlay, SimulatesFrom, SimulatesBy, AreFirstLines, ShowsLines};
 
 pub mod files;

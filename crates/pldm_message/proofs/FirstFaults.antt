@@ -1,8 +1,7 @@
 -- The first fault of bytes is one.
 use Rattle.std.proofs.Common.{◌≡◌, ℕ, List, Option, inl, inr, sym, ◌∙◌}
-use Rattle.pldm_message.specs.declared.pldm_error.PldmError.{PldmError}
+use Rattle.pldm_message.{specs.declared.pldm_error.PldmError.{PldmError}, specs.Faults.{MessageFault}}
 use Rattle.mctp_transport.specs.First.{First}
-use Rattle.pldm_message.specs.Faults.{MessageFault}
 
 -- two of the same tests in order come to the same
 both : {G cause a b later more : Type 0} → (a → b → G) → (later → more → G) → First cause a later → First cause b more → G

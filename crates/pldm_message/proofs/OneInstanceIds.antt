@@ -1,7 +1,6 @@
 -- One instance ID is given, and what is out after it was given or taken back is determined.
 use Rattle.std.proofs.Common.{◌≡◌, ℕ, ◌+◌, ◌%◌, ◌<◌, ◌==◌, ◌||◌, Option, Some, None, sym, ap, ◌∙◌, arith}
-use Rattle.pldm_message.specs.InstanceIds.{IdSet, IsNextFree, Gives, TakesBack, first_place, steps_to}
-use Rattle.pldm_message.proofs.Turns.{there_again}
+use Rattle.pldm_message.{specs.InstanceIds.{IdSet, IsNextFree, Gives, TakesBack, first_place, steps_to}, proofs.Turns.{there_again}}
 
 same_ids : (a b : IdSet) → ((i : ℕ) → a.out i ≡ b.out i) → a.last ≡ b.last → a ≡ b
 same_ids a b out last = λ j. record { out = λ i. out i j; last = last j }

@@ -1,6 +1,5 @@
 -- Going round the 32 instance IDs.
-use Rattle.std.proofs.Common.{◌≡◌, ℕ, zero, suc, ◌+◌, ◌%◌, ◌<◌, inl, inr, true, false, refl, sym, ◌∙◌, subst, arith, get_or, replicate}
-use Rattle.std.proofs.lemmas.Bool.{cases_lt}
+use Rattle.std.{proofs.Common.{◌≡◌, ℕ, zero, suc, ◌+◌, ◌%◌, ◌<◌, inl, inr, true, false, refl, sym, ◌∙◌, subst, arith, get_or, replicate}, proofs.lemmas.Bool.{cases_lt}}
 use Rattle.pldm_message.specs.InstanceIds.{IdSet, IsNextFree, AreAllOut, first_place, steps_to}
 
 -- at first no ID is out

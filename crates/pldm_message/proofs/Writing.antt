@@ -1,8 +1,5 @@
 -- Bytes that are written one behind the other.
-use Rattle.std.proofs.Common.{◌≡◌, ℕ, ◌+◌, ◌-◌, ◌≤◌, List, ◌++◌, length, take, drop, refl, ap, sym, ◌∙◌, arith, length-append, length-drop}
-use Rattle.std.proofs.Math.Seq.{take-append_seam, drop-append_seam}
-use Rattle.std.proofs.lemmas.List.{drop-drop, drop_all, take_all, append-nil}
-use Rattle.std.proofs.lemmas.Slice.{put_mid-paste}
+use Rattle.std.{proofs.Common.{◌≡◌, ℕ, ◌+◌, ◌-◌, ◌≤◌, List, ◌++◌, length, take, drop, refl, ap, sym, ◌∙◌, arith, length-append, length-drop}, proofs.Math.Seq.{take-append_seam, drop-append_seam}, proofs.lemmas.List.{drop-drop, drop_all, take_all, append-nil}, proofs.lemmas.Slice.{put_mid-paste}}
 use borrow.Rule.Slice.PartMut.{put_mid}
 
 -- a front, and behind it a body: what was there before is left only behind both

@@ -1,11 +1,7 @@
 -- No two messages of these commands have the same bytes.
 use Rattle.std.specs.Prelude.{refl}
+use Rattle.pldm_message.{specs.MessageLaws.{IsOneValue, one_request, one_answer}, specs.BaseCommands.{IsNothing, nothing, IsByte, one_byte, AreTypes, type_bits, IsSetTid, set_tid_bytes, IsSetTidResponse, set_tid_answer_bytes, IsGetTid, get_tid_bytes, IsGetTidResponse, get_tid_answer_bytes, IsGetPldmTypes, get_pldm_types_bytes, IsGetPldmTypesResponse, get_pldm_types_answer_bytes}}
 use Rattle.pldm_message.specs.declared.command.Command.TheVariants as command
-use Rattle.pldm_message.specs.MessageLaws.{IsOneValue, one_request, one_answer}
-use Rattle.pldm_message.specs.BaseCommands.{IsNothing, nothing, IsByte, one_byte, AreTypes, type_bits, IsSetTid}
-use Rattle.pldm_message.specs.BaseCommands.{set_tid_bytes, IsSetTidResponse, set_tid_answer_bytes, IsGetTid}
-use Rattle.pldm_message.specs.BaseCommands.{get_tid_bytes, IsGetTidResponse, get_tid_answer_bytes, IsGetPldmTypes}
-use Rattle.pldm_message.specs.BaseCommands.{get_pldm_types_bytes, IsGetPldmTypesResponse, get_pldm_types_answer_bytes}
 
 no_data : IsOneValue IsNothing nothing
 no_data m n hm hn e = refl

@@ -1,13 +1,6 @@
 -- What the messages of these commands stand for.
 use Rattle.std.specs.Prelude.{ℕ, List}
-use Rattle.pldm_message.specs.declared.set_tid.SetTid.{SetTid}
-use Rattle.pldm_message.specs.declared.set_tid.SetTidAnswer.{SetTidAnswer}
-use Rattle.pldm_message.specs.declared.get_tid.GetTid.{GetTid}
-use Rattle.pldm_message.specs.declared.get_tid.GetTidAnswer.{GetTidAnswer}
-use Rattle.pldm_message.specs.declared.get_pldm_types.GetPldmTypes.{GetPldmTypes}
-use Rattle.pldm_message.specs.declared.get_pldm_types.GetPldmTypesAnswer.{GetPldmTypesAnswer}
-use Rattle.pldm_message.specs.Messages.{RequestMessage, ResponseMessage}
-use Rattle.pldm_message.specs.Heads.{request_of, answer_of}
+use Rattle.pldm_message.{specs.declared.set_tid.SetTid.{SetTid}, specs.declared.set_tid.SetTidAnswer.{SetTidAnswer}, specs.declared.get_tid.GetTid.{GetTid}, specs.declared.get_tid.GetTidAnswer.{GetTidAnswer}, specs.declared.get_pldm_types.GetPldmTypes.{GetPldmTypes}, specs.declared.get_pldm_types.GetPldmTypesAnswer.{GetPldmTypesAnswer}, specs.Messages.{RequestMessage, ResponseMessage}, specs.Heads.{request_of, answer_of}}
 
 abbrev pub set_tid : SetTid → RequestMessage ℕ
 set_tid m = request_of m.head m.tid.value

@@ -1,9 +1,8 @@
 -- The commands that set a terminus ID, tell it, and tell the PLDM types, with their answers (DSP0240, messaging control
 -- and discovery).
 use Rattle.std.specs.Prelude.{◌≡◌, ℕ, ◌<◌, ◌≤◌, ◌/◌, ◌%◌, ◌^◌, List, [], ◌∷◌, length, slice_index}
+use Rattle.pldm_message.specs.Messages.{RequestMessage, ResponseMessage, IsRequest, IsAnswer, request_bytes, answer_bytes}
 use Rattle.pldm_message.specs.declared.command.Command.TheVariants as command
-use Rattle.pldm_message.specs.Messages.{RequestMessage, ResponseMessage, IsRequest, IsAnswer}
-use Rattle.pldm_message.specs.Messages.{request_bytes, answer_bytes}
 
 -- no data, and their bytes
 abbrev pub IsNothing : Unit {0} → Type 0

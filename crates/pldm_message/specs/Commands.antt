@@ -1,7 +1,6 @@
 -- The PLDM types and command bytes of the commands (DSP0240, messaging control and discovery; DSP0248, GetPDR).
 use Rattle.std.specs.Prelude.{ℕ}
-use Rattle.pldm_message.specs.declared.command.Command.{Command}
-use Rattle.pldm_message.specs.declared.command.Command.TheVariants.{SetTid, GetTid, GetPldmTypes, GetPdr}
+use Rattle.pldm_message.{specs.declared.command.Command.{Command}, specs.declared.command.Command.TheVariants.{SetTid, GetTid, GetPldmTypes, GetPdr}}
 
 -- 0 for messaging control and discovery, 2 for platform monitoring and control
 abbrev pub type_of : Command → ℕ

@@ -1,8 +1,6 @@
 -- No two answers with a completion code alone have the same bytes.
 use Rattle.std.specs.Prelude.{◌≡◌}
-use Rattle.pldm_message.specs.HeaderLaws.{one_header}
-use Rattle.pldm_message.specs.MessageLaws.{IsOneValue}
-use Rattle.pldm_message.specs.ErrorResponses.{ErrorMessage, IsErrorResponse, error_response_bytes}
+use Rattle.pldm_message.{specs.HeaderLaws.{one_header}, specs.MessageLaws.{IsOneValue}, specs.ErrorResponses.{ErrorMessage, IsErrorResponse, error_response_bytes}}
 
 same_message : (m n : ErrorMessage) → m.header ≡ n.header → m.code ≡ n.code → m ≡ n
 same_message m n h c = λ j. record { header = h j; code = c j }

@@ -1,11 +1,8 @@
 -- Answers that have a completion code alone, whatever was asked for (DSP0240, PLDM message fields).
 use Rattle.std.specs.Prelude.{◌≡◌, ◌≢◌, ℕ, ◌<◌, ◌/◌, List, [], ◌∷◌, ◌++◌, length, slice_index, Option, Some, None}
 use Rattle.mctp_transport.specs.First.{First}
-use Rattle.pldm_message.specs.declared.kind.MessageKind.TheVariants.{Response}
-use Rattle.pldm_message.specs.declared.pldm_error.PldmError.{PldmError}
+use Rattle.pldm_message.{specs.declared.kind.MessageKind.TheVariants.{Response}, specs.declared.pldm_error.PldmError.{PldmError}, specs.Headers.{HeaderValue, IsHeader, header_bytes}, specs.Faults.{WantedFault}}
 use Rattle.pldm_message.specs.declared.pldm_error.PldmError.TheVariants as error
-use Rattle.pldm_message.specs.Headers.{HeaderValue, IsHeader, header_bytes}
-use Rattle.pldm_message.specs.Faults.{WantedFault}
 
 -- a header, and a completion code
 pub record ErrorMessage : Type 0 where

@@ -1,11 +1,8 @@
 -- Why bytes are not the PLDM message that was wanted.
-use Rattle.std.specs.Prelude.{◌≡◌, ◌≢◌, ℕ, ◌<◌, ◌≤◌, ◌/◌, ◌%◌, List, length, slice_index}
-use Rattle.std.specs.Prelude.{Option, Some, None, codes, ◌==◌, if◌then◌else◌}
-use Rattle.pldm_message.specs.declared.pldm_error.PldmError.{PldmError}
-use Rattle.pldm_message.specs.declared.pldm_error.PldmError.TheVariants as error
-use Rattle.pldm_message.specs.declared.command.Command.{Command}
-use Rattle.pldm_message.specs.Commands.{type_of, command_byte}
+use Rattle.std.specs.Prelude.{◌≡◌, ◌≢◌, ℕ, ◌<◌, ◌≤◌, ◌/◌, ◌%◌, List, length, slice_index, Option, Some, None, codes, ◌==◌, if◌then◌else◌}
+use Rattle.pldm_message.{specs.declared.pldm_error.PldmError.{PldmError}, specs.declared.command.Command.{Command}, specs.Commands.{type_of, command_byte}}
 use Rattle.mctp_transport.specs.First.{First}
+use Rattle.pldm_message.specs.declared.pldm_error.PldmError.TheVariants as error
 
 -- not even a header
 abbrev pub IsShort : List ℕ → Type 0

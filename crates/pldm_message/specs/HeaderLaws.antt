@@ -1,11 +1,7 @@
 -- No two headers have the same bytes.
-use Rattle.std.specs.Prelude.{◌≡◌, ℕ, ◌<◌, ◌≤◌, ◌+◌, ◌*◌, refl}
-use Rattle.std.proofs.Common.{arith}
-use Rattle.mctp_transport.specs.PacketValues.{bit}
-use Rattle.mctp_transport.specs.Bits.{bit_most, bit_one}
-use Rattle.pldm_message.specs.declared.kind.MessageKind.{MessageKind}
-use Rattle.pldm_message.specs.declared.kind.MessageKind.TheVariants.{Request, Datagram, Response}
-use Rattle.pldm_message.specs.Headers.{HeaderValue, IsHeader, header_bytes, instance_byte, kind_bits}
+use Rattle.std.{specs.Prelude.{◌≡◌, ℕ, ◌<◌, ◌≤◌, ◌+◌, ◌*◌, refl}, proofs.Common.{arith}}
+use Rattle.mctp_transport.{specs.PacketValues.{bit}, specs.Bits.{bit_most, bit_one}}
+use Rattle.pldm_message.{specs.declared.kind.MessageKind.{MessageKind}, specs.declared.kind.MessageKind.TheVariants.{Request, Datagram, Response}, specs.Headers.{HeaderValue, IsHeader, header_bytes, instance_byte, kind_bits}}
 
 -- the two bits say what a message is
 pub kind_one : (a b : MessageKind) → kind_bits a ≡ kind_bits b → a ≡ b

@@ -1,6 +1,5 @@
 -- What the headers of the code stand for.
-use Rattle.pldm_message.specs.declared.header.PldmHeader.{PldmHeader}
-use Rattle.pldm_message.specs.Headers.{HeaderValue}
+use Rattle.pldm_message.{specs.declared.header.PldmHeader.{PldmHeader}, specs.Headers.{HeaderValue}}
 
 abbrev pub header_value : PldmHeader → HeaderValue
 header_value h =

@@ -1,8 +1,7 @@
 -- The four bytes that each PLDM message begins with (DSP0240, PLDM message fields).
 use Rattle.std.specs.Prelude.{◌≡◌, ℕ, ◌<◌, ◌+◌, ◌*◌, Bool, List, [], ◌∷◌, take}
 use Rattle.mctp_transport.specs.PacketValues.{bit}
-use Rattle.pldm_message.specs.declared.kind.MessageKind.{MessageKind}
-use Rattle.pldm_message.specs.declared.kind.MessageKind.TheVariants.{Request, Datagram, Response}
+use Rattle.pldm_message.{specs.declared.kind.MessageKind.{MessageKind}, specs.declared.kind.MessageKind.TheVariants.{Request, Datagram, Response}}
 
 -- a message's header: what it is, the reserved bit, the instance ID, the PLDM type and the command
 pub record HeaderValue : Type 0 where

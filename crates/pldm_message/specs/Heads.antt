@@ -1,9 +1,6 @@
 -- What the heads and outcomes of the code stand for.
 use Rattle.std.specs.Prelude.{ℕ, Result, Ok, Err}
-use Rattle.pldm_message.specs.declared.head.RequestHead.{RequestHead}
-use Rattle.pldm_message.specs.declared.head.ResponseHead.{ResponseHead}
-use Rattle.pldm_message.specs.declared.completion_code.CompletionCode.{CompletionCode}
-use Rattle.pldm_message.specs.Messages.{RequestHeadValue, ResponseHeadValue, RequestMessage, ResponseMessage}
+use Rattle.pldm_message.{specs.declared.head.RequestHead.{RequestHead}, specs.declared.head.ResponseHead.{ResponseHead}, specs.declared.completion_code.CompletionCode.{CompletionCode}, specs.Messages.{RequestHeadValue, ResponseHeadValue, RequestMessage, ResponseMessage}}
 
 abbrev pub request_head : RequestHead → RequestHeadValue
 request_head h = record { kind = h.kind; reserved = h.reserved; instance = h.instance.value }

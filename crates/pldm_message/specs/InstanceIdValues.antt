@@ -1,8 +1,6 @@
 -- What a set of instance IDs of the code stands for.
 use Rattle.std.specs.Prelude.{ℕ, false, Option, Some, None, slice_index_or}
-use Rattle.pldm_message.specs.declared.instance.InstanceId.{InstanceId}
-use Rattle.pldm_message.specs.declared.instance_ids.InstanceIds.{InstanceIds}
-use Rattle.pldm_message.specs.InstanceIds.{IdSet}
+use Rattle.pldm_message.{specs.declared.instance.InstanceId.{InstanceId}, specs.declared.instance_ids.InstanceIds.{InstanceIds}, specs.InstanceIds.{IdSet}}
 
 abbrev pub id_value : Option InstanceId → Option ℕ
 id_value None = None

@@ -1,6 +1,5 @@
 -- The instance IDs of a requester: each stands for one request at a time (DSP0240, PLDM message fields).
-use Rattle.std.specs.Prelude.{◌≡◌, ℕ, ◌<◌, ◌≤◌, ◌+◌, ◌-◌, ◌%◌, Bool, true}
-use Rattle.std.specs.Prelude.{false, not, ◌==◌, ◌&&◌, ◌||◌, Option, Some, None}
+use Rattle.std.specs.Prelude.{◌≡◌, ℕ, ◌<◌, ◌≤◌, ◌+◌, ◌-◌, ◌%◌, Bool, true, false, not, ◌==◌, ◌&&◌, ◌||◌, Option, Some, None}
 
 -- which IDs are out, and the last one given, if any was
 pub record IdSet : Type 0 where

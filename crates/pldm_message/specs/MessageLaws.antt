@@ -1,16 +1,7 @@
 -- No two messages of a command have the same bytes, where no two of their data have.
-use Rattle.std.specs.Prelude.{◌≡◌, ℕ, List, Result, Ok, Err, refl}
-use Rattle.std.proofs.Common.{arith, ap}
-use Rattle.mctp_transport.specs.PacketValues.{bit}
-use Rattle.mctp_transport.specs.Bits.{bit_most, bit_one}
-use Rattle.pldm_message.specs.declared.kind.RequestKind.{RequestKind}
-use Rattle.pldm_message.specs.declared.kind.RequestKind.TheVariants.{Request, Datagram}
-use Rattle.pldm_message.specs.declared.command.Command.{Command}
-use Rattle.pldm_message.specs.Headers.{instance_byte, kind_bits}
-use Rattle.pldm_message.specs.HeaderLaws.{digits}
-use Rattle.pldm_message.specs.Messages.{RequestHeadValue, ResponseHeadValue, RequestMessage, ResponseMessage}
-use Rattle.pldm_message.specs.Messages.{IsRequest, IsAnswer, IsOutcome, request_bytes, answer_bytes}
-use Rattle.pldm_message.specs.Messages.{outcome_bytes, request_header, answer_header, message_kind}
+use Rattle.std.{specs.Prelude.{◌≡◌, ℕ, List, Result, Ok, Err, refl}, proofs.Common.{arith, ap}}
+use Rattle.mctp_transport.{specs.PacketValues.{bit}, specs.Bits.{bit_most, bit_one}}
+use Rattle.pldm_message.{specs.declared.kind.RequestKind.{RequestKind}, specs.declared.kind.RequestKind.TheVariants.{Request, Datagram}, specs.declared.command.Command.{Command}, specs.Headers.{instance_byte, kind_bits}, specs.HeaderLaws.{digits}, specs.Messages.{RequestHeadValue, ResponseHeadValue, RequestMessage, ResponseMessage, IsRequest, IsAnswer, IsOutcome, request_bytes, answer_bytes, outcome_bytes, request_header, answer_header, message_kind}}
 
 -- no two values have one spelling
 abbrev pub IsOneValue : {A : Type 0} → (A → Type 0) → (A → List ℕ) → Type 0

@@ -1,12 +1,8 @@
 -- Requests and answers as plain values, and their bytes (DSP0240, PLDM message fields).
 use Rattle.std.specs.Prelude.{ℕ, ◌<◌, Bool, List, [], ◌∷◌, ◌++◌, Result, Ok, Err}
-use Rattle.pldm_message.specs.declared.kind.MessageKind.{MessageKind}
+use Rattle.pldm_message.{specs.declared.kind.MessageKind.{MessageKind}, specs.declared.kind.RequestKind.{RequestKind}, specs.declared.command.Command.{Command}, specs.Commands.{type_of, command_byte}, specs.Headers.{HeaderValue, header_bytes}}
 use Rattle.pldm_message.specs.declared.kind.MessageKind.TheVariants as message
-use Rattle.pldm_message.specs.declared.kind.RequestKind.{RequestKind}
 use Rattle.pldm_message.specs.declared.kind.RequestKind.TheVariants as request
-use Rattle.pldm_message.specs.declared.command.Command.{Command}
-use Rattle.pldm_message.specs.Commands.{type_of, command_byte}
-use Rattle.pldm_message.specs.Headers.{HeaderValue, header_bytes}
 
 -- what a request's header says besides its command
 pub record RequestHeadValue : Type 0 where

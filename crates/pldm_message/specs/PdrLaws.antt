@@ -1,15 +1,9 @@
 -- No two requests for parts, and no two parts, have the same bytes.
-use Rattle.std.specs.Prelude.{◌≡◌, ℕ, ◌<◌, ◌^◌, ◌+◌, ◌/◌, ◌%◌, List, [], ◌∷◌, ◌++◌}
-use Rattle.std.specs.Prelude.{length, Option, Some, None, take, drop, refl, is_some, ◌==◌}
-use Rattle.std.proofs.Common.{arith, ap, length-append}
-use Rattle.std.specs.Option.{option_to_list}
+use Rattle.std.{specs.Prelude.{◌≡◌, ℕ, ◌<◌, ◌^◌, ◌+◌, ◌/◌, ◌%◌, List, [], ◌∷◌, ◌++◌, length, Option, Some, None, take, drop, refl, is_some, ◌==◌}, proofs.Common.{arith, ap, length-append}, specs.Option.{option_to_list}}
 use Rattle.byteorder.specs.Endian.{little_bytes}
-use Rattle.pldm_message.specs.declared.command.Command.TheVariants as command
 use Rattle.mctp_transport.specs.Wire.{Spells}
-use Rattle.pldm_message.specs.MessageLaws.{IsOneValue, one_request, one_answer}
-use Rattle.pldm_message.specs.Pdrs.{PartRequest, IsPartRequest, part_request_bytes, Part, IsPart}
-use Rattle.pldm_message.specs.Pdrs.{part_bytes, IsGetPdrRequest, get_pdr_request_bytes}
-use Rattle.pldm_message.specs.Pdrs.{IsGetPdrResponse, get_pdr_answer_bytes, check_length, part_length}
+use Rattle.pldm_message.{specs.MessageLaws.{IsOneValue, one_request, one_answer}, specs.Pdrs.{PartRequest, IsPartRequest, part_request_bytes, Part, IsPart, part_bytes, IsGetPdrRequest, get_pdr_request_bytes, IsGetPdrResponse, get_pdr_answer_bytes, check_length, part_length}}
+use Rattle.pldm_message.specs.declared.command.Command.TheVariants as command
 
 -- a number of four bytes is known by them
 four : (a b : ℕ) → a < 2 ^ 32 → b < 2 ^ 32 → little_bytes 4 a ≡ little_bytes 4 b → a ≡ b

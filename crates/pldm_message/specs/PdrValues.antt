@@ -1,10 +1,5 @@
 -- What the messages for parts of records stand for.
-use Rattle.pldm_message.specs.declared.get_pdr_request.GetPdrRequest.{GetPdrRequest}
-use Rattle.pldm_message.specs.declared.pdr_part.PdrPart.{PdrPart}
-use Rattle.pldm_message.specs.declared.get_pdr_answer.GetPdrAnswer.{GetPdrAnswer}
-use Rattle.pldm_message.specs.Messages.{RequestMessage, ResponseMessage}
-use Rattle.pldm_message.specs.Heads.{request_of, answer_of}
-use Rattle.pldm_message.specs.Pdrs.{PartRequest, Part}
+use Rattle.pldm_message.{specs.declared.get_pdr_request.GetPdrRequest.{GetPdrRequest}, specs.declared.pdr_part.PdrPart.{PdrPart}, specs.declared.get_pdr_answer.GetPdrAnswer.{GetPdrAnswer}, specs.Messages.{RequestMessage, ResponseMessage}, specs.Heads.{request_of, answer_of}, specs.Pdrs.{PartRequest, Part}}
 
 abbrev pub part_request : GetPdrRequest → PartRequest
 part_request r =

@@ -1,11 +1,8 @@
 -- Requests for parts of records, and their answers (DSP0248, GetPDR).
-use Rattle.std.specs.Prelude.{◌≡◌, ℕ, ◌+◌, ◌<◌, ◌^◌, List, [], ◌∷◌, ◌++◌, length, drop}
-use Rattle.std.specs.Prelude.{slice_index, Option, is_some, Some, ◌==◌, if◌then◌else◌}
-use Rattle.std.specs.Option.{option_to_list}
+use Rattle.std.{specs.Prelude.{◌≡◌, ℕ, ◌+◌, ◌<◌, ◌^◌, List, [], ◌∷◌, ◌++◌, length, drop, slice_index, Option, is_some, Some, ◌==◌, if◌then◌else◌}, specs.Option.{option_to_list}}
 use Rattle.byteorder.specs.Endian.{little_bytes, little_number}
+use Rattle.pldm_message.specs.Messages.{RequestMessage, ResponseMessage, IsRequest, IsAnswer, request_bytes, answer_bytes}
 use Rattle.pldm_message.specs.declared.command.Command.TheVariants as command
-use Rattle.pldm_message.specs.Messages.{RequestMessage, ResponseMessage, IsRequest, IsAnswer}
-use Rattle.pldm_message.specs.Messages.{request_bytes, answer_bytes}
 
 -- what is asked for: the record (0 the first one), where its part begins, whether that is a first or a next part, how
 -- many bytes at most, and the number by which a change of the record is noticed

@@ -22,12 +22,9 @@ pub struct ErrorResponse {
 }
 
 impl<'a> Wire<'a> for ErrorResponse {
-    ghost use Rattle.std.specs.Prelude.{◌≡◌, ◌++◌, ℕ, List, length, drop, IfOk, IsOkAnd};
-    ghost use Rattle.std.specs.Result.{result_err};
+    ghost use Rattle.std.{specs.Prelude.{◌≡◌, ◌++◌, ℕ, List, length, drop, IfOk, IsOkAnd}, specs.Result.{result_err}};
     ghost use Rattle.mctp_transport.specs.Wire.{Spells};
-    ghost use Rattle.pldm_message.specs.ErrorResponses.{ErrorMessage, IsErrorResponse, error_response_bytes, ErrorResponseFault};
-    ghost use Rattle.pldm_message.specs.ErrorResponseLaws.{one_error_response};
-    ghost use Rattle.pldm_message.specs.ErrorResponseValues.{error_response};
+    ghost use Rattle.pldm_message.{specs.ErrorResponses.{ErrorMessage, IsErrorResponse, error_response_bytes, ErrorResponseFault}, specs.ErrorResponseLaws.{one_error_response}, specs.ErrorResponseValues.{error_response}};
 
     type Error = PldmError;
 

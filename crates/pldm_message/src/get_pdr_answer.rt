@@ -18,15 +18,10 @@ pub struct GetPdrAnswer<'a> {
 }
 
 impl<'a> Wire<'a> for GetPdrAnswer<'a> {
-    ghost use Rattle.std.specs.Prelude.{◌≡◌, ◌++◌, ℕ, List, length, drop, IfOk, IsOkAnd};
-    ghost use Rattle.std.specs.Result.{result_err};
+    ghost use Rattle.std.{specs.Prelude.{◌≡◌, ◌++◌, ℕ, List, length, drop, IfOk, IsOkAnd}, specs.Result.{result_err}};
     ghost use Rattle.mctp_transport.specs.Wire.{Spells};
+    ghost use Rattle.pldm_message.{specs.Messages.{ResponseMessage}, specs.Pdrs.{Part, IsGetPdrResponse, get_pdr_answer_bytes, part_answer_length}, specs.PdrLaws.{one_get_pdr_answer}, specs.PdrValues.{get_pdr_answer}, specs.Faults.{MessageFault, IsAnswerOf, answer_length}};
     ghost use Rattle.pldm_message.specs.declared.command.Command.TheVariants as command;
-    ghost use Rattle.pldm_message.specs.Messages.{ResponseMessage};
-    ghost use Rattle.pldm_message.specs.Pdrs.{Part, IsGetPdrResponse, get_pdr_answer_bytes, part_answer_length};
-    ghost use Rattle.pldm_message.specs.PdrLaws.{one_get_pdr_answer};
-    ghost use Rattle.pldm_message.specs.PdrValues.{get_pdr_answer};
-    ghost use Rattle.pldm_message.specs.Faults.{MessageFault, IsAnswerOf, answer_length};
 
     type Error = PldmError;
 

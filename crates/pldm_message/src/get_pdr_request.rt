@@ -39,15 +39,10 @@ impl GetPdrRequest {
 }
 
 impl<'a> Wire<'a> for GetPdrRequest {
-    ghost use Rattle.std.specs.Prelude.{◌≡◌, ◌++◌, ℕ, List, length, drop, IfOk, IsOkAnd};
-    ghost use Rattle.std.specs.Result.{result_err};
+    ghost use Rattle.std.{specs.Prelude.{◌≡◌, ◌++◌, ℕ, List, length, drop, IfOk, IsOkAnd}, specs.Result.{result_err}};
     ghost use Rattle.mctp_transport.specs.Wire.{Spells};
+    ghost use Rattle.pldm_message.{specs.Messages.{RequestMessage}, specs.Pdrs.{PartRequest, IsGetPdrRequest, get_pdr_request_bytes}, specs.PdrLaws.{one_get_pdr_request}, specs.PdrValues.{get_pdr_request}, specs.Faults.{MessageFault, IsRequestOf}};
     ghost use Rattle.pldm_message.specs.declared.command.Command.TheVariants as command;
-    ghost use Rattle.pldm_message.specs.Messages.{RequestMessage};
-    ghost use Rattle.pldm_message.specs.Pdrs.{PartRequest, IsGetPdrRequest, get_pdr_request_bytes};
-    ghost use Rattle.pldm_message.specs.PdrLaws.{one_get_pdr_request};
-    ghost use Rattle.pldm_message.specs.PdrValues.{get_pdr_request};
-    ghost use Rattle.pldm_message.specs.Faults.{MessageFault, IsRequestOf};
 
     type Error = PldmError;
 

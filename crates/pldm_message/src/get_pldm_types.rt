@@ -1,13 +1,8 @@
 //! Requests for the PLDM types of a terminus, and their answers.
-ghost use Rattle.std.specs.Prelude.{◌≡◌, ◌++◌, ℕ, List, length, drop, IfOk, IsOkAnd};
-ghost use Rattle.std.specs.Result.{result_err};
+ghost use Rattle.std.{specs.Prelude.{◌≡◌, ◌++◌, ℕ, List, length, drop, IfOk, IsOkAnd}, specs.Result.{result_err}};
 ghost use Rattle.mctp_transport.specs.Wire.{Spells};
+ghost use Rattle.pldm_message.{specs.Messages.{RequestMessage, ResponseMessage}, specs.BaseCommands.{IsGetPldmTypes, get_pldm_types_bytes, IsGetPldmTypesResponse, get_pldm_types_answer_bytes}, specs.BaseCommandLaws.{one_get_pldm_types, one_get_pldm_types_answer}, specs.BaseCommandValues.{get_pldm_types, get_pldm_types_answer}, specs.Faults.{MessageFault, IsRequestOf, IsAnswerOf, answer_length}};
 ghost use Rattle.pldm_message.specs.declared.command.Command.TheVariants as command;
-ghost use Rattle.pldm_message.specs.Messages.{RequestMessage, ResponseMessage};
-ghost use Rattle.pldm_message.specs.BaseCommands.{IsGetPldmTypes, get_pldm_types_bytes, IsGetPldmTypesResponse, get_pldm_types_answer_bytes};
-ghost use Rattle.pldm_message.specs.BaseCommandLaws.{one_get_pldm_types, one_get_pldm_types_answer};
-ghost use Rattle.pldm_message.specs.BaseCommandValues.{get_pldm_types, get_pldm_types_answer};
-ghost use Rattle.pldm_message.specs.Faults.{MessageFault, IsRequestOf, IsAnswerOf, answer_length};
 
 use crate::command::Command;
 use crate::completion_code::{CompletionCode, SUCCESS};

@@ -25,14 +25,9 @@ pub struct RequestHead {
 }
 
 impl RequestHead {
-    ghost use Rattle.std.specs.Prelude.{◌≡◌, List, ℕ, IfOk, IsOkAnd, None, false};
-    ghost use Rattle.std.specs.Result.{result_err};
+    ghost use Rattle.std.{specs.Prelude.{◌≡◌, List, ℕ, IfOk, IsOkAnd, None, false}, specs.Result.{result_err}};
     ghost use Rattle.mctp_transport.specs.Wire.{Spells};
-    ghost use Rattle.pldm_message.specs.Headers.{header_bytes};
-    ghost use Rattle.pldm_message.specs.HeaderValues.{header_value};
-    ghost use Rattle.pldm_message.specs.Messages.{RequestMessage, IsRequest, IsAny, request_bytes, request_header, itself};
-    ghost use Rattle.pldm_message.specs.Heads.{request_head, request_of};
-    ghost use Rattle.pldm_message.specs.Faults.{IsRequestOf, WantedFault};
+    ghost use Rattle.pldm_message.{specs.Headers.{header_bytes}, specs.HeaderValues.{header_value}, specs.Messages.{RequestMessage, IsRequest, IsAny, request_bytes, request_header, itself}, specs.Heads.{request_head, request_of}, specs.Faults.{IsRequestOf, WantedFault}};
 
     /// The head of a request that is to be answered, with the reserved bit clear.
     pub fn new(instance: InstanceId) -> Self
@@ -100,14 +95,9 @@ pub struct ResponseHead {
 }
 
 impl ResponseHead {
-    ghost use Rattle.std.specs.Prelude.{◌≡◌, List, ℕ, IfOk, IsOkAnd, None, false, length, max};
-    ghost use Rattle.std.specs.Result.{result_err};
+    ghost use Rattle.std.{specs.Prelude.{◌≡◌, List, ℕ, IfOk, IsOkAnd, None, false, length, max}, specs.Result.{result_err}};
     ghost use Rattle.mctp_transport.specs.Wire.{Spells};
-    ghost use Rattle.pldm_message.specs.Headers.{header_bytes};
-    ghost use Rattle.pldm_message.specs.HeaderValues.{header_value};
-    ghost use Rattle.pldm_message.specs.Messages.{ResponseMessage, IsAnswer, IsAny, answer_bytes, answer_header, itself};
-    ghost use Rattle.pldm_message.specs.Heads.{answer_head, answer_of};
-    ghost use Rattle.pldm_message.specs.Faults.{IsAnswerOf, MessageFault, answer_length};
+    ghost use Rattle.pldm_message.{specs.Headers.{header_bytes}, specs.HeaderValues.{header_value}, specs.Messages.{ResponseMessage, IsAnswer, IsAny, answer_bytes, answer_header, itself}, specs.Heads.{answer_head, answer_of}, specs.Faults.{IsAnswerOf, MessageFault, answer_length}};
 
     /// The head of the answer to a request with this instance ID, with the reserved bit clear.
     pub fn new(instance: InstanceId) -> Self

@@ -52,12 +52,8 @@ pub struct PldmHeader {
 }
 
 impl PldmHeader {
-    ghost use Rattle.std.specs.Prelude.{◌≡◌, ◌↔◌, IsTrue, IfOk, IsOkAnd, None, false};
-    ghost use Rattle.std.specs.Result.{result_err};
-    ghost use Rattle.pldm_message.specs.Commands.{type_of, command_byte};
-    ghost use Rattle.pldm_message.specs.Headers.{HeaderValue, BeginsWith};
-    ghost use Rattle.pldm_message.specs.HeaderValues.{header_value};
-    ghost use Rattle.pldm_message.specs.Faults.{HeaderFault};
+    ghost use Rattle.std.{specs.Prelude.{◌≡◌, ◌↔◌, IsTrue, IfOk, IsOkAnd, None, false}, specs.Result.{result_err}};
+    ghost use Rattle.pldm_message.{specs.Commands.{type_of, command_byte}, specs.Headers.{HeaderValue, BeginsWith}, specs.HeaderValues.{header_value}, specs.Faults.{HeaderFault}};
 
     /// The header that a message begins with, whatever follows it. Else the first cause of L01 for fewer than 4 bytes,
     /// L02 for another message type, L03 for another header version, and L05 for Rq 0 with D 1.
@@ -112,13 +108,9 @@ impl PldmHeader {
 }
 
 impl<'a> Wire<'a> for PldmHeader {
-    ghost use Rattle.std.specs.Prelude.{◌≡◌, ◌++◌, ℕ, List, length, drop, IfOk, IsOkAnd};
-    ghost use Rattle.std.specs.Result.{result_err};
+    ghost use Rattle.std.{specs.Prelude.{◌≡◌, ◌++◌, ℕ, List, length, drop, IfOk, IsOkAnd}, specs.Result.{result_err}};
     ghost use Rattle.mctp_transport.specs.Wire.{Spells};
-    ghost use Rattle.pldm_message.specs.Headers.{HeaderValue, IsHeader, header_bytes};
-    ghost use Rattle.pldm_message.specs.HeaderLaws.{one_header};
-    ghost use Rattle.pldm_message.specs.HeaderValues.{header_value};
-    ghost use Rattle.pldm_message.specs.Faults.{MessageFault};
+    ghost use Rattle.pldm_message.{specs.Headers.{HeaderValue, IsHeader, header_bytes}, specs.HeaderLaws.{one_header}, specs.HeaderValues.{header_value}, specs.Faults.{MessageFault}};
 
     type Error = PldmError;
 

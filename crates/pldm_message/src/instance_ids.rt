@@ -13,8 +13,7 @@ pub struct InstanceIds {
 
 impl InstanceIds {
     ghost use Rattle.std.specs.Prelude.{◌≡◌, ◌↔◌, ℕ, false, None, IsNone, IfNone, IfSome, MatchOption};
-    ghost use Rattle.pldm_message.specs.InstanceIds.{AreAllOut, IsNextFree, Gives, TakesBack, first_place};
-    ghost use Rattle.pldm_message.specs.InstanceIdValues.{ids_of};
+    ghost use Rattle.pldm_message.{specs.InstanceIds.{AreAllOut, IsNextFree, Gives, TakesBack, first_place}, specs.InstanceIdValues.{ids_of}};
 
     /// IDs of which none is out and none was given.
     pub fn new() -> Self

@@ -1,8 +1,6 @@
 //! Laws that hold of all messages. The functions do nothing: their contracts are the laws.
 ghost use Rattle.std.specs.Prelude.{◌≡◌, ℕ, List, Option};
-ghost use Rattle.pldm_message.specs.declared.command.Command.{Command};
-ghost use Rattle.pldm_message.specs.declared.pldm_error.PldmError.{PldmError};
-ghost use Rattle.pldm_message.specs.Faults.{MessageFault, IsRequestOf, IsAnswerOf};
+ghost use Rattle.pldm_message.{specs.declared.command.Command.{Command}, specs.declared.pldm_error.PldmError.{PldmError}, specs.Faults.{MessageFault, IsRequestOf, IsAnswerOf}};
 
 /// Any bytes have one first fault at most, whether they are read as a request or as an answer.
 #[tactic(auto, using(crate::proofs::FirstFaults::same_fault))]

@@ -1,6 +1,5 @@
 //! Parts of platform descriptor records.
-ghost use Rattle.std.specs.Prelude.{◌≡◌, ◌≢◌, ◌<◌, ◌≤◌, ◌^◌, ◌++◌, ◌==◌, ℕ, Some, length, drop, is_some, MatchResult, ◌+◌};
-ghost use Rattle.std.specs.Option.{option_to_list};
+ghost use Rattle.std.{specs.Prelude.{◌≡◌, ◌≢◌, ◌<◌, ◌≤◌, ◌^◌, ◌++◌, ◌==◌, ℕ, Some, length, drop, is_some, MatchResult, ◌+◌}, specs.Option.{option_to_list}};
 ghost use Rattle.pldm_message.specs.Pdrs.{check_length, IsChecked};
 
 use crate::fields::{split_u16, split_u32};
@@ -36,8 +35,7 @@ pub struct PdrPart<'a> {
 
 impl<'a> PdrPart<'a> {
     ghost use Rattle.std.specs.Prelude.{◌≤◌, drop};
-    ghost use Rattle.pldm_message.specs.Pdrs.{part_numbers};
-    ghost use Rattle.pldm_message.specs.PdrValues.{part};
+    ghost use Rattle.pldm_message.{specs.Pdrs.{part_numbers}, specs.PdrValues.{part}};
 
     /// Writes what stands before the record's bytes.
     fn put_numbers(&self, out: &mut [u8])
@@ -52,13 +50,9 @@ impl<'a> PdrPart<'a> {
 }
 
 impl<'a> Wire<'a> for PdrPart<'a> {
-    ghost use Rattle.std.specs.Prelude.{◌≡◌, ◌≢◌, ◌++◌, ℕ, List, length, drop, IfOk, IsOkAnd, Some, None};
-    ghost use Rattle.std.specs.Result.{result_err};
-    ghost use Rattle.mctp_transport.specs.Wire.{Spells};
-    ghost use Rattle.pldm_message.specs.Pdrs.{Part, IsPart, part_bytes, part_length};
-    ghost use Rattle.pldm_message.specs.PdrLaws.{one_part};
-    ghost use Rattle.pldm_message.specs.PdrValues.{part};
-    ghost use Rattle.mctp_transport.specs.First.{First};
+    ghost use Rattle.std.{specs.Prelude.{◌≡◌, ◌≢◌, ◌++◌, ℕ, List, length, drop, IfOk, IsOkAnd, Some, None}, specs.Result.{result_err}};
+    ghost use Rattle.mctp_transport.{specs.Wire.{Spells}, specs.First.{First}};
+    ghost use Rattle.pldm_message.{specs.Pdrs.{Part, IsPart, part_bytes, part_length}, specs.PdrLaws.{one_part}, specs.PdrValues.{part}};
 
     type Error = PldmError;
 

@@ -1,7 +1,7 @@
 //! What is said of the commands. `tools/made` writes this file from docs/COMMANDS.md.
 
 /// The commands, a line each with its words.
-pub const GUIDE: &str = r#"make BOARD [--certificate FILE]
+pub const GUIDE: &str = r#"make BOARD [--keep OLD] [--out PLAN [--anew]] [--certificate FILE]
                              the plan that is made of a board, which is a short TOML text
 rows PLAN                    the plan with rows by which all its nodes reach each other
 check PLAN CERT              whether the certificate fits the plan
@@ -101,7 +101,7 @@ pub fn guide_to(command: &str) -> Option<&'static str> {
     }
 }
 
-const OF_MAKE: &str = r#"mctpplan make BOARD [--certificate FILE]
+const OF_MAKE: &str = r#"mctpplan make BOARD [--keep OLD] [--out PLAN [--anew]] [--certificate FILE]
 
 Prints a plan that is made of what an engineer decides: the buses, the nodes on them, who owns whom.
 What the board leaves out is found, as endpoint IDs, pools, rows and the bytes of records; what it
@@ -111,13 +111,19 @@ in a board, and what each reason means. One that begins with no plan: no and a s
 board, whichever endpoint IDs, pools and rows are chosen of those that it leaves out. Files that its
 records name are read from the board's folder, or from the working folder where the board is -.
 
-With --certificate the certificate that certify makes of the plan is written to FILE, before the
-plan is printed. Where no plan is made, FILE is left as it is.
+With --keep the numbers of the plan OLD stay wherever they can: a node of the same name keeps its
+endpoint ID and the place of its pool. Standard error has a line for each that differs, moved, new
+or gone, and then how many were kept. docs/BOARD.md says which numbers stay.
+
+With --out the plan is written to PLAN, and how many numbers were kept is printed in its place. If
+PLAN is there already, its numbers are kept as by --keep, but with --anew. With --certificate the
+certificate that certify makes of the plan is written to FILE. The plan is printed behind that.
+Where no plan is made, both files are left as they are.
 
 Status 0: the plan.
 Status 1: why no plan can be made, or that none was found.
 Status 2: where the board, or a file that it names, can't be read, with what stands there and what
-may.
+may; where OLD can't be read, or a file can't be written.
 
   $ mctpplan make examples/board/riser.toml --certificate certificate.json > plan.json
   $ mctpplan check plan.json certificate.json
@@ -663,7 +669,8 @@ the plan doesn't have: from or to such an endpoint ID, and between two nodes wit
 --bus the capture was taken on that bus, and a packet whose planned way doesn't go over it is told
 too. The last line says whether all is as planned, or how many lines tell a difference, or that
 nothing was compared: no device said anything of its routing table, its endpoint ID, its pool or its
-records, as in an empty capture.
+records, as in an empty capture. Behind that it has the number of nodes that were compared, of all
+nodes, of packets, and of entries that were refused. Where some were, a line tells the first one.
 
 Status 0: audit match.
 Status 1: audit differs and how many lines tell a difference; audit saw nothing of the plan; or the
@@ -679,7 +686,7 @@ tell a difference.
   riser pool match 17 to 23
   nic eid match 17
   ssd not captured
-  audit differs 1
+  audit differs 1: 2 of 4 nodes, 10 packets, 0 refused
 "#;
 
 const OF_EMULATE: &str = r#"mctpplan emulate PLAN CERT NODE [--configured]

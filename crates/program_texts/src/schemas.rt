@@ -864,7 +864,7 @@ const BOARD: &str = r##"{
           ]
         },
         "ports": {
-          "description": "Each port is a bus and an address in lower-case hex, as i2c0 1d.",
+          "description": "Each port is a bus and an address in lower-case hex, as i2c0 3a.",
           "type": "array",
           "maxItems": 32,
           "items": { "type": "string", "pattern": "^[A-Za-z0-9._-]{1,32}( ([0-9a-f]{2}){1,8})?$" }

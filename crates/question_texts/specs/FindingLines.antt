@@ -1,15 +1,10 @@
 -- The lines of what looks wrong in a plan.
-use Rattle.std.specs.Prelude.{ℕ, List, [], ◌++◌, codes}
-use Rattle.std.specs.Prelude.{Option, Some, option_map, slice_get, unwrap_or}
-use Rattle.std.specs.Fmt.{decimal}
-use Rattle.std.specs.List.{flat_map}
-use Rattle.net_tables.specs.Routing.{ports_of}
-use Rattle.plan_values.specs.declared.nodes.Port.{Port}
-use Rattle.plan_values.specs.declared.plan.Plan.{Plan}
+use Rattle.std.{specs.Prelude.{ℕ, List, [], ◌++◌, codes, Option, Some, option_map, slice_get, unwrap_or}, specs.Fmt.{decimal}, specs.List.{flat_map}}
+use Rattle.net_tables.{specs.Routing.{ports_of}, specs.Names.{node_name}}
+use Rattle.plan_values.{specs.declared.nodes.Port.{Port}, specs.declared.plan.Plan.{Plan}}
 use Rattle.net_questions.specs.declared.finding.Finding.{Finding}
-use Rattle.net_questions.specs.declared.finding.Finding.TheVariants as finding
-use Rattle.net_tables.specs.Names.{node_name}
 use Rattle.plan_texts.specs.LineParts.{bus_text, address_text}
+use Rattle.net_questions.specs.declared.finding.Finding.TheVariants as finding
 
 -- the bus of n's port p
 abbrev pub bus_of_port : Plan → ℕ → ℕ → Option ℕ

@@ -1,8 +1,5 @@
 -- The lines of pairs of nodes.
-use Rattle.std.specs.Prelude.{ℕ, List, length, ◌++◌, ◌&&◌, Bool}
-use Rattle.std.specs.Prelude.{Option, Some, None, is_some, is_none, count_by, codes}
-use Rattle.std.specs.Fmt.{decimal}
-use Rattle.std.specs.List.{flat_map}
+use Rattle.std.{specs.Prelude.{ℕ, List, length, ◌++◌, ◌&&◌, Bool, Option, Some, None, is_some, is_none, count_by, codes}, specs.Fmt.{decimal}, specs.List.{flat_map}}
 use Rattle.plan_values.specs.declared.plan.Plan.{Plan}
 use Rattle.net_questions.specs.declared.pair.Pair.{Pair}
 use Rattle.net_tables.specs.Names.{node_name}

@@ -1,14 +1,9 @@
 -- The lines of ways.
-use Rattle.std.specs.Prelude.{◌+◌, ℕ, List, [], ◌∷◌, ◌++◌, length, Option, option_map, slice_get, codes}
-use Rattle.std.specs.Fmt.{decimal}
+use Rattle.std.{specs.Prelude.{◌+◌, ℕ, List, [], ◌∷◌, ◌++◌, length, Option, option_map, slice_get, codes}, specs.Fmt.{decimal}}
 use Rattle.mctp_routing.specs.Decisions.{forward_fault_code}
-use Rattle.net_tables.specs.Names.{address_on, node_name}
-use Rattle.net_tables.specs.Routing.{ports_of}
-use Rattle.plan_values.specs.declared.nodes.Port.{Port}
-use Rattle.plan_values.specs.declared.plan.Plan.{Plan}
-use Rattle.net_questions.specs.declared.step.WayStep.{WayStep}
-use Rattle.net_questions.specs.declared.way.End.{End}
-use Rattle.net_questions.specs.declared.way.End.TheVariants.{Arrives, Stops}
+use Rattle.net_tables.{specs.Names.{address_on, node_name}, specs.Routing.{ports_of}}
+use Rattle.plan_values.{specs.declared.nodes.Port.{Port}, specs.declared.plan.Plan.{Plan}}
+use Rattle.net_questions.{specs.declared.step.WayStep.{WayStep}, specs.declared.way.End.{End}, specs.declared.way.End.TheVariants.{Arrives, Stops}}
 use Rattle.plan_texts.specs.LineParts.{address_text, bus_text}
 
 -- the bus of the port by which a step leaves

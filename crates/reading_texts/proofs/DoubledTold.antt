@@ -1,16 +1,9 @@
 -- What stands twice, as it is told: keys by index, and where the lines say that both stand.
-use Rattle.std.proofs.Common.{◌≡◌, ◌≤◌, ◌<◌, ◌+◌, ◌++◌, ℕ, zero, suc, List, [], ◌∷◌, length, get_or, append-nil, Option, Some, None, Result, Ok, Err, Bor, refl, sym, ◌∙◌, ap, subst, arith}
-use Rattle.std.specs.Prelude.{IfOk}
-use Rattle.json.specs.Json.{Json}
-use Rattle.json.specs.Value.{members_view}
-use Rattle.net_plan.specs.Trees.{Tree}
-use Rattle.net_pointers.specs.Doubles.{HasDoubledKey, part_at}
-use Rattle.net_plan.specs.Finding.{Step}
-use Rattle.net_pointers.specs.Offsets.{LeadsTo, LeadsToKey}
-use Rattle.net_pointers.specs.declared.doubled.DoubledKey.{DoubledKey}
-use Rattle.net_pointers.specs.declared.ranges.Overlap.{Overlap}
-use Rattle.reading_texts.specs.ReadingLines.{Begins, place_text, pointer_text}
-use Rattle.reading_texts.specs.TroubleLines.{keys_in, two_lines, IsDoubledKeyTold, IsOverlapTold, IsValueTold, key_at, object_text, path_text, range_pointer}
+use Rattle.std.{proofs.Common.{◌≡◌, ◌≤◌, ◌<◌, ◌+◌, ◌++◌, ℕ, zero, suc, List, [], ◌∷◌, length, get_or, append-nil, Option, Some, None, Result, Ok, Err, Bor, refl, sym, ◌∙◌, ap, subst, arith}, specs.Prelude.{IfOk}}
+use Rattle.json.{specs.Json.{Json}, specs.Value.{members_view}}
+use Rattle.net_plan.{specs.Trees.{Tree}, specs.Finding.{Step}}
+use Rattle.net_pointers.{specs.Doubles.{HasDoubledKey, part_at}, specs.Offsets.{LeadsTo, LeadsToKey}, specs.declared.doubled.DoubledKey.{DoubledKey}, specs.declared.ranges.Overlap.{Overlap}}
+use Rattle.reading_texts.{specs.ReadingLines.{Begins, place_text, pointer_text}, specs.TroubleLines.{keys_in, two_lines, IsDoubledKeyTold, IsOverlapTold, IsValueTold, key_at, object_text, path_text, range_pointer}}
 
 -- ---- by index
 

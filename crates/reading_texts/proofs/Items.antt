@@ -1,8 +1,5 @@
 -- The item of a list to which an index leads.
-use Rattle.std.proofs.Common.{◌≡◌, ℕ, suc, List, ◌∷◌, length, Option, Some, None, option_map, Bor, refl, sym, ap, ◌∙◌}
-use Rattle.std.specs.List.{slice_get}
-use Rattle.std.specs.Slice.{IsItemAt}
-use Rattle.std.proofs.lemmas.Option.{slice_get_read, slice_get_past}
+use Rattle.std.{proofs.Common.{◌≡◌, ℕ, suc, List, ◌∷◌, length, Option, Some, None, option_map, Bor, refl, sym, ap, ◌∙◌}, specs.List.{slice_get}, specs.Slice.{IsItemAt}, proofs.lemmas.Option.{slice_get_read, slice_get_past}}
 use Rattle.serde_json.specs.Find.{get_item}
 use Rattle.net_plan.specs.Trees.{Tree, view, items_view}
 

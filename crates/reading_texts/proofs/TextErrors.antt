@@ -1,44 +1,13 @@
 -- Why a text doesn't read, by what is told of it.
-use Rattle.std.proofs.Common.{◌≡◌, ◌≢◌, ◌≤◌, ℕ, List, length, Some, None, Result, Ok, Err, string_bytes, refl, sym, ap, ◌∙◌, subst, inl, inr, []}
-use Rattle.std.proofs.lemmas.Option.{none-some, same_Some}
-use Rattle.json.specs.Json.{Json}
-use Rattle.json.specs.Strict.{HasUniqueKeys}
+use Rattle.std.{proofs.Common.{◌≡◌, ◌≢◌, ◌≤◌, ℕ, List, length, Some, None, Result, Ok, Err, string_bytes, refl, sym, ap, ◌∙◌, subst, inl, inr, []}, proofs.lemmas.Option.{none-some, same_Some}}
+use Rattle.json.{specs.Json.{Json}, specs.Strict.{HasUniqueKeys}}
 use Rattle.serde_json.specs.Data.{Data}
-use Rattle.net_plan.specs.CertificateReading.{certificate}
-use Rattle.net_plan.specs.CertificateText.{IsCertificateOf}
-use Rattle.net_plan.specs.EventReading.{events}
-use Rattle.net_plan.specs.EventText.{AreEventsOf}
-use Rattle.net_plan.specs.Finding.{fault_of}
-use Rattle.net_plan.specs.PlanReading.{plan}
-use Rattle.net_plan.specs.PlanText.{IsPlanOf}
-use Rattle.net_plan.specs.Reading.{IsReadOf, error_of}
-use Rattle.net_plan.specs.Refusals.{IsFaultyValue, IsNoneFor, IsRefused}
-use Rattle.net_plan.specs.SingleKeys.{single, unless_doubled}
-use Rattle.net_plan.specs.Texts.{IsJson, IsTree}
-use Rattle.net_plan.specs.Trees.{data_of}
-use Rattle.net_plan.specs.declared.error.PlanError.{PlanError}
-use Rattle.net_plan.specs.declared.error.PlanError.TheVariants as error
-use Rattle.net_plan.specs.declared.error.ValueFault.{ValueFault}
-use Rattle.net_plan.specs.declared.error.ValueFault.TheVariants as fault
-use Rattle.net_plan.proofs.CertificateLaw.{certificate_tells}
-use Rattle.net_plan.proofs.EventLaw.{events_tells}
-use Rattle.net_plan.proofs.PlanLaw.{plan_tells}
-use Rattle.net_plan.proofs.Refusing.{fault_none, single_read, value_refused}
-use Rattle.net_plan.proofs.Telling.{Tells, any, no_value}
+use Rattle.net_plan.{specs.CertificateReading.{certificate}, specs.CertificateText.{IsCertificateOf}, specs.EventReading.{events}, specs.EventText.{AreEventsOf}, specs.Finding.{fault_of}, specs.PlanReading.{plan}, specs.PlanText.{IsPlanOf}, specs.Reading.{IsReadOf, error_of}, specs.Refusals.{IsFaultyValue, IsNoneFor, IsRefused}, specs.SingleKeys.{single, unless_doubled}, specs.Texts.{IsJson, IsTree}, specs.Trees.{data_of}, specs.declared.error.PlanError.{PlanError}, specs.declared.error.ValueFault.{ValueFault}, proofs.CertificateLaw.{certificate_tells}, proofs.EventLaw.{events_tells}, proofs.PlanLaw.{plan_tells}, proofs.Refusing.{fault_none, single_read, value_refused}, proofs.Telling.{Tells, any, no_value}}
 use Rattle.plan_values.specs.PlanValues.{PlanValue, node_names}
-use Rattle.net_pointers.specs.Asks.{Sort, plan_text, certificate_text, events_text, asks_of}
-use Rattle.net_pointers.specs.OrderOfTests.{IsTold, refusal, fault_in}
-use Rattle.net_pointers.specs.TextTroubles.{IsToldOfText, cause_of}
-use Rattle.net_pointers.specs.declared.order.Trouble.{Trouble}
-use Rattle.net_pointers.specs.declared.order.Trouble.TheVariants.{Value, UnknownName}
-use Rattle.net_pointers.specs.declared.texts.TextTrouble.{TextTrouble}
-use Rattle.net_pointers.specs.declared.texts.TextTrouble.TheVariants.{TooLong, NotJson, Wrong}
-use Rattle.net_pointers.proofs.ValueFaults.{IsOfValue, first_of_value}
-use Rattle.reading_texts.specs.TextErrors.{IsFaultOfText, IsFaultOfValue, IsToldAs, IsToldOf}
-use Rattle.reading_texts.specs.TroubleLines.{AreTroubleLines}
-use Rattle.reading_texts.specs.declared.text_error.TextFault.{TextFault}
-use Rattle.reading_texts.specs.declared.text_error.TextError.{TextError}
-use Rattle.reading_texts.specs.declared.text_error.TextError.TheVariants.{Faulty, OutOfMemory}
+use Rattle.net_pointers.{specs.Asks.{Sort, plan_text, certificate_text, events_text, asks_of}, specs.OrderOfTests.{IsTold, refusal, fault_in}, specs.TextTroubles.{IsToldOfText, cause_of}, specs.declared.order.Trouble.{Trouble}, specs.declared.order.Trouble.TheVariants.{Value, UnknownName}, specs.declared.texts.TextTrouble.{TextTrouble}, specs.declared.texts.TextTrouble.TheVariants.{TooLong, NotJson, Wrong}, proofs.ValueFaults.{IsOfValue, first_of_value}}
+use Rattle.reading_texts.{specs.TextErrors.{IsFaultOfText, IsFaultOfValue, IsToldAs, IsToldOf}, specs.TroubleLines.{AreTroubleLines}, specs.declared.text_error.TextFault.{TextFault}, specs.declared.text_error.TextError.{TextError}, specs.declared.text_error.TextError.TheVariants.{Faulty, OutOfMemory}}
+use Rattle.net_plan.specs.declared.error.PlanError.TheVariants as error
+use Rattle.net_plan.specs.declared.error.ValueFault.TheVariants as fault
 
 -- ---- the fault of the value is that of its text
 

@@ -1,11 +1,8 @@
 -- The lines that tell why a text doesn't read: their codes, and the places that they name.
-use Rattle.std.specs.Prelude.{◌≡◌, ◌+◌, ℕ, List, [], ◌∷◌, ◌++◌, take, count_by, codes, Option, Some, None}
-use Rattle.std.specs.Fmt.{decimal}
-use Rattle.std.specs.List.{flat_map}
-use Rattle.net_plan.specs.Finding.{Step, key, index}
-use Rattle.net_plan.specs.declared.error.PlanError.{PlanError}
-use Rattle.net_plan.specs.declared.error.PlanError.TheVariants as error
+use Rattle.std.{specs.Prelude.{◌≡◌, ◌+◌, ℕ, List, [], ◌∷◌, ◌++◌, take, count_by, codes, Option, Some, None}, specs.Fmt.{decimal}, specs.List.{flat_map}}
+use Rattle.net_plan.{specs.Finding.{Step, key, index}, specs.declared.error.PlanError.{PlanError}}
 use Rattle.net_pointers.specs.Positions.{is_line_feed, begins_character, last_line}
+use Rattle.net_plan.specs.declared.error.PlanError.TheVariants as error
 
 -- ---- why
 

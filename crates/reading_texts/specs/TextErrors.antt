@@ -2,18 +2,10 @@
 use Rattle.std.specs.Prelude.{◌≡◌, ◌≢◌, ⊤, ℕ, List, length, Some, Result, Ok, Err, string_bytes}
 use Rattle.json.specs.Json.{Json}
 use Rattle.serde_json.specs.Data.{Data}
-use Rattle.net_plan.specs.Refusals.{IsRefused}
+use Rattle.net_plan.{specs.Refusals.{IsRefused}, specs.declared.error.ValueFault.{ValueFault}}
+use Rattle.net_pointers.{specs.Asks.{Sort, plan_text}, specs.OrderOfTests.{IsTold}, specs.TextTroubles.{IsToldOfNoValue, IsToldOfText, cause_of}, specs.declared.order.Trouble.{Trouble}, specs.declared.texts.TextTrouble.TheVariants.{TooLong, Wrong}}
+use Rattle.reading_texts.{specs.TroubleLines.{AreLines, AreTroubleLines}, specs.declared.text_error.TextError.{TextError}, specs.declared.text_error.TextError.TheVariants.{Faulty, OutOfMemory}, specs.declared.text_error.TextFault.{TextFault}}
 use Rattle.net_plan.specs.declared.error.PlanError.TheVariants as error
-use Rattle.net_plan.specs.declared.error.ValueFault.{ValueFault}
-use Rattle.net_pointers.specs.Asks.{Sort, plan_text}
-use Rattle.net_pointers.specs.OrderOfTests.{IsTold}
-use Rattle.net_pointers.specs.TextTroubles.{IsToldOfNoValue, IsToldOfText, cause_of}
-use Rattle.net_pointers.specs.declared.order.Trouble.{Trouble}
-use Rattle.net_pointers.specs.declared.texts.TextTrouble.TheVariants.{TooLong, Wrong}
-use Rattle.reading_texts.specs.TroubleLines.{AreLines, AreTroubleLines}
-use Rattle.reading_texts.specs.declared.text_error.TextError.{TextError}
-use Rattle.reading_texts.specs.declared.text_error.TextError.TheVariants.{Faulty, OutOfMemory}
-use Rattle.reading_texts.specs.declared.text_error.TextFault.{TextFault}
 
 -- the fault is what is wrong with the text of a sort, with the lines that tell it
 abbrev pub IsFaultOfText : Sort → List ℕ → TextFault → Type 0

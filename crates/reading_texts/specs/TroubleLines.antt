@@ -1,34 +1,11 @@
 -- Where the lines say that a text is wrong, and the nearest name. Their other words are free.
-use Rattle.std.specs.Prelude.{◌≡◌, ◌+◌, ⊤, ℕ, zero, suc, codes, get_or, List, [], ◌∷◌, ◌++◌}
-use Rattle.std.specs.Prelude.{Option, Some, None, MatchOption}
-use Rattle.std.specs.Fmt.{decimal}
-use Rattle.json.specs.Json.{Json, object, Members, no_members, member}
-use Rattle.json.specs.Strict.{keys}
+use Rattle.std.{specs.Prelude.{◌≡◌, ◌+◌, ⊤, ℕ, zero, suc, codes, get_or, List, [], ◌∷◌, ◌++◌, Option, Some, None, MatchOption}, specs.Fmt.{decimal}}
+use Rattle.json.{specs.Json.{Json, object, Members, no_members, member}, specs.Strict.{keys}}
 use Rattle.serde_json.specs.Data.{Data}
-use Rattle.net_plan.specs.Finding.{Located, key, index, Step, names_of, located}
-use Rattle.net_plan.specs.Grammar.{Grammar, plain, Known}
-use Rattle.net_plan.specs.Names.{text_found}
-use Rattle.net_plan.specs.Trees.{data_of}
-use Rattle.net_plan.specs.declared.shape.Named.{Named}
-use Rattle.net_plan.specs.declared.shape.Named.TheVariants.{Nodes}
-use Rattle.net_plan.specs.declared.shape.Word.TheVariants as word
-use Rattle.net_pointers.specs.Asks.{Sort, asks_of, list_key, name_key}
-use Rattle.net_pointers.specs.Doubles.{part_after}
-use Rattle.net_pointers.specs.Nearest.{IsNearest}
-use Rattle.net_pointers.specs.Offsets.{LeadsTo, LeadsToKey}
-use Rattle.net_pointers.specs.Pointers.{value_at}
-use Rattle.net_pointers.specs.TextTroubles.{IsJsonOf, IsToldOfText}
-use Rattle.net_pointers.specs.declared.doubled.DoubledKey.{DoubledKey}
-use Rattle.net_pointers.specs.declared.doubled.TwoIndices.{TwoIndices}
-use Rattle.net_pointers.specs.declared.order.Trouble.{Trouble}
-use Rattle.net_pointers.specs.declared.order.Trouble.TheVariants.{Value, DoubledName, UnknownName}
-use Rattle.net_pointers.specs.declared.order.Trouble.TheVariants.{Overlap as OverlapOf, DoubledKey as DoubledKeyOf}
-use Rattle.net_pointers.specs.declared.ranges.Overlap.{Overlap}
-use Rattle.net_pointers.specs.declared.syntax.JsonFault.{JsonFault}
-use Rattle.net_pointers.specs.declared.syntax.JsonFault.TheVariants.{NotUtf8, Unreadable}
-use Rattle.net_pointers.specs.declared.texts.TextTrouble.{TextTrouble}
-use Rattle.net_pointers.specs.declared.texts.TextTrouble.TheVariants.{TooLong, NotJson, Wrong}
+use Rattle.net_plan.{specs.Finding.{Located, key, index, Step, names_of, located}, specs.Grammar.{Grammar, plain, Known}, specs.Names.{text_found}, specs.Trees.{data_of}, specs.declared.shape.Named.{Named}, specs.declared.shape.Named.TheVariants.{Nodes}}
+use Rattle.net_pointers.{specs.Asks.{Sort, asks_of, list_key, name_key}, specs.Doubles.{part_after}, specs.Nearest.{IsNearest}, specs.Offsets.{LeadsTo, LeadsToKey}, specs.Pointers.{value_at}, specs.TextTroubles.{IsJsonOf, IsToldOfText}, specs.declared.doubled.DoubledKey.{DoubledKey}, specs.declared.doubled.TwoIndices.{TwoIndices}, specs.declared.order.Trouble.{Trouble}, specs.declared.order.Trouble.TheVariants.{Value, DoubledName, UnknownName, Overlap as OverlapOf, DoubledKey as DoubledKeyOf}, specs.declared.ranges.Overlap.{Overlap}, specs.declared.syntax.JsonFault.{JsonFault}, specs.declared.syntax.JsonFault.TheVariants.{NotUtf8, Unreadable}, specs.declared.texts.TextTrouble.{TextTrouble}, specs.declared.texts.TextTrouble.TheVariants.{TooLong, NotJson, Wrong}}
 use Rattle.reading_texts.specs.ReadingLines.{position_text, pointer_text, place_text, Begins}
+use Rattle.net_plan.specs.declared.shape.Word.TheVariants as word
 
 -- ---- no JSON
 

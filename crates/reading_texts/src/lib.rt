@@ -1,29 +1,12 @@
 //! The lines that tell why a text doesn't read, and where.
 #![tactic(auto)]
 
-ghost use Rattle.std.specs.Prelude.{◌≡◌, ◌<◌, ◌≤◌, None, Some, IfOk, IfErr, IsTrue, MatchOption, OnOk, length, map, string_bytes, vec_len};
-ghost use Rattle.std.specs.List.{list_all};
+ghost use Rattle.std.{specs.Prelude.{◌≡◌, ◌<◌, ◌≤◌, None, Some, IfOk, IfErr, IsTrue, MatchOption, OnOk, length, map, string_bytes, vec_len}, specs.List.{list_all}};
 ghost use Rattle.json.specs.Value.{value_view};
-ghost use Rattle.net_plan.specs.CertificateReading.{certificate};
-ghost use Rattle.net_plan.specs.CertificateText.{IsCertificateOf};
-ghost use Rattle.net_plan.specs.EventReading.{events};
-ghost use Rattle.net_plan.specs.EventText.{AreEventsOf};
-ghost use Rattle.net_plan.specs.PlanReading.{plan};
-ghost use Rattle.net_plan.specs.PlanText.{IsPlanOf};
-ghost use Rattle.net_plan.specs.Refusals.{IsNoValue};
-ghost use Rattle.net_plan.specs.Texts.{IsJson, IsTree, IsJsonTextOf};
-ghost use Rattle.net_plan.specs.Trees.{view};
-ghost use Rattle.plan_values.specs.CertificateValues.{are_known, certificate_value};
-ghost use Rattle.plan_values.specs.EventValues.{event_entry, is_known_event};
-ghost use Rattle.plan_values.specs.PlanValues.{node_names, plan_value};
-ghost use Rattle.net_pointers.specs.Asks.{asks, asks_of, certificate_text, events_text, plan_text, sort_of};
-ghost use Rattle.net_pointers.specs.Offsets.{IsTextOf};
-ghost use Rattle.net_pointers.specs.OrderOfTests.{IsTold};
-ghost use Rattle.net_pointers.specs.TextTroubles.{IsToldOfNoValue};
-ghost use Rattle.reading_texts.specs.ReadingLines.{unread_code, unread_line};
-ghost use Rattle.reading_texts.specs.TextErrors.{IsFaultOfValue, IsNoValueTold, IsToldAs, IsToldOf, IsToldTooLong};
-ghost use Rattle.reading_texts.specs.declared.text_error.TextError.TheVariants.{Faulty};
-ghost use Rattle.reading_texts.specs.TroubleLines.{AreLines, AreTroubleLines};
+ghost use Rattle.net_plan.{specs.CertificateReading.{certificate}, specs.CertificateText.{IsCertificateOf}, specs.EventReading.{events}, specs.EventText.{AreEventsOf}, specs.PlanReading.{plan}, specs.PlanText.{IsPlanOf}, specs.Refusals.{IsNoValue}, specs.Texts.{IsJson, IsTree, IsJsonTextOf}, specs.Trees.{view}, specs.Limits.{most_text_bytes, most_events}};
+ghost use Rattle.plan_values.{specs.CertificateValues.{are_known, certificate_value}, specs.EventValues.{event_entry, is_known_event}, specs.PlanValues.{node_names, plan_value}};
+ghost use Rattle.net_pointers.{specs.Asks.{asks, asks_of, certificate_text, events_text, plan_text, sort_of}, specs.Offsets.{IsTextOf}, specs.OrderOfTests.{IsTold}, specs.TextTroubles.{IsToldOfNoValue}};
+ghost use Rattle.reading_texts.{specs.ReadingLines.{unread_code, unread_line}, specs.TextErrors.{IsFaultOfValue, IsNoValueTold, IsToldAs, IsToldOf, IsToldTooLong}, specs.declared.text_error.TextError.TheVariants.{Faulty}, specs.TroubleLines.{AreLines, AreTroubleLines}};
 
 mod joined;
 mod names;
@@ -84,7 +67,7 @@ pub fn unread_line(alloc: Global, role: &str, cause: PlanError) -> Result<String
 pub fn plan_or_fault(alloc: Global, text: &[u8]) -> Result<Plan, TextError>
     ensures ok { IfOk result (λ plan. IsJsonTextOf IsPlanOf text.now (plan_value plan)) }
     ensures refused { IfErr result (IsToldAs plan_text plan IsPlanOf text.now) }
-    ensures too_long { 16777216 < length text.now → IsToldTooLong text.now result }
+    ensures too_long { most_text_bytes < length text.now → IsToldTooLong text.now result }
 {
     if let Some(plan) = plan_at_once(alloc, text) {
         return Ok(plan);
@@ -107,7 +90,7 @@ pub fn certificate_or_fault(
     ensures known { IfOk result (λ certificate. IsTrue (are_known (length plan.now.nodes.items) (certificate_value certificate))) }
     ensures refused { let nodes = node_names (plan_value plan.now).nodes in
         IfErr result (IsToldAs (certificate_text nodes) (certificate nodes) (IsCertificateOf (plan_value plan.now)) text.now) }
-    ensures too_long { 16777216 < length text.now → IsToldTooLong text.now result }
+    ensures too_long { most_text_bytes < length text.now → IsToldTooLong text.now result }
 {
     if let Some(certificate) = certificate_at_once(alloc, plan, text) {
         return Ok(certificate);
@@ -124,10 +107,10 @@ pub fn certificate_or_fault(
 pub fn events_or_fault(alloc: Global, plan: &Plan, text: &[u8]) -> Result<Vec<Event>, TextError>
     ensures ok { IfOk result (λ events. IsJsonTextOf (AreEventsOf (plan_value plan.now)) text.now (map event_entry events.items)) }
     ensures known { IfOk result (λ events. IsTrue (list_all (is_known_event (length plan.now.nodes.items)) (map event_entry events.items))) }
-    ensures within { IfOk result (λ events. vec_len events ≤ 100000) }
+    ensures within { IfOk result (λ events. vec_len events ≤ most_events) }
     ensures refused { let nodes = node_names (plan_value plan.now).nodes in
         IfErr result (IsToldAs (events_text nodes) (events nodes) (AreEventsOf (plan_value plan.now)) text.now) }
-    ensures too_long { 16777216 < length text.now → IsToldTooLong text.now result }
+    ensures too_long { most_text_bytes < length text.now → IsToldTooLong text.now result }
 {
     if let Some(events) = events_at_once(alloc, plan, text) {
         return Ok(events);
@@ -158,7 +141,7 @@ fn sound_value<'t>(
 ) -> Result<Value<'t>, TextError>
     ensures json { IfOk result (λ value. IsJson text.now (view value) × IsTree text.now (value_view value)) }
     ensures sound { IfOk result (λ value. IsTold (sort_of sort.entry) (value_view value) None) }
-    ensures within { OnOk result (length text.now ≤ 16777216) }
+    ensures within { OnOk result (length text.now ≤ most_text_bytes) }
     ensures refused { IfErr result (IsToldOf (sort_of sort.entry) text.now) }
 {
     let value = match json_of(alloc, text, scratch) {

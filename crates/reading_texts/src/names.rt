@@ -1,13 +1,9 @@
 //! A name that is that of nothing: where it stands, and the nearest name that exists.
 ghost use Rattle.std.specs.Prelude.{◌≡◌, [], true, is_some, map, get_or, IfOk, string_bytes};
-ghost use Rattle.net_plan.specs.Finding.{located, names_of};
-ghost use Rattle.net_plan.specs.Grammar.{grammar, known_view};
-ghost use Rattle.net_plan.specs.Trees.{view};
+ghost use Rattle.net_plan.{specs.Finding.{located, names_of}, specs.Grammar.{grammar, known_view}, specs.Trees.{view}};
 ghost use Rattle.json.specs.Value.{value_view};
-ghost use Rattle.net_pointers.specs.Offsets.{IsTextOf};
-ghost use Rattle.net_pointers.specs.Pointers.{value_at};
-ghost use Rattle.reading_texts.specs.ReadingLines.{Begins};
-ghost use Rattle.reading_texts.specs.TroubleLines.{IsUnknownNameTold, named_there, nearest_line};
+ghost use Rattle.net_pointers.{specs.Offsets.{IsTextOf}, specs.Pointers.{value_at}};
+ghost use Rattle.reading_texts.{specs.ReadingLines.{Begins}, specs.TroubleLines.{IsUnknownNameTold, named_there, nearest_line}};
 
 use crate::joined::joined;
 use crate::positions::place_text;

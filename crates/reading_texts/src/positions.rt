@@ -1,6 +1,5 @@
 //! Lines and columns, and JSON pointers.
-ghost use Rattle.std.specs.Prelude.{◌≡◌, ◌≤◌, length, map, IfOk, IfSome, string_bytes};
-ghost use Rattle.std.specs.List.{flat_map};
+ghost use Rattle.std.{specs.Prelude.{◌≡◌, ◌≤◌, length, map, IfOk, IfSome, string_bytes}, specs.List.{flat_map}};
 ghost use Rattle.net_plan.specs.Finding.{step_value};
 ghost use Rattle.reading_texts.specs.ReadingLines.{place_text, position_text, step_text, pointer_text};
 

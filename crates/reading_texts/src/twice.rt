@@ -1,14 +1,9 @@
 //! What stands twice, and where both stand.
 ghost use Rattle.std.specs.Prelude.{◌≡◌, ◌≤◌, ◌<◌, length, map, IfOk, IfSome, Some, option_map, string_bytes};
 ghost use Rattle.json.specs.Value.{value_view, members_view};
-ghost use Rattle.net_plan.specs.Finding.{step_value};
-ghost use Rattle.net_plan.specs.Trees.{view};
-ghost use Rattle.net_pointers.specs.Ascending.{DoOverlap};
-ghost use Rattle.net_pointers.specs.Asks.{list_key, name_key};
-ghost use Rattle.net_pointers.specs.Doubles.{HasDoubledKey, part_at};
-ghost use Rattle.net_pointers.specs.Offsets.{IsTextOf, LeadsToKey};
-ghost use Rattle.reading_texts.specs.ReadingLines.{Begins, pointer_text};
-ghost use Rattle.reading_texts.specs.TroubleLines.{two_lines, entry_pointer, IsDoubledNameTold, IsDoubledKeyTold, key_at, part_step, path_text, object_text, keys_in, IsOverlapTold, range_pointer};
+ghost use Rattle.net_plan.{specs.Finding.{step_value}, specs.Trees.{view}};
+ghost use Rattle.net_pointers.{specs.Ascending.{DoOverlap}, specs.Asks.{list_key, name_key}, specs.Doubles.{HasDoubledKey, part_at}, specs.Offsets.{IsTextOf, LeadsToKey}};
+ghost use Rattle.reading_texts.{specs.ReadingLines.{Begins, pointer_text}, specs.TroubleLines.{two_lines, entry_pointer, IsDoubledNameTold, IsDoubledKeyTold, key_at, part_step, path_text, object_text, keys_in, IsOverlapTold, range_pointer}};
 
 use crate::positions::{pointer_text, position_text};
 use crate::values::{offset_there, text_of, value_at};

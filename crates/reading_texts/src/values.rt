@@ -1,12 +1,9 @@
 //! A value that is wrong in itself: where it stands, what is wrong with it, and what may stand there.
 ghost use Rattle.std.specs.Prelude.{◌≡◌, map, true, is_some, IfOk, option_map, string_bytes};
 ghost use Rattle.serde_json.specs.Find.{at, get_item};
-ghost use Rattle.net_plan.specs.Finding.{located, step_value};
-ghost use Rattle.net_plan.specs.Names.{text_found};
+ghost use Rattle.net_plan.{specs.Finding.{located, step_value}, specs.Names.{text_found}, specs.Trees.{view, items_view}};
 ghost use Rattle.json.specs.Value.{value_view};
-ghost use Rattle.net_plan.specs.Trees.{view, items_view};
-ghost use Rattle.net_pointers.specs.Offsets.{IsTextOf, LeadsTo};
-ghost use Rattle.net_pointers.specs.Pointers.{value_at, value_after};
+ghost use Rattle.net_pointers.{specs.Offsets.{IsTextOf, LeadsTo}, specs.Pointers.{value_at, value_after}};
 ghost use Rattle.reading_texts.specs.TroubleLines.{IsValueTold};
 
 use crate::joined::joined;

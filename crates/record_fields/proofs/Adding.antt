@@ -1,7 +1,5 @@
 -- Fields that are added one part after another.
-use Rattle.std.proofs.Common.{◌≡◌, ◌+◌, ◌<◌, ◌≤◌, ℕ, List, ◌++◌, Result, Ok, Err, OnOk, All, length, map, take, get_or, ap, subst, ◌∙◌}
-use Rattle.std.proofs.lemmas.List.{append_assoc, map_more, take_all}
-use Rattle.std.proofs.lemmas.List.Elements.{All-push}
+use Rattle.std.{proofs.Common.{◌≡◌, ◌+◌, ◌<◌, ◌≤◌, ℕ, List, ◌++◌, Result, Ok, Err, OnOk, All, length, map, take, get_or, ap, subst, ◌∙◌}, proofs.lemmas.List.{append_assoc, map_more, take_all}, proofs.lemmas.List.Elements.{All-push}}
 use Rattle.record_fields.specs.Named.{Named}
 
 -- three parts

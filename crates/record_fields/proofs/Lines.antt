@@ -1,12 +1,6 @@
 -- The lines of fields, with one more at their end.
-use Rattle.std.proofs.Common.{◌≡◌, ◌+◌, ◌<◌, List, ℕ, [], ◌∷◌, ◌++◌, length, map, take, get_or, refl, sym, ap, ◌∙◌, arith}
-use Rattle.std.proofs.lemmas.List.{append_assoc, append-nil, map_more}
-use Rattle.std.proofs.lemmas.Option.{slice_get-get_or}
-use Rattle.std.specs.Prelude.{slice_get, Some}
-use Rattle.record_fields.specs.declared.held.NamedField.{NamedField}
-use Rattle.record_fields.specs.Meanings.{named_of}
-use Rattle.record_fields.specs.Named.{Named}
-use Rattle.record_fields.specs.Texts.{IsFieldLine, AreFieldLines}
+use Rattle.std.{proofs.Common.{◌≡◌, ◌+◌, ◌<◌, List, ℕ, [], ◌∷◌, ◌++◌, length, map, take, get_or, refl, sym, ap, ◌∙◌, arith}, proofs.lemmas.List.{append_assoc, append-nil, map_more}, proofs.lemmas.Option.{slice_get-get_or}, specs.Prelude.{slice_get, Some}}
+use Rattle.record_fields.{specs.declared.held.NamedField.{NamedField}, specs.Meanings.{named_of}, specs.Named.{Named}, specs.Texts.{IsFieldLine, AreFieldLines}}
 
 pub one_line_more : (fields : List Named) (field : Named) (text line : List ℕ) → AreFieldLines fields text → IsFieldLine field line
     → AreFieldLines (fields ++ field ∷ []) (text ++ line)

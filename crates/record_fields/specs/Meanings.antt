@@ -1,10 +1,7 @@
 -- What the fields of the code stand for.
-use Rattle.record_fields.specs.declared.held.Held.{Held}
+use Rattle.record_fields.{specs.declared.held.Held.{Held}, specs.declared.held.NamedField.{NamedField}, specs.Named.{Holding, Number, Sized, Bytes, Set, Thing, Named}}
+use Rattle.pdr_record.{specs.StateSetValues.{state_set_value}, specs.Values.{entity_value}}
 use Rattle.record_fields.specs.declared.held.Held.TheVariants as held
-use Rattle.record_fields.specs.declared.held.NamedField.{NamedField}
-use Rattle.pdr_record.specs.StateSetValues.{state_set_value}
-use Rattle.pdr_record.specs.Values.{entity_value}
-use Rattle.record_fields.specs.Named.{Holding, Number, Sized, Bytes, Set, Thing, Named}
 
 abbrev pub holding_of : Held → Holding
 holding_of (held.Number n) = Number n

@@ -1,11 +1,6 @@
 -- The fields of records by their names (DSP0248), and what they hold.
 use Rattle.std.specs.Prelude.{ℕ, ◌+◌, ◌*◌, List, [], ◌∷◌, ◌++◌, length, map, codes, get_or, nat_eq, if◌then◌else◌}
-use Rattle.pdr_record.specs.Fields.{bytes_of}
-use Rattle.pdr_record.specs.Layouts.{EntityValue, SensorValue, TerminusValue, StateSetValue, StateValue}
-use Rattle.pdr_record.specs.Layouts.{AssociationValue, UnitsValue, PrecisionValue, TimingValue, RangesValue}
-use Rattle.pdr_record.specs.Layouts.{NumericValue}
-use Rattle.pdr_record.specs.Records.{BodyValue, Terminus, Numeric, State, Association, Other}
-use Rattle.pdr_record.specs.Records.{RecordValue, type_of, body_fields}
+use Rattle.pdr_record.{specs.Fields.{bytes_of}, specs.Layouts.{EntityValue, SensorValue, TerminusValue, StateSetValue, StateValue, AssociationValue, UnitsValue, PrecisionValue, TimingValue, RangesValue, NumericValue}, specs.Records.{BodyValue, Terminus, Numeric, State, Association, Other, RecordValue, type_of, body_fields}}
 
 -- what a field holds: a number; the bits of a number of a data size, by its code; bytes; a state set; an entity
 pub data Holding : Type 0 where

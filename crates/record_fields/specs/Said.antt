@@ -1,12 +1,7 @@
 -- What words say of a record's fields.
-use Rattle.std.specs.Prelude.{◌≡◌, ◌⊎◌, ℕ, List, ◌++◌, map, codes, All, Contains, Some, Float, to_bits}
-use Rattle.std.specs.Char.{to_ascii_lowercase}
-use Rattle.std.specs.Float.{binary32}
-use Rattle.std.specs.Float.Parse.{parse_float}
-use Rattle.std.specs.Str.Parse.{digits_value, without_leading_plus}
+use Rattle.std.{specs.Prelude.{◌≡◌, ◌⊎◌, ℕ, List, ◌++◌, map, codes, All, Contains, Some, Float, to_bits}, specs.Char.{to_ascii_lowercase}, specs.Float.{binary32}, specs.Float.Parse.{parse_float}, specs.Str.Parse.{digits_value, without_leading_plus}}
 use Rattle.pdr_record.specs.Records.{RecordValue, Spelled, type_of}
-use Rattle.record_fields.specs.Named.{Number, Sized, Named, named_fields}
-use Rattle.record_fields.specs.Texts.{field_text, hexadecimal}
+use Rattle.record_fields.{specs.Named.{Number, Sized, Named, named_fields}, specs.Texts.{field_text, hexadecimal}}
 
 -- both are one word, in letters of either case
 abbrev pub IsOneWord : List ℕ → List ℕ → Type 0

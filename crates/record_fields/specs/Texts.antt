@@ -1,6 +1,5 @@
 -- How what a field holds is written, and the lines of a record's fields.
-use Rattle.std.specs.Prelude.{◌≡◌, ◌⊎◌, ℕ, ◌*◌, ◌-◌, nat_eq, nat_lt, if◌then◌else◌, List, [], ◌∷◌, ◌++◌, codes, false}
-use Rattle.std.specs.Fmt.{decimal, digits}
+use Rattle.std.{specs.Prelude.{◌≡◌, ◌⊎◌, ℕ, ◌*◌, ◌-◌, nat_eq, nat_lt, if◌then◌else◌, List, [], ◌∷◌, ◌++◌, codes, false}, specs.Fmt.{decimal, digits}}
 use Rattle.hex.specs.Hex.{encode_lower}
 use Rattle.record_fields.specs.Named.{Holding, Number, Sized, Bytes, Set, Thing, Named}
 

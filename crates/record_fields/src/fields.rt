@@ -1,14 +1,7 @@
 //! All fields of a record.
 ghost use Rattle.std.specs.Prelude.{◌≡◌, ◌++◌, IfOk, OnOk, map};
-ghost use Rattle.pdr_record.specs.Bodies.{body_value};
-ghost use Rattle.pdr_record.specs.ListValues.{state_value, association_value};
-ghost use Rattle.pdr_record.specs.Lists.{state_sets_value, entities_value};
-ghost use Rattle.pdr_record.specs.NumericValues.{numeric_value};
-ghost use Rattle.pdr_record.specs.RecordValues.{record_value};
-ghost use Rattle.pdr_record.specs.StateSetValues.{state_set_value};
-ghost use Rattle.pdr_record.specs.Values.{entity_value};
-ghost use Rattle.record_fields.specs.Meanings.{named_of};
-ghost use Rattle.record_fields.specs.Named.{named_fields, body_named, numeric_named, sizes_named, limits_named, state_named, association_named, state_set_named, contained_named};
+ghost use Rattle.pdr_record.{specs.Bodies.{body_value}, specs.ListValues.{state_value, association_value}, specs.Lists.{state_sets_value, entities_value}, specs.NumericValues.{numeric_value}, specs.RecordValues.{record_value}, specs.StateSetValues.{state_set_value}, specs.Values.{entity_value}};
+ghost use Rattle.record_fields.{specs.Meanings.{named_of}, specs.Named.{named_fields, body_named, numeric_named, sizes_named, limits_named, state_named, association_named, state_set_named, contained_named}};
 
 use crate::held::{Held, NamedField, entity, number, raw, sized};
 use crate::layouts::{

@@ -1,7 +1,6 @@
 //! What a field of a record is called, and what it holds.
 ghost use Rattle.std.specs.Prelude.{◌≡◌};
-ghost use Rattle.record_fields.specs.Meanings.{named_of};
-ghost use Rattle.record_fields.specs.Named.{number, bits, sized, raw, entity};
+ghost use Rattle.record_fields.{specs.Meanings.{named_of}, specs.Named.{number, bits, sized, raw, entity}};
 ghost use Rattle.pdr_record.specs.Values.{entity_value};
 
 use crate::sized::bits_of;

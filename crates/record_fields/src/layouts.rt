@@ -1,11 +1,7 @@
 //! The fields of each part of a record.
 ghost use Rattle.std.specs.Prelude.{◌≡◌, map};
-ghost use Rattle.pdr_record.specs.NumericValues.{numeric_value};
-ghost use Rattle.pdr_record.specs.RecordValues.{record_value};
-ghost use Rattle.pdr_record.specs.Values.{terminus_value, sensor_value, units_value, precision_value, timing_value, ranges_value};
-ghost use Rattle.record_fields.specs.Meanings.{named_of};
-ghost use Rattle.record_fields.specs.Named.{header_named, locator_named, terminus_named, sensor_named, units_named, precision_named, timing_named, readable_named, ranges_named, container_named};
-ghost use Rattle.pdr_record.specs.ListValues.{association_value};
+ghost use Rattle.pdr_record.{specs.NumericValues.{numeric_value}, specs.RecordValues.{record_value}, specs.Values.{terminus_value, sensor_value, units_value, precision_value, timing_value, ranges_value}, specs.ListValues.{association_value}};
+ghost use Rattle.record_fields.{specs.Meanings.{named_of}, specs.Named.{header_named, locator_named, terminus_named, sensor_named, units_named, precision_named, timing_named, readable_named, ranges_named, container_named}};
 
 use crate::held::{NamedField, bits, entity, number, raw, real, sized};
 use pdr_record::{

@@ -1,11 +1,7 @@
 //! Whether bytes are a record of which words tell.
-ghost use Rattle.std.specs.Prelude.{◌≡◌, IfOk, IsTrue, All, map, string_bytes};
-ghost use Rattle.std.specs.Str.Parse.{digits_value, without_leading_plus};
-ghost use Rattle.pdr_record.specs.RecordValues.{record_value};
-ghost use Rattle.pdr_record.specs.Records.{type_of};
-ghost use Rattle.record_fields.specs.Meanings.{named_of};
-ghost use Rattle.record_fields.specs.Named.{named_fields, number, real};
-ghost use Rattle.record_fields.specs.Said.{IsRecordOfWords, IsSaidOf, Says, SaysHexadecimal, SaysReal, IsDecimalReal, IsHexadecimalReal, IsReal, IsTypeWord};
+ghost use Rattle.std.{specs.Prelude.{◌≡◌, IfOk, IsTrue, All, map, string_bytes}, specs.Str.Parse.{digits_value, without_leading_plus}};
+ghost use Rattle.pdr_record.{specs.RecordValues.{record_value}, specs.Records.{type_of}};
+ghost use Rattle.record_fields.{specs.Meanings.{named_of}, specs.Named.{named_fields, number, real}, specs.Said.{IsRecordOfWords, IsSaidOf, Says, SaysHexadecimal, SaysReal, IsDecimalReal, IsHexadecimalReal, IsReal, IsTypeWord}};
 
 use crate::fields::named_fields;
 use crate::held::{Held, NamedField};

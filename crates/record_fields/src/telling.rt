@@ -1,10 +1,7 @@
 //! What is told of a record: a line for each field.
 ghost use Rattle.std.specs.Prelude.{◌≡◌, IfOk, Some, map, slice_get, string_bytes};
-ghost use Rattle.record_fields.specs.declared.held.NamedField.{NamedField};
+ghost use Rattle.record_fields.{specs.declared.held.NamedField.{NamedField}, specs.Meanings.{named_of}, specs.Named.{named_fields}, specs.Texts.{AreFieldLines, IsFieldLine}};
 ghost use Rattle.pdr_record.specs.RecordValues.{record_value};
-ghost use Rattle.record_fields.specs.Meanings.{named_of};
-ghost use Rattle.record_fields.specs.Named.{named_fields};
-ghost use Rattle.record_fields.specs.Texts.{AreFieldLines, IsFieldLine};
 
 use crate::fields::named_fields;
 use crate::held::NamedField;

@@ -1,10 +1,7 @@
 //! How what a field holds is written.
 ghost use Rattle.std.specs.Prelude.{◌≡◌, ◌≤◌, IfOk, string_bytes};
-ghost use Rattle.pdr_record.specs.StateSetValues.{state_set_value};
-ghost use Rattle.pdr_record.specs.Values.{entity_value};
-ghost use Rattle.record_fields.specs.Meanings.{holding_of, named_of};
-ghost use Rattle.record_fields.specs.Named.{Set, Thing};
-ghost use Rattle.record_fields.specs.Texts.{holding_text, sized_text, signed_text, hexadecimal, field_text};
+ghost use Rattle.pdr_record.{specs.StateSetValues.{state_set_value}, specs.Values.{entity_value}};
+ghost use Rattle.record_fields.{specs.Meanings.{holding_of, named_of}, specs.Named.{Set, Thing}, specs.Texts.{holding_text, sized_text, signed_text, hexadecimal, field_text}};
 
 use crate::held::{Held, NamedField};
 use pdr_record::{Entity, StateSet};

@@ -1,7 +1,5 @@
 -- The hops to one node more.
-use Rattle.std.proofs.Common.{◌≡◌, ◌+◌, ◌++◌, ℕ, zero, suc, List, [], ◌∷◌, Option, length, true≢false, ap, subst, sym, ◌∙◌, is_some}
-use Rattle.std.proofs.lemmas.List.{length-append}
-use Rattle.std.proofs.lemmas.Option.{same_Some}
+use Rattle.std.{proofs.Common.{◌≡◌, ◌+◌, ◌++◌, ℕ, zero, suc, List, [], ◌∷◌, Option, length, true≢false, ap, subst, sym, ◌∙◌, is_some}, proofs.lemmas.List.{length-append}, proofs.lemmas.Option.{same_Some}}
 use Rattle.plan_values.specs.declared.plan.Plan.{Plan}
 use Rattle.net_tables.specs.Routing.{OfItem}
 use Rattle.report_commands.specs.Reporting.{AreHopsTo}

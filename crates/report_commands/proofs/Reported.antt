@@ -1,23 +1,14 @@
 -- Pages that answer.
-use Rattle.std.proofs.Common.{◌≡◌, ℕ, List, Some, codes, sym, subst}
-use Rattle.std.specs.Cow.{cow_str_bytes}
-use Rattle.net_check.specs.declared.check_error.CheckError.{CheckError}
-use Rattle.net_check.specs.declared.check_error.CheckError.TheVariants as check_error
-use Rattle.net_check.specs.Errors.{NamesFirstFault}
-use Rattle.plan_values.specs.declared.certificate.Certificate.{Certificate}
-use Rattle.plan_values.specs.declared.plan.Plan.{Plan}
-use Rattle.net_rules.specs.declared.certify_error.CertifyError.{CertifyError}
-use Rattle.net_rules.specs.Certificates.{NamesObstacle, RulesOutCertificates}
-use Rattle.net_rules.specs.Rules.{Accepts}
+use Rattle.std.{proofs.Common.{◌≡◌, ℕ, List, Some, codes, sym, subst}, specs.Cow.{cow_str_bytes}}
+use Rattle.net_check.{specs.declared.check_error.CheckError.{CheckError}, specs.Errors.{NamesFirstFault}}
+use Rattle.plan_values.{specs.declared.certificate.Certificate.{Certificate}, specs.declared.plan.Plan.{Plan}}
+use Rattle.net_rules.{specs.declared.certify_error.CertifyError.{CertifyError}, specs.Certificates.{NamesObstacle, RulesOutCertificates}, specs.Rules.{Accepts}}
 use Rattle.plan_texts.specs.Lines.{obstacle_text}
 use Rattle.plan_pages.specs.Pages.{TellsVerdict}
-use Rattle.command_answers.proofs.Obstacles.{not_memory}
-use Rattle.command_answers.specs.declared.answer.Answer.{Answer}
-use Rattle.command_answers.specs.declared.status.Status.{Status}
-use Rattle.command_answers.specs.declared.status.Status.TheVariants as status
-use Rattle.command_answers.specs.Answers.{IsErrorText}
-use Rattle.command_answers.specs.Certifying.{IsRuledOutBy}
+use Rattle.command_answers.{proofs.Obstacles.{not_memory}, specs.declared.answer.Answer.{Answer}, specs.declared.status.Status.{Status}, specs.Answers.{IsErrorText}, specs.Certifying.{IsRuledOutBy}}
 use Rattle.report_commands.specs.Reporting.{Reports, ReportsWith}
+use Rattle.net_check.specs.declared.check_error.CheckError.TheVariants as check_error
+use Rattle.command_answers.specs.declared.status.Status.TheVariants as status
 
 module _ (plan : Plan) (page : List ℕ) (a : Answer) where
   -- so it answers, by the status and the text

@@ -1,16 +1,12 @@
 -- What `report` prints of a plan, alone or with its certificate, and how its run ends.
 use Rattle.std.specs.Prelude.{◌≡◌, ℕ, List, Option, MatchOption, codes, length}
-use Rattle.plan_values.specs.declared.certificate.Certificate.{Certificate}
-use Rattle.plan_values.specs.declared.plan.Plan.{Plan}
+use Rattle.plan_values.{specs.declared.certificate.Certificate.{Certificate}, specs.declared.plan.Plan.{Plan}}
 use Rattle.net_tables.specs.Routing.{OfItem}
-use Rattle.net_rules.specs.declared.certify_error.CertifyError.{CertifyError}
-use Rattle.net_rules.specs.Rules.{Accepts}
+use Rattle.net_rules.{specs.declared.certify_error.CertifyError.{CertifyError}, specs.Rules.{Accepts}}
 use Rattle.net_reached.specs.Wishes.{ComesTo, ReachesNode}
-use Rattle.command_answers.specs.Answers.{Stream, AreGiven, GavePlan, IsFaultText}
-use Rattle.command_answers.specs.Certifying.{IsRuledOutBy}
-use Rattle.command_answers.specs.declared.status.Status.{Status}
-use Rattle.command_answers.specs.declared.status.Status.TheVariants as status
+use Rattle.command_answers.{specs.Answers.{Stream, AreGiven, GavePlan, IsFaultText}, specs.Certifying.{IsRuledOutBy}, specs.declared.status.Status.{Status}}
 use Rattle.plan_pages.specs.Pages.{TellsVerdict}
+use Rattle.command_answers.specs.declared.status.Status.TheVariants as status
 
 -- A page of a plan alone, in a run that ends so. It tells that a certificate fits, and one does; or there is none, and
 -- the verdict is the line of `certify`.

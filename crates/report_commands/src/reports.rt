@@ -1,14 +1,11 @@
 //! The command `report` over the files that it reads and the streams that it writes.
-ghost use Rattle.std.specs.Prelude.{◌≡◌, IfOk, IfErr};
-ghost use Rattle.std.specs.Cow.{cow_str_bytes};
-ghost use Rattle.command_answers.specs.Answers.{stream, AreUnread, IsPlanUnread, IsWithoutPlan};
-ghost use Rattle.command_answers.specs.Told.{Concludes};
-ghost use Rattle.command_answers.specs.declared.refused.Refused.TheVariants as refused;
+ghost use Rattle.std.{specs.Prelude.{◌≡◌, IfOk, IfErr}, specs.Cow.{cow_str_bytes}};
+ghost use Rattle.command_answers.{specs.Answers.{stream, AreUnread, IsPlanUnread, IsWithoutPlan}, specs.Told.{Concludes}};
 ghost use Rattle.net_check.specs.Errors.{NamesFirstFault};
 ghost use Rattle.net_plan.specs.Stream.{HasRoom};
-ghost use Rattle.net_rules.specs.Certificates.{NamesObstacle, RulesOutCertificates};
-ghost use Rattle.net_rules.specs.Rules.{Accepts};
+ghost use Rattle.net_rules.{specs.Certificates.{NamesObstacle, RulesOutCertificates}, specs.Rules.{Accepts}};
 ghost use Rattle.report_commands.specs.Reporting.{Reports, ReportsSo, ReportsWith, ReportsWithSo};
+ghost use Rattle.command_answers.specs.declared.refused.Refused.TheVariants as refused;
 
 use crate::bodies::{accepted_page, refused_page};
 use command_answers::{

@@ -2,9 +2,9 @@
 use Rattle.std.proofs.Common.{◌≡◌, ℕ, List}
 use Rattle.plan_values.specs.declared.plan.Plan.{Plan}
 use Rattle.net_rollout.specs.declared.change.Rollout.{Rollout}
+use Rattle.rollout_commands.specs.Rollouts.{RollsOut, status_of_rollout}
 use Rattle.net_rollout.specs.declared.change.Rollout.TheVariants as way
 use Rattle.command_answers.specs.declared.status.Status.TheVariants as status
-use Rattle.rollout_commands.specs.Rollouts.{RollsOut, status_of_rollout}
 
 is_answer : (found : Rollout) → status.Unreadable ≡ status_of_rollout found → ⊥
 is_answer (way.AnyOrder cert) is = cc is

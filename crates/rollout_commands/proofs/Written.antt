@@ -1,22 +1,12 @@
 -- How a run ends that writes files.
-use Rattle.std.proofs.Common.{◌≡◌, ◌⊎◌, ◌++◌, ℕ, List, Result, Ok, Err, ap, sym, ◌∙◌, subst, inl, inr}
-use Rattle.std.specs.Prelude.{IfOk, IfErr, codes}
-use Rattle.std.specs.Cow.{cow_str_bytes}
-use Rattle.command_answers.specs.declared.answer.Answer.{Answer}
-use Rattle.command_answers.specs.declared.refused.Refused.{Refused}
-use Rattle.command_answers.specs.declared.refused.Refused.TheVariants as refused
-use Rattle.command_answers.specs.declared.status.Status.{Status}
-use Rattle.command_answers.specs.declared.status.Status.TheVariants as status
+use Rattle.std.{proofs.Common.{◌≡◌, ◌⊎◌, ◌++◌, ℕ, List, Result, Ok, Err, ap, sym, ◌∙◌, subst, inl, inr}, specs.Prelude.{IfOk, IfErr, codes}, specs.Cow.{cow_str_bytes}}
+use Rattle.command_answers.{specs.declared.answer.Answer.{Answer}, specs.declared.refused.Refused.{Refused}, specs.declared.status.Status.{Status}, specs.Answers.{Stream, GavePlan, Refuses}, specs.Moves.{ArePlansUnread}, specs.Statuses.{status_of, IsReportedFor}, specs.Told.{IsTold}}
 use Rattle.plan_values.specs.declared.plan.Plan.{Plan}
 use Rattle.net_rollout.specs.declared.change.Rollout.{Rollout}
-use Rattle.step_files.specs.StepFiles.{AreFilesOf, FileValue}
-use Rattle.step_files.specs.Writes.{Writes, WritesAll, WritesFirst}
-use Rattle.command_answers.specs.Answers.{Stream, GavePlan, Refuses}
-use Rattle.command_answers.specs.Moves.{ArePlansUnread}
-use Rattle.rollout_commands.specs.Rollouts.{IsRolledOut}
-use Rattle.rollout_commands.specs.Writing.{IsNoFilesReason, IsNothingWritten, IsRolledOutInto, IsUnanswered, IsWithoutFiles, RollsOutWith, RollsOutWithSo}
-use Rattle.command_answers.specs.Statuses.{status_of, IsReportedFor}
-use Rattle.command_answers.specs.Told.{IsTold}
+use Rattle.step_files.{specs.StepFiles.{AreFilesOf, FileValue}, specs.Writes.{Writes, WritesAll, WritesFirst}}
+use Rattle.rollout_commands.{specs.Rollouts.{IsRolledOut}, specs.Writing.{IsNoFilesReason, IsNothingWritten, IsRolledOutInto, IsUnanswered, IsWithoutFiles, RollsOutWith, RollsOutWithSo}}
+use Rattle.command_answers.specs.declared.refused.Refused.TheVariants as refused
+use Rattle.command_answers.specs.declared.status.Status.TheVariants as status
 
 fault_or_memory : (s : Status) → (s ≡ status.Fault) ⊎ (s ≡ status.NoMemory) → s ≡ status.Unreadable → ⊥
 fault_or_memory s (inl is) un = let no : status.Fault ≡ status.Unreadable = sym is ∙ un in cc

@@ -1,13 +1,11 @@
 -- What `rollout` prints of two plans.
 use Rattle.std.specs.Prelude.{◌≡◌, ℕ, List, Some}
 use Rattle.plan_values.specs.declared.plan.Plan.{Plan}
-use Rattle.net_rollout.specs.declared.change.Rollout.{Rollout}
-use Rattle.net_rollout.specs.declared.change.Rollout.TheVariants as way
-use Rattle.net_rollout.specs.Steps.{IsRollout}
-use Rattle.command_answers.specs.declared.status.Status.{Status}
-use Rattle.command_answers.specs.declared.status.Status.TheVariants as status
-use Rattle.command_answers.specs.Answers.{Stream, GavePlan}
+use Rattle.net_rollout.{specs.declared.change.Rollout.{Rollout}, specs.Steps.{IsRollout}}
+use Rattle.command_answers.{specs.declared.status.Status.{Status}, specs.Answers.{Stream, GavePlan}}
 use Rattle.plan_texts.specs.MoveSteps.{rollout_text}
+use Rattle.net_rollout.specs.declared.change.Rollout.TheVariants as way
+use Rattle.command_answers.specs.declared.status.Status.TheVariants as status
 
 -- how a run ends that tells it: as an answer where the steps lead to the end, as a fault where they don't
 abbrev pub status_of_rollout : Rollout → Status

@@ -2,17 +2,12 @@
 use Rattle.std.specs.Prelude.{◌≡◌, ◌⊎◌, ℕ, List, ◌++◌, codes, map, string_bytes}
 use Rattle.plan_values.specs.declared.plan.Plan.{Plan}
 use Rattle.net_rollout.specs.declared.change.Rollout.{Rollout}
-use Rattle.step_files.specs.StepFiles.{AreFilesOf, FileValue, file_value}
-use Rattle.step_files.specs.Writes.{Writes, WritesAll, WritesFirst}
-use Rattle.command_answers.specs.declared.refused.Refused.{Refused}
+use Rattle.step_files.{specs.StepFiles.{AreFilesOf, FileValue, file_value}, specs.Writes.{Writes, WritesAll, WritesFirst}}
+use Rattle.command_answers.{specs.declared.refused.Refused.{Refused}, specs.declared.status.Status.{Status}, specs.Answers.{Stream, GavePlan}, specs.Moves.{ArePlansUnread}}
+use Rattle.rollout_commands.{specs.declared.writing.Made.{Made}, specs.Rollouts.{IsRolledOut, RollsOut}}
 use Rattle.command_answers.specs.declared.refused.Refused.TheVariants as refused
-use Rattle.command_answers.specs.declared.status.Status.{Status}
 use Rattle.command_answers.specs.declared.status.Status.TheVariants as status
-use Rattle.command_answers.specs.Answers.{Stream, GavePlan}
-use Rattle.command_answers.specs.Moves.{ArePlansUnread}
-use Rattle.rollout_commands.specs.declared.writing.Made.{Made}
 use Rattle.rollout_commands.specs.declared.writing.Made.TheVariants as made
-use Rattle.rollout_commands.specs.Rollouts.{IsRolledOut, RollsOut}
 
 -- The steps lead to the new plan, the text is their lines, and the files are theirs.
 pub record IsRolledOutInto (folder : List ℕ) (before after : Plan) (text : List ℕ)

@@ -1,11 +1,8 @@
 //! The command `rollout`: how nodes get from the rows of one plan to those of another.
-ghost use Rattle.std.specs.Prelude.{◌≡◌, IfOk, IfErr};
-ghost use Rattle.std.specs.Cow.{cow_str_bytes};
+ghost use Rattle.std.{specs.Prelude.{◌≡◌, IfOk, IfErr}, specs.Cow.{cow_str_bytes}};
 ghost use Rattle.net_plan.specs.Stream.{HasRoom};
-ghost use Rattle.command_answers.specs.Answers.{stream, IsWithoutPlan};
-ghost use Rattle.command_answers.specs.Moves.{ArePlansUnread};
+ghost use Rattle.command_answers.{specs.Answers.{stream, IsWithoutPlan}, specs.Moves.{ArePlansUnread}, specs.Told.{Concludes}};
 ghost use Rattle.rollout_commands.specs.Rollouts.{RollsOut, RollsOutSo};
-ghost use Rattle.command_answers.specs.Told.{Concludes};
 
 use command_answers::{Answer, Status, read_plans, refuse, tell_made};
 use net_plan::{Sink, Source};

@@ -1,16 +1,11 @@
 //! The command `rollout --write`: the steps from the rows of one plan to those of another, with their files.
-ghost use Rattle.std.specs.Prelude.{◌≡◌, ◌⊎◌, IfOk, IfErr, OnErr, OnOk, map, string_bytes};
-ghost use Rattle.std.specs.Cow.{cow_str_bytes};
+ghost use Rattle.std.{specs.Prelude.{◌≡◌, ◌⊎◌, IfOk, IfErr, OnErr, OnOk, map, string_bytes}, specs.Cow.{cow_str_bytes}};
 ghost use Rattle.net_plan.specs.Stream.{HasRoom};
 ghost use Rattle.net_rollout.specs.Steps.{IsRollout};
-ghost use Rattle.step_files.specs.StepFiles.{file_value};
-ghost use Rattle.command_answers.specs.declared.status.Status.TheVariants.{Yes, Fault, NoMemory};
+ghost use Rattle.step_files.{specs.StepFiles.{file_value}, specs.Writes.{MayFail, WritesAll, WritesFirst, writes}};
+ghost use Rattle.command_answers.{specs.declared.status.Status.TheVariants.{Yes, Fault, NoMemory}, specs.Answers.{stream, IsWithoutPlan}, specs.Told.{Concludes}};
+ghost use Rattle.rollout_commands.{specs.Rollouts.{IsRolledOut}, specs.Writing.{IsMade, IsNoFilesReason, IsUnanswered, IsWithoutFiles, RollsOutWith, RollsOutWithSo}};
 ghost use Rattle.command_answers.specs.declared.refused.Refused.TheVariants as refused;
-ghost use Rattle.command_answers.specs.Answers.{stream, IsWithoutPlan};
-ghost use Rattle.command_answers.specs.Told.{Concludes};
-ghost use Rattle.rollout_commands.specs.Rollouts.{IsRolledOut};
-ghost use Rattle.step_files.specs.Writes.{MayFail, WritesAll, WritesFirst, writes};
-ghost use Rattle.rollout_commands.specs.Writing.{IsMade, IsNoFilesReason, IsUnanswered, IsWithoutFiles, RollsOutWith, RollsOutWithSo};
 
 use command_answers::{Answer, Refused, Status, read_plans, tell};
 use net_plan::{Sink, Source};

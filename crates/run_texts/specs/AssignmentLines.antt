@@ -1,6 +1,5 @@
 -- The lines of an assignment's requests.
-use Rattle.std.specs.Prelude.{ℕ, List, ◌++◌, codes}
-use Rattle.std.specs.List.{flat_map}
+use Rattle.std.{specs.Prelude.{ℕ, List, ◌++◌, codes}, specs.List.{flat_map}}
 use Rattle.hex.specs.Hex.{encode_lower}
 use Rattle.mctp_control.specs.Requests.{request_bytes}
 use Rattle.plan_values.specs.declared.plan.Plan.{Plan}

@@ -1,20 +1,11 @@
 -- The lines that tell what comes of events.
-use Rattle.std.specs.Prelude.{ℕ, ◌+◌, List, [], ◌∷◌, ◌++◌, Bool, true, false}
-use Rattle.std.specs.Prelude.{Option, Some, None, unwrap_or, Result, Ok, Err, codes}
-use Rattle.std.specs.Fmt.{decimal}
+use Rattle.std.{specs.Prelude.{ℕ, ◌+◌, List, [], ◌∷◌, ◌++◌, Bool, true, false, Option, Some, None, unwrap_or, Result, Ok, Err, codes}, specs.Fmt.{decimal}}
 use Rattle.hex.specs.Hex.{encode_lower}
-use Rattle.mctp_transport.specs.Causes.{cause_code}
-use Rattle.mctp_transport.specs.Hearing.{Answer, Whole, Held, Dropped}
+use Rattle.mctp_transport.{specs.Causes.{cause_code}, specs.Hearing.{Answer, Whole, Held, Dropped}}
 use Rattle.mctp_routing.specs.Decisions.{forward_fault_code}
-use Rattle.pdr_repository.specs.declared.walk_fault.Step.{Step as WalkStep}
-use Rattle.pdr_repository.specs.declared.walk_fault.Step.TheVariants.{More, Record, Done}
-use Rattle.pdr_repository.specs.declared.walk_fault.WalkFault.{WalkFault}
-use Rattle.pdr_repository.specs.Faults.{code_of}
+use Rattle.pdr_repository.{specs.declared.walk_fault.Step.{Step as WalkStep}, specs.declared.walk_fault.Step.TheVariants.{More, Record, Done}, specs.declared.walk_fault.WalkFault.{WalkFault}, specs.Faults.{code_of}}
 use Rattle.plan_values.specs.declared.plan.Plan.{Plan}
-use Rattle.net_runs.specs.Events.{OutcomeValue, PutIn, Moved, Entered, Stopped, Lost, Expired, Answered}
-use Rattle.net_runs.specs.Events.{Silent, Switched, Refused, Refusal, N01, N02, N03, N04, N05, N06, N07}
-use Rattle.net_runs.specs.Walkers.{WalkedOutcome, Happened, Begun, Asked, ToldWalk, WalkRefused, WalkRefusal}
-use Rattle.net_runs.specs.Walkers.{Also, N08, N09, N10, N11, N12, N13, Handed, Standing, Open, Finished, EndedBy}
+use Rattle.net_runs.{specs.Events.{OutcomeValue, PutIn, Moved, Entered, Stopped, Lost, Expired, Answered, Silent, Switched, Refused, Refusal, N01, N02, N03, N04, N05, N06, N07}, specs.Walkers.{WalkedOutcome, Happened, Begun, Asked, ToldWalk, WalkRefused, WalkRefusal, Also, N08, N09, N10, N11, N12, N13, Handed, Standing, Open, Finished, EndedBy}}
 use Rattle.net_tables.specs.Names.{node_name}
 
 -- the code of a cause for which an event is refused

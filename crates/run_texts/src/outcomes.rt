@@ -1,7 +1,6 @@
 //! The lines that tell what comes of events.
 ghost use Rattle.std.specs.Prelude.{◌≡◌, ◌++◌, IfOk, OnOk, Some, string_bytes};
-ghost use Rattle.net_sim.specs.Effects.{effect_value};
-ghost use Rattle.net_sim.specs.Outcomes.{outcome_value, handed_value, standing_value};
+ghost use Rattle.net_sim.{specs.Effects.{effect_value}, specs.Outcomes.{outcome_value, handed_value, standing_value}};
 ghost use Rattle.run_texts.specs.OutcomeLines.{whole_text, effect_text, walk_fault_text, step_text, handed_text, standing_text, outcome_text, outcome_line};
 
 use net_sim::{Effect, Handed, Outcome, Standing};

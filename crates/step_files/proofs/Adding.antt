@@ -1,10 +1,6 @@
 -- Files, written one after the other.
-use Rattle.std.proofs.Common.{◌≡◌, ◌+◌, ◌<◌, ℕ, suc, List, [], ◌∷◌, ◌++◌, Option, Some, None, length, take, get_or, map, ap, sym, ◌∙◌, subst, arith}
-use Rattle.std.proofs.Math.Seq.{take-suc}
-use Rattle.std.proofs.lemmas.List.{append-nil, append_assoc, length-map, map-append, take-map}
-use Rattle.step_files.specs.declared.texts.TextFile.{TextFile}
-use Rattle.step_files.specs.StepFiles.{FileValue, file_value}
-use Rattle.step_files.specs.Writes.{AddsFiles, FilesAccount, WritesAll, WritesFirst, WritesNone}
+use Rattle.std.{proofs.Common.{◌≡◌, ◌+◌, ◌<◌, ℕ, suc, List, [], ◌∷◌, ◌++◌, Option, Some, None, length, take, get_or, map, ap, sym, ◌∙◌, subst, arith}, proofs.Math.Seq.{take-suc}, proofs.lemmas.List.{append-nil, append_assoc, length-map, map-append, take-map}}
+use Rattle.step_files.{specs.declared.texts.TextFile.{TextFile}, specs.StepFiles.{FileValue, file_value}, specs.Writes.{AddsFiles, FilesAccount, WritesAll, WritesFirst, WritesNone}}
 
 -- files, and then others
 adds_more : (first then last : Option (List FileValue)) (xs ys : List FileValue) → AddsFiles first then xs → AddsFiles then last ys → AddsFiles first last (xs ++ ys)

@@ -1,12 +1,7 @@
 -- Files of steps, one step after the other.
-use Rattle.std.proofs.Common.{◌≡◌, ◌+◌, ◌<◌, ℕ, zero, suc, List, [], ◌∷◌, ◌++◌, length, take, get_or, Some, Result, Ok, Err, ap, refl, sym, ◌∙◌, subst, arith}
-use Rattle.std.specs.Prelude.{IfOk, slice_get}
-use Rattle.std.proofs.Math.Seq.{take-suc}
-use Rattle.std.proofs.lemmas.List.{append-nil, append_assoc, length-take}
-use Rattle.std.proofs.lemmas.Option.{slice_get_within, get_or_from_slice_get, same_Some}
+use Rattle.std.{proofs.Common.{◌≡◌, ◌+◌, ◌<◌, ℕ, zero, suc, List, [], ◌∷◌, ◌++◌, length, take, get_or, Some, Result, Ok, Err, ap, refl, sym, ◌∙◌, subst, arith}, specs.Prelude.{IfOk, slice_get}, proofs.Math.Seq.{take-suc}, proofs.lemmas.List.{append-nil, append_assoc, length-take}, proofs.lemmas.Option.{slice_get_within, get_or_from_slice_get, same_Some}}
 use Rattle.plan_values.specs.declared.plan.Plan.{Plan}
-use Rattle.net_rollout.specs.declared.change.Step.{Step}
-use Rattle.net_rollout.specs.Steps.{AreSteps, IsCertified, last_plan}
+use Rattle.net_rollout.{specs.declared.change.Step.{Step}, specs.Steps.{AreSteps, IsCertified, last_plan}}
 use Rattle.step_files.specs.StepFiles.{AreFilesAlong, AreFilesAt, AreFilesOfStep, FileValue}
 
 -- the plan after a step is the last one of the steps up to it

@@ -1,23 +1,11 @@
 -- The files of a roll-out's steps.
-use Rattle.std.specs.Prelude.{◌≡◌, ◌≤◌, ℕ, suc, ◌+◌, ◌-◌, List, [], ◌∷◌, ◌++◌, codes, length, take, string_bytes}
-use Rattle.std.specs.Prelude.{Some, slice_get}
-use Rattle.std.specs.Fmt.{decimal}
-use Rattle.std.specs.List.{repeat}
-use Rattle.plan_values.specs.declared.plan.Plan.{Plan}
-use Rattle.plan_values.specs.declared.certificate.Certificate.{Certificate}
-use Rattle.plan_values.specs.CertificateValues.{certificate_value}
-use Rattle.plan_values.specs.PlanValues.{node_names, plan_value}
-use Rattle.net_plan.specs.CertificateJson.{certificate_text}
-use Rattle.net_plan.specs.CertificateText.{IsCertificateOf}
-use Rattle.net_plan.specs.PlanText.{IsPlanOf}
-use Rattle.net_plan.specs.Texts.{IsJsonTextOf}
-use Rattle.net_rules.specs.Certificates.{IsExact}
-use Rattle.net_rules.specs.Rules.{Accepts}
-use Rattle.net_rollout.specs.declared.change.Step.{Step}
-use Rattle.net_rollout.specs.declared.change.Rollout.{Rollout}
-use Rattle.net_rollout.specs.declared.change.Rollout.TheVariants as way
-use Rattle.net_rollout.specs.Steps.{IsCertified, last_plan}
+use Rattle.std.{specs.Prelude.{◌≡◌, ◌≤◌, ℕ, suc, ◌+◌, ◌-◌, List, [], ◌∷◌, ◌++◌, codes, length, take, string_bytes, Some, slice_get}, specs.Fmt.{decimal}, specs.List.{repeat}}
+use Rattle.plan_values.{specs.declared.plan.Plan.{Plan}, specs.declared.certificate.Certificate.{Certificate}, specs.CertificateValues.{certificate_value}, specs.PlanValues.{node_names, plan_value}}
+use Rattle.net_plan.{specs.CertificateJson.{certificate_text}, specs.CertificateText.{IsCertificateOf}, specs.PlanText.{IsPlanOf}, specs.Texts.{IsJsonTextOf}, specs.Limits.{most_text_bytes}}
+use Rattle.net_rules.{specs.Certificates.{IsExact}, specs.Rules.{Accepts}}
+use Rattle.net_rollout.{specs.declared.change.Step.{Step}, specs.declared.change.Rollout.{Rollout}, specs.Steps.{IsCertified, last_plan}}
 use Rattle.step_files.specs.declared.texts.TextFile.{TextFile}
+use Rattle.net_rollout.specs.declared.change.Rollout.TheVariants as way
 
 -- a file: where it stands, and its bytes
 pub record FileValue : Type 0 where
@@ -38,7 +26,7 @@ step_path folder count number ending =
 
 -- the text reads as the plan, and isn't longer than a file may be
 abbrev pub IsPlanFile : Plan → List ℕ → Type 0
-IsPlanFile plan text = IsJsonTextOf IsPlanOf text (plan_value plan) × (length text ≤ 16777216)
+IsPlanFile plan text = IsJsonTextOf IsPlanOf text (plan_value plan) × (length text ≤ most_text_bytes)
 
 -- The text is that of the certificate, and reads as it for the plan.
 pub record IsTextOfCertificate (plan : Plan) (certificate : Certificate) (text : List ℕ) : Type 0 where

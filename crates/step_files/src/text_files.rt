@@ -1,8 +1,7 @@
 //! Where files are written.
 ghost use Rattle.std.specs.Prelude.{◌≡◌, ◌+◌, ◌∷◌, [], OnErr, OnOk, map};
 ghost use Rattle.net_plan.specs.Stream.{failure_count};
-ghost use Rattle.step_files.specs.StepFiles.{file_value};
-ghost use Rattle.step_files.specs.Writes.{AddsFiles, FilesAccount, MayFail, WritesAll, WritesFirst, WritesNone, writes};
+ghost use Rattle.step_files.{specs.StepFiles.{file_value}, specs.Writes.{AddsFiles, FilesAccount, MayFail, WritesAll, WritesFirst, WritesNone, writes}};
 
 use crate::texts::TextFile;
 use net_plan::Failed;

@@ -1,16 +1,18 @@
 //! Choosing endpoint IDs and pools.
-use super::pools::{Runs, choose_pool};
+use super::keeping::Keeping;
+use super::pools::{Runs, choose_pool, open_size};
 use super::ways::{Net, is_reached};
 use super::{Chosen, MadePool, NoPlan, covers, is_given, kind_of};
 use crate::board::{Board, BoardNode, BoardPool};
-use std::alloc::Global;
+use plan_values::Plan;
+use std::alloc::{AllocError, Global};
 
 /// The first endpoint ID that can be assigned, and the last.
 pub const FIRST: u8 = 8;
 
 pub const LAST: u8 = 254;
 
-/// What is known of a node so far.
+/// What is known of a node so far, or what is to stay of it.
 #[derive(Clone, Copy)]
 pub struct Known {
     pub eid: Option<u8>,
@@ -19,21 +21,27 @@ pub struct Known {
     pub level: usize,
 }
 
-/// The kind, the endpoint ID and the pool of each node: what is given, and what is free for the rest, owners before the
-/// nodes that they own.
+/// The kind, the endpoint ID and the pool of each node: what is given, what an earlier plan has and can stay, and what
+/// is free for the rest, owners before the nodes that they own.
 pub fn choose_eids(
     alloc: Global,
     board: &Board,
     net: &Net,
     runs: Runs,
+    old: Option<&Plan>,
 ) -> Result<Vec<Chosen>, NoPlan> {
-    let mut known = Vec::new(alloc);
-    for (index, node) in board.nodes.iter().enumerate() {
-        known.push(given_of(board, index, node))?;
-    }
-    for level in 0..board.nodes.len() {
-        choose_level(alloc, board, net, &mut known, level, runs)?;
-    }
+    let given = given_numbers(alloc, board)?;
+    let keeping = Keeping {
+        alloc,
+        board,
+        net,
+        runs,
+        given: &given,
+    };
+    let known = match old {
+        Some(old) => keeping.kept_of(old)?,
+        None => choose_rest(alloc, board, net, runs, &given)?,
+    };
     if let Some(node) = first_unchosen(board, &known) {
         return Err(NoPlan::OwnerLoop { node });
     }
@@ -58,6 +66,15 @@ pub fn known_at(known: &[Known], index: usize) -> Known {
             level: 0,
         },
     }
+}
+
+/// What the board gives of each node.
+fn given_numbers(alloc: Global, board: &Board) -> Result<Vec<Known>, AllocError> {
+    let mut known = Vec::new(alloc);
+    for (index, node) in board.nodes.iter().enumerate() {
+        known.push(given_of(board, index, node))?;
+    }
+    Ok(known)
 }
 
 /// What the board gives of a node.
@@ -94,7 +111,7 @@ pub fn owner_of(board: &Board, index: usize) -> Option<usize> {
 }
 
 /// How many owners stand above a node; as many as there are nodes where they go round in a circle.
-fn level_of(board: &Board, index: usize) -> usize {
+pub fn level_of(board: &Board, index: usize) -> usize {
     let mut at = index;
     for level in 0..board.nodes.len() {
         match owner_of(board, at) {
@@ -105,26 +122,120 @@ fn level_of(board: &Board, index: usize) -> usize {
     board.nodes.len()
 }
 
-/// Chooses for the nodes of a level: first endpoint IDs, then pools.
-fn choose_level(
+/// What is chosen first at each level.
+#[derive(Clone, Copy)]
+enum First {
+    /// Endpoint IDs, then pools, in the order of the nodes.
+    Eids,
+    /// Pools, the largest first, then endpoint IDs.
+    Pools,
+}
+
+/// What is known, with what is chosen for the rest: first endpoint IDs, and if there is no room, first pools.
+pub fn choose_rest(
+    alloc: Global,
+    board: &Board,
+    net: &Net,
+    runs: Runs,
+    known: &[Known],
+) -> Result<Vec<Known>, NoPlan> {
+    let why = match choose_by(alloc, board, net, runs, known, First::Eids) {
+        Err(why) if is_short(why) => why,
+        answer => return answer,
+    };
+    match choose_by(alloc, board, net, runs, known, First::Pools) {
+        Err(other) if is_short(other) => Err(why),
+        answer => answer,
+    }
+}
+
+/// Whether no endpoint ID or no run of them was left.
+pub fn is_short(why: NoPlan) -> bool {
+    matches!(why, NoPlan::NoEid { .. } | NoPlan::NoRun { .. })
+}
+
+fn choose_by(
+    alloc: Global,
+    board: &Board,
+    net: &Net,
+    runs: Runs,
+    known: &[Known],
+    first: First,
+) -> Result<Vec<Known>, NoPlan> {
+    let mut known = Vec::from_slice(alloc, known)?;
+    for level in 0..board.nodes.len() {
+        match first {
+            First::Eids => {
+                choose_level_eids(alloc, board, net, &mut known, level)?;
+                choose_level_pools(board, &mut known, level, runs)?;
+            }
+            First::Pools => {
+                choose_largest_pools(board, &mut known, level, runs)?;
+                choose_level_eids(alloc, board, net, &mut known, level)?;
+            }
+        }
+    }
+    Ok(known)
+}
+
+fn choose_level_eids(
     alloc: Global,
     board: &Board,
     net: &Net,
     known: &mut Vec<Known>,
     level: usize,
-    runs: Runs,
 ) -> Result<(), NoPlan> {
     for index in 0..board.nodes.len() {
         if known_at(known, index).level == level {
             choose_eid(alloc, board, net, known, index)?;
         }
     }
+    Ok(())
+}
+
+fn choose_level_pools(
+    board: &Board,
+    known: &mut Vec<Known>,
+    level: usize,
+    runs: Runs,
+) -> Result<(), NoPlan> {
     for (index, node) in board.nodes.iter().enumerate() {
         if known_at(known, index).level == level {
             choose_pool(board, known, index, node.pool, runs)?;
         }
     }
     Ok(())
+}
+
+/// The same, the largest first.
+fn choose_largest_pools(
+    board: &Board,
+    known: &mut Vec<Known>,
+    level: usize,
+    runs: Runs,
+) -> Result<(), NoPlan> {
+    for _ in 0..board.nodes.len() {
+        let Some((index, size)) = largest_open(board, known, level) else {
+            return Ok(());
+        };
+        choose_pool(board, known, index, Some(BoardPool::Size(size)), runs)?;
+    }
+    Ok(())
+}
+
+/// The first node of a level with the largest pool that is still to be chosen, and its size.
+fn largest_open(board: &Board, known: &[Known], level: usize) -> Option<(usize, u8)> {
+    let mut found = None;
+    let mut largest = 0;
+    for (index, node) in board.nodes.iter().enumerate() {
+        let own = known_at(known, index);
+        let size = open_size(own, node.pool).unwrap_or(0);
+        if own.level == level && size > largest {
+            largest = size;
+            found = Some((index, size));
+        }
+    }
+    found
 }
 
 /// Chooses a node's endpoint ID, where none is given.
@@ -161,7 +272,7 @@ fn free_eid(
     let mut is_other = true;
     for eid in first..=last {
         is_other = is_other || begins_or_ends(board, eid);
-        if is_held(known, eid) || is_in_pool_beside(board, known, owner, eid) {
+        if !is_eid_free(board, known, owner, eid) {
             continue;
         }
         if !is_given(board, eid) || (is_other && is_reached(alloc, board, net, index, eid)?) {
@@ -203,6 +314,11 @@ pub fn owned_range(known: &[Known], node: usize, owner: Option<usize>) -> Result
 /// The last endpoint ID of a pool.
 pub fn last_of(pool: MadePool) -> u8 {
     pool.first.saturating_add(pool.size.saturating_sub(1))
+}
+
+/// Whether no node holds an endpoint ID or hands it on beside those of an owner.
+pub fn is_eid_free(board: &Board, known: &[Known], owner: Option<usize>, eid: u8) -> bool {
+    !is_held(known, eid) && !is_in_pool_beside(board, known, owner, eid)
 }
 
 fn is_held(known: &[Known], eid: u8) -> bool {

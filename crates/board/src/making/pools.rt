@@ -12,7 +12,7 @@ pub enum Runs {
     Unrouted,
 }
 
-/// Chooses a node's pool, where the board gives its size alone.
+/// Chooses a node's pool, where the board gives its size alone and it isn't known.
 pub fn choose_pool(
     board: &Board,
     known: &mut Vec<Known>,
@@ -20,7 +20,7 @@ pub fn choose_pool(
     given: Option<BoardPool>,
     runs: Runs,
 ) -> Result<(), NoPlan> {
-    let Some(BoardPool::Size(size)) = given else {
+    let Some(size) = open_size(known_at(known, index), given) else {
         return Ok(());
     };
     let pool = free_run(board, known, index, size, runs)?;
@@ -28,6 +28,14 @@ pub fn choose_pool(
         known[index].pool = Some(pool);
     }
     Ok(())
+}
+
+/// The size of a pool that is still to be chosen.
+pub fn open_size(own: Known, given: Option<BoardPool>) -> Option<u8> {
+    match given {
+        Some(BoardPool::Size(size)) if own.pool.is_none() => Some(size),
+        _ => None,
+    }
 }
 
 /// The first run of so many endpoint IDs of the owner's pool that no other node holds or hands on, and that has all
@@ -44,9 +52,7 @@ fn free_run(
     let mut found = None;
     for start in first..=last {
         let run = MadePool { first: start, size };
-        if u16::from(start) + u16::from(size) <= u16::from(last) + 1
-            && is_free(board, known, index, run)
-        {
+        if can_be_pool(board, known, index, run) {
             if is_wanted(board, run, runs) {
                 return Ok(run);
             }
@@ -63,7 +69,18 @@ fn free_run(
     }
 }
 
-fn is_wanted(board: &Board, run: MadePool, runs: Runs) -> bool {
+/// Whether a run can be a node's pool: it is the owner's to give, and free.
+pub fn can_be_pool(board: &Board, known: &[Known], index: usize, run: MadePool) -> bool {
+    let Ok((first, last)) = owned_range(known, index, owner_of(board, index)) else {
+        return false;
+    };
+    let is_owned = first <= run.first
+        && u16::from(run.first) + u16::from(run.size) <= u16::from(last) + 1;
+    is_owned && is_free(board, known, index, run)
+}
+
+/// Whether a run is one of those of which pools are chosen.
+pub fn is_wanted(board: &Board, run: MadePool, runs: Runs) -> bool {
     match runs {
         Runs::Free => true,
         Runs::Unrouted => !is_routed(board, run),
@@ -108,12 +125,15 @@ fn has_all(run: MadePool, own: &Known) -> bool {
         None => true,
     };
     let has_pool = match own.pool {
-        Some(pool) => {
-            covers(run.first, run.size, pool.first) && covers(run.first, run.size, last_of(pool))
-        }
+        Some(pool) => has_run(run, pool),
         None => true,
     };
     has_eid && has_pool
+}
+
+/// Whether a run has another as a whole.
+pub fn has_run(run: MadePool, other: MadePool) -> bool {
+    covers(run.first, run.size, other.first) && covers(run.first, run.size, last_of(other))
 }
 
 /// Whether the run has nothing of a node's own, and of its pool where that is of the same owner.
@@ -134,7 +154,7 @@ fn overlap(one: MadePool, other: MadePool) -> bool {
 }
 
 /// Whether a node stands below another, by owners.
-fn is_below(board: &Board, node: usize, above: usize) -> bool {
+pub fn is_below(board: &Board, node: usize, above: usize) -> bool {
     let mut at = node;
     for _ in 0..board.nodes.len() {
         match owner_of(board, at) {

@@ -1,22 +1,27 @@
 //! Making records: their handles, their chain and their bytes.
+use super::handles::{counted_handles, kept_handles};
+use super::keeping::node_named;
 use super::{Chosen, MadeRecord, NoPlan};
 use crate::board::{
     Board, BoardNode, BoardRecord, FieldText, FieldWord, RecordContent, RecordFile,
 };
+use hex::FromHexError;
+use plan_values::Plan;
 use record_fields::{MakeError, made_record};
 use std::alloc::{AllocError, Global};
 
-/// The records of each node. Handles that are left out count from 1, and next handles that are left out follow the
-/// list.
+/// The records of each node. Handles that are left out are those of an earlier plan, or else count from 1, and next
+/// handles that are left out follow the list.
 pub fn make_records(
     alloc: Global,
     board: &Board,
     files: &[RecordFile],
     chosen: &[Chosen],
+    old: Option<&Plan>,
 ) -> Result<Vec<Vec<MadeRecord>>, NoPlan> {
     let mut all = Vec::new(alloc);
     for (index, node) in board.nodes.iter().enumerate() {
-        all.push(records_of(alloc, files, chosen, index, node)?)?;
+        all.push(records_of(alloc, files, chosen, index, node, old)?)?;
     }
     Ok(all)
 }
@@ -27,42 +32,55 @@ fn records_of(
     chosen: &[Chosen],
     index: usize,
     node: &BoardNode,
+    old: Option<&Plan>,
 ) -> Result<Vec<MadeRecord>, NoPlan> {
+    let mut handles = counted_handles(alloc, &node.records)?;
+    if let Some(old) = old {
+        let drafts = all_bytes(alloc, files, chosen, index, node, &handles)?;
+        let before = node_named(old, node.name.as_str());
+        handles = kept_handles(alloc, &node.records, &drafts, before)?;
+    }
+    let all = all_bytes(alloc, files, chosen, index, node, &handles)?;
     let mut records = Vec::new(alloc);
-    for (place, record) in node.records.iter().enumerate() {
-        let next = match record.next {
-            Some(next) => next,
-            None => following(&node.records, place),
-        };
-        let handle = handle_of(record, place);
-        let wrong = NoPlan::WrongRecord {
-            node: index,
-            record: place,
-        };
-        let hex = bytes_of(alloc, files, chosen, record, handle, wrong)?;
-        records.push(MadeRecord { handle, next, hex })?;
+    for (place, (record, bytes)) in node.records.iter().zip(&all).enumerate() {
+        records.push(MadeRecord {
+            handle: handle_at(&handles, place),
+            next: record
+                .next
+                .unwrap_or(handle_at(&handles, place.saturating_add(1))),
+            hex: hex::encode(alloc, bytes)?,
+        })?;
     }
     Ok(records)
 }
 
-/// The handle of the record that follows, 0 behind the last.
-fn following(records: &[BoardRecord], place: usize) -> u32 {
-    let next = place.saturating_add(1);
-    match records.get(next) {
-        Some(record) => handle_of(record, next),
-        None => 0,
-    }
+/// The handle at an index, 0 behind the last.
+fn handle_at(handles: &[u32], place: usize) -> u32 {
+    handles.get(place).copied().unwrap_or(0)
 }
 
-fn handle_of(record: &BoardRecord, place: usize) -> u32 {
-    match record.handle {
-        Some(handle) => handle,
-        None => u32::try_from(place).unwrap_or(0).saturating_add(1),
+/// The bytes of a node's records that have these handles.
+fn all_bytes(
+    alloc: Global,
+    files: &[RecordFile],
+    chosen: &[Chosen],
+    index: usize,
+    node: &BoardNode,
+    handles: &[u32],
+) -> Result<Vec<Vec<u8>>, NoPlan> {
+    let mut all = Vec::new(alloc);
+    for (place, record) in node.records.iter().enumerate() {
+        let handle = handle_at(handles, place);
+        let wrong = NoPlan::WrongRecord {
+            node: index,
+            record: place,
+        };
+        all.push(bytes_of(alloc, files, chosen, record, handle, wrong)?)?;
     }
+    Ok(all)
 }
 
-/// The bytes of a record in hex, or what is wrong where its fields are not those of its type, or its file was not
-/// given.
+/// The bytes of a record, or what is wrong where its fields are not those of its type, or its file was not given.
 fn bytes_of(
     alloc: Global,
     files: &[RecordFile],
@@ -70,17 +88,21 @@ fn bytes_of(
     record: &BoardRecord,
     handle: u32,
     wrong: NoPlan,
-) -> Result<String, NoPlan> {
+) -> Result<Vec<u8>, NoPlan> {
     match &record.content {
-        RecordContent::Hex(hex) => Ok(hex.clone()?),
+        RecordContent::Hex(text) => match hex::decode(alloc, text.as_str()) {
+            Ok(bytes) => Ok(bytes),
+            Err(FromHexError::OutOfMemory) => Err(NoPlan::OutOfMemory),
+            Err(_) => Err(wrong),
+        },
         RecordContent::File(name) => match file_named(files, name.as_str()) {
-            Some(file) => Ok(hex::encode(alloc, &file.bytes)?),
+            Some(file) => Ok(file.bytes.clone()?),
             None => Err(wrong),
         },
         RecordContent::Fields { kind, words } => {
             let words = words_of(alloc, chosen, words, handle)?;
             match made_record(alloc, kind.as_str(), &words) {
-                Ok(bytes) => Ok(hex::encode(alloc, &bytes)?),
+                Ok(bytes) => Ok(bytes),
                 Err(MakeError::Wrong) => Err(wrong),
                 Err(MakeError::OutOfMemory) => Err(NoPlan::OutOfMemory),
             }

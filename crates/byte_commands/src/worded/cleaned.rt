@@ -1,6 +1,5 @@
 //! Hex that people write: in several words, with spaces, and with 0x before numbers.
-ghost use Rattle.std.specs.Prelude.{◌≡◌, ◌++◌, IfOk, OnOk, map, length, string_bytes};
-ghost use Rattle.std.specs.List.{flat_map};
+ghost use Rattle.std.{specs.Prelude.{◌≡◌, ◌++◌, IfOk, OnOk, map, length, string_bytes}, specs.List.{flat_map}};
 ghost use Rattle.byte_commands.specs.Worded.{cleaned};
 
 use std::alloc::{AllocError, Global};

@@ -1,10 +1,8 @@
 //! The command `describe`: every field of a record.
-ghost use Rattle.std.specs.Prelude.{◌≡◌, ◌⊎◌, IfOk, IfErr, map, string_bytes};
-ghost use Rattle.std.specs.Cow.{cow_str_bytes};
+ghost use Rattle.std.{specs.Prelude.{◌≡◌, ◌⊎◌, IfOk, IfErr, map, string_bytes}, specs.Cow.{cow_str_bytes}};
 ghost use Rattle.command_questions.specs.declared.words.WordQuestion.TheVariants.{Describe};
+ghost use Rattle.byte_commands.{specs.Show.{IsDecoded, IsNoHex}, specs.Worded.{AnswersWords, IsUnansweredByWords, IsDescribed}};
 ghost use Rattle.command_answers.specs.declared.refused.Refused.TheVariants as refused;
-ghost use Rattle.byte_commands.specs.Show.{IsDecoded, IsNoHex};
-ghost use Rattle.byte_commands.specs.Worded.{AnswersWords, IsUnansweredByWords, IsDescribed};
 
 use crate::worded::cleaned::cleaned_text;
 use command_answers::{Answer, Refused};

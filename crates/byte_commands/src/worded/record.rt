@@ -1,6 +1,5 @@
 //! The command `record`: the bytes of a record whose fields words say.
-ghost use Rattle.std.specs.Prelude.{◌≡◌, IfOk, IfErr, map, string_bytes};
-ghost use Rattle.std.specs.Cow.{cow_str_bytes};
+ghost use Rattle.std.{specs.Prelude.{◌≡◌, IfOk, IfErr, map, string_bytes}, specs.Cow.{cow_str_bytes}};
 ghost use Rattle.command_questions.specs.declared.words.WordQuestion.TheVariants.{Record};
 ghost use Rattle.byte_commands.specs.Worded.{AnswersWords, IsUnansweredByWords, hex_line};
 

@@ -1,7 +1,5 @@
 //! The ends of a way, by the words that name them.
-ghost use Rattle.std.specs.Prelude.{◌≡◌, ℕ, MatchOption};
-ghost use Rattle.std.specs.Char.{is_ascii_digit};
-ghost use Rattle.std.specs.List.{list_all};
+ghost use Rattle.std.{specs.Prelude.{◌≡◌, ℕ, MatchOption}, specs.Char.{is_ascii_digit}, specs.List.{list_all}};
 ghost use Rattle.mctp_transport.specs.PacketValues.{IsAssignable};
 ghost use Rattle.command_answers.specs.Naming.{IsFirstNamed, IsEidWord, IsDestination, NameTheEnds};
 

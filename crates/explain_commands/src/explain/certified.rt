@@ -1,15 +1,12 @@
 //! The command `explain` of a plan with its certificate: what `check` answers, and why.
-ghost use Rattle.std.specs.Prelude.{◌≡◌, ◌≢◌, IfOk, IfErr, string_bytes};
-ghost use Rattle.std.specs.Cow.{cow_str_bytes};
+ghost use Rattle.std.{specs.Prelude.{◌≡◌, ◌≢◌, IfOk, IfErr, string_bytes}, specs.Cow.{cow_str_bytes}};
 ghost use Rattle.net_check.specs.Errors.{NamesFirstFault};
 ghost use Rattle.net_rules.specs.Faults.{IsFirstFault, site_of};
 ghost use Rattle.net_plan.specs.Stream.{HasRoom};
+ghost use Rattle.command_answers.{specs.Answers.{stream, IsWithoutPlan}, specs.Told.{ConcludesOnOutput}, specs.UnreadInputs.{IsTextOf}};
+ghost use Rattle.explain_commands.specs.Explaining.{IsCauseTold, IsFaultExplained, IsFaultTold, IsRemedyTold, IsCertificateTold, IsBothExplained, IsExplainedWith, ExplainsWithSo};
 ghost use Rattle.command_answers.specs.declared.refused.Refused.TheVariants as refused;
 ghost use Rattle.command_answers.specs.declared.status.Status.TheVariants as status;
-ghost use Rattle.command_answers.specs.Answers.{stream, IsWithoutPlan};
-ghost use Rattle.explain_commands.specs.Explaining.{IsCauseTold, IsFaultExplained, IsFaultTold, IsRemedyTold, IsCertificateTold, IsBothExplained, IsExplainedWith, ExplainsWithSo};
-ghost use Rattle.command_answers.specs.Told.{ConcludesOnOutput};
-ghost use Rattle.command_answers.specs.UnreadInputs.{IsTextOf};
 
 use super::{edits_text, more_faults, obstacle_text, sound_text};
 use command_answers::{

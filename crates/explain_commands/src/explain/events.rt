@@ -1,20 +1,13 @@
 //! The command `explain` of a plan with its certificate and events: what `check` answers, why, and why events can't be
 //! read.
-ghost use Rattle.std.specs.Prelude.{◌≡◌, ◌≢◌, IfOk, IfErr, map};
-ghost use Rattle.std.specs.Cow.{cow_str_bytes};
-ghost use Rattle.net_plan.specs.EventText.{AreEventsOf};
-ghost use Rattle.net_plan.specs.Stream.{HasRoom};
-ghost use Rattle.net_plan.specs.Texts.{IsJsonTextOf};
-ghost use Rattle.plan_values.specs.EventValues.{event_entry};
-ghost use Rattle.plan_values.specs.PlanValues.{plan_value};
+ghost use Rattle.std.{specs.Prelude.{◌≡◌, ◌≢◌, IfOk, IfErr, map}, specs.Cow.{cow_str_bytes}};
+ghost use Rattle.net_plan.{specs.EventText.{AreEventsOf}, specs.Stream.{HasRoom}, specs.Texts.{IsJsonTextOf}};
+ghost use Rattle.plan_values.{specs.EventValues.{event_entry}, specs.PlanValues.{plan_value}};
 ghost use Rattle.net_rules.specs.Rules.{Accepts};
+ghost use Rattle.command_answers.{specs.Answers.{stream, IsWithoutPlan}, specs.Inputs.{GaveEvents}, specs.Told.{ConcludesOnOutput}, specs.UnreadInputs.{AreNoEventsBy, AreNoEventsIn, IsTextOf}};
+ghost use Rattle.explain_commands.specs.ExplainingEvents.{AreEventsExplained, IsExplainedWithEvents, AreAllExplained, ExplainsAllSo};
 ghost use Rattle.command_answers.specs.declared.refused.Refused.TheVariants as refused;
 ghost use Rattle.command_answers.specs.declared.status.Status.TheVariants as status;
-ghost use Rattle.command_answers.specs.Answers.{stream, IsWithoutPlan};
-ghost use Rattle.command_answers.specs.Inputs.{GaveEvents};
-ghost use Rattle.command_answers.specs.Told.{ConcludesOnOutput};
-ghost use Rattle.command_answers.specs.UnreadInputs.{AreNoEventsBy, AreNoEventsIn, IsTextOf};
-ghost use Rattle.explain_commands.specs.ExplainingEvents.{AreEventsExplained, IsExplainedWithEvents, AreAllExplained, ExplainsAllSo};
 
 use super::certified::explained;
 use super::sound_text;

@@ -1,20 +1,14 @@
 //! The command `explain` of a move: what `certifymove` answers, and why.
-ghost use Rattle.std.specs.Prelude.{◌≡◌, ◌≢◌, IfOk, IfErr, map, string_bytes};
-ghost use Rattle.std.specs.Cow.{cow_str_bytes};
+ghost use Rattle.std.{specs.Prelude.{◌≡◌, ◌≢◌, IfOk, IfErr, map, string_bytes}, specs.Cow.{cow_str_bytes}};
 ghost use Rattle.fault_texts.specs.Places.{IsPlaceTold};
-ghost use Rattle.net_plan.specs.Finding.{step_value};
-ghost use Rattle.net_plan.specs.Stream.{HasRoom};
+ghost use Rattle.net_plan.{specs.Finding.{step_value}, specs.Stream.{HasRoom}};
 ghost use Rattle.net_rules.specs.MoveObstacles.{NamesMoveObstacle, NamesSureFault, RulesOutMoveCertificates};
+ghost use Rattle.command_answers.{specs.Answers.{stream, IsWithoutPlan}, specs.Told.{ConcludesOnOutput}, specs.UnreadInputs.{IsTextOf}};
+ghost use Rattle.explain_commands.{specs.Explaining.{IsExplainedThere, IsToldWithEdits}, specs.ExplainingMoves.{ExplainsMoveSo, IsMoveErrorTold, IsMoveExplained, IsMoveExplainedWith, IsMoveObstacleText, IsMoveTold, IsNewFaultTold}, specs.MoveRows.{file_of}};
 ghost use Rattle.net_rules.specs.declared.certify_error.CertifyError.TheVariants as error;
 ghost use Rattle.net_rules.specs.declared.move_error.MoveError.TheVariants as move_error;
 ghost use Rattle.command_answers.specs.declared.refused.Refused.TheVariants as refused;
 ghost use Rattle.command_answers.specs.declared.status.Status.TheVariants as status;
-ghost use Rattle.command_answers.specs.Answers.{stream, IsWithoutPlan};
-ghost use Rattle.command_answers.specs.Told.{ConcludesOnOutput};
-ghost use Rattle.command_answers.specs.UnreadInputs.{IsTextOf};
-ghost use Rattle.explain_commands.specs.Explaining.{IsExplainedThere, IsToldWithEdits};
-ghost use Rattle.explain_commands.specs.ExplainingMoves.{ExplainsMoveSo, IsMoveErrorTold, IsMoveExplained, IsMoveExplainedWith, IsMoveObstacleText, IsMoveTold, IsNewFaultTold};
-ghost use Rattle.explain_commands.specs.MoveRows.{file_of};
 
 mod differences;
 mod rows;

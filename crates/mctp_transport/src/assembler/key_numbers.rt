@@ -1,6 +1,5 @@
 //! The keys of the slots as numbers, which are compared many at a time.
-ghost use Rattle.std.specs.Prelude.{◌≡◌, ◌==◌, length};
-ghost use Rattle.std.specs.List.{position_or_len};
+ghost use Rattle.std.{specs.Prelude.{◌≡◌, ◌==◌, length}, specs.List.{position_or_len}};
 ghost use Rattle.mctp_transport.specs.KeyNumbers.{key_number, slot_number};
 
 use super::MAX_SLOTS;

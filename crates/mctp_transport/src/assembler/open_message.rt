@@ -31,8 +31,7 @@ pub(super) fn go_on_as(slot: &mut Option<OpenMessage>, message: OpenMessage)
 }
 
 impl OpenMessage {
-    ghost use Rattle.mctp_transport.specs.Packets.{packet_value_of};
-    ghost use Rattle.mctp_transport.specs.TableChanges.{fault_of};
+    ghost use Rattle.mctp_transport.{specs.Packets.{packet_value_of}, specs.TableChanges.{fault_of}};
 
     /// The message with one more packet, or why the packet doesn't go on from it.
     pub(super) fn next(self, limit: usize, packet: &PacketView) -> Result<OpenMessage, DropCause>

@@ -1,8 +1,6 @@
 //! Laws of cutting. The functions do nothing: their contracts are the laws.
 ghost use Rattle.std.specs.Prelude.{◌≡◌, ℕ, ◌<◌, List, length};
-ghost use Rattle.mctp_transport.specs.PacketValues.{PacketValue, KeyValue};
-ghost use Rattle.mctp_transport.specs.Messages.{Joined};
-ghost use Rattle.mctp_transport.specs.Cutting.{IsCut, ArePacketsOf};
+ghost use Rattle.mctp_transport.{specs.PacketValues.{PacketValue, KeyValue}, specs.Messages.{Joined}, specs.Cutting.{IsCut, ArePacketsOf}};
 
 /// A message is cut in one way only, and its cut makes one list of packets only.
 pub fn one_cut()

@@ -3,8 +3,7 @@
 //! compile. What the calls answer, and the variants of refusals, the other files test.
 ghost use Rattle.std.specs.Prelude.{◌≡◌, ◌+◌, ◌^◌, ◌<◌, ◌≤◌, All, length};
 ghost use Rattle.arrayvec.specs.ArrayVec.{array_vec_len};
-ghost use Rattle.mctp_transport.specs.PacketValues.{IsAssignable, IsUnit, packet_value_bytes};
-ghost use Rattle.mctp_transport.specs.Packets.{packet_value_of};
+ghost use Rattle.mctp_transport.{specs.PacketValues.{IsAssignable, IsUnit, packet_value_bytes}, specs.Packets.{packet_value_of}};
 ghost use Rattle.mctp_control.specs.Ranges.{IsAssignableRange};
 ghost use Rattle.pdr_repository.specs.Records.{entries, IsLawful};
 

@@ -1,7 +1,6 @@
 //! C15: what is wrong with a terminus locator.
 ghost use Rattle.std.specs.Prelude.{◌≡◌, ◌≢◌, ℕ, List, [], ◌∷◌, length, ◌↔◌, IsTrue, Some, None, MatchOption};
-ghost use Rattle.net_rules.specs.Locators.{IsEidLocator, HasOneByteAsEid};
-ghost use Rattle.net_rules.specs.declared.rule.Rule.TheVariants.{C15};
+ghost use Rattle.net_rules.{specs.Locators.{IsEidLocator, HasOneByteAsEid}, specs.declared.rule.Rule.TheVariants.{C15}};
 ghost use Rattle.net_explained.specs.Causes.{IsCauseAt};
 
 use crate::cause::Cause;

@@ -1,9 +1,7 @@
 //! C01: the earlier node that has a node's name.
 ghost use Rattle.std.specs.Prelude.{◌<◌, length, None};
-ghost use Rattle.net_rules.specs.Names.{HaveOneName};
-ghost use Rattle.net_rules.specs.declared.rule.Rule.TheVariants.{C01};
-ghost use Rattle.net_explained.specs.Searches.{IsFirstBelow};
-ghost use Rattle.net_explained.specs.Causes.{IsCauseAt};
+ghost use Rattle.net_rules.{specs.Names.{HaveOneName}, specs.declared.rule.Rule.TheVariants.{C01}};
+ghost use Rattle.net_explained.{specs.Searches.{IsFirstBelow}, specs.Causes.{IsCauseAt}};
 
 use crate::cause::Cause;
 use net_rules::have_one_name;

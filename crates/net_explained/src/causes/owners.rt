@@ -1,10 +1,8 @@
 //! C07: what is wrong with a node's owner.
 ghost use Rattle.std.specs.Prelude.{◌≡◌, Some, None};
-ghost use Rattle.net_tables.specs.Routing.{IsBridge};
-ghost use Rattle.net_tables.specs.Ownership.{IsOwnedBy};
+ghost use Rattle.net_tables.{specs.Routing.{IsBridge}, specs.Ownership.{IsOwnedBy}};
 ghost use Rattle.net_rules.specs.declared.rule.Rule.TheVariants.{C07};
-ghost use Rattle.net_explained.specs.declared.cause.Cause.TheVariants.{OwnerSharesNoBus};
-ghost use Rattle.net_explained.specs.Causes.{IsCauseAt};
+ghost use Rattle.net_explained.{specs.declared.cause.Cause.TheVariants.{OwnerSharesNoBus}, specs.Causes.{IsCauseAt}};
 
 use crate::cause::Cause;
 use net_rules::share_bus;

@@ -1,13 +1,9 @@
 //! C08 and C09: whose pool an endpoint ID should lie in and doesn't, or shouldn't and does, and what is wrong with a
 //! node's own pool.
 ghost use Rattle.std.specs.Prelude.{◌≡◌, ℕ, ◌+◌, ◌≤◌, ◌↔◌, IsTrue, Some, None, MatchOption};
-ghost use Rattle.net_tables.specs.Routing.{IsBridge};
-ghost use Rattle.net_tables.specs.Ownership.{owner_of, IsOwnedBy, pool_of, IsInPool, IsInPoolOf};
-ghost use Rattle.net_rules.specs.Pools.{IsInOwnersPool, IsPoolInRange, LiesInOwnersPool};
-ghost use Rattle.net_rules.specs.declared.rule.Rule.TheVariants.{C08, C09};
-ghost use Rattle.net_explained.specs.declared.cause.Cause.TheVariants.{PoolOutOfRange, PoolBeyondOwners, PoolsMeet, InPeersPool};
-ghost use Rattle.net_explained.specs.Searches.{IsFirst, IsLeastEid, IsFirstWithEid};
-ghost use Rattle.net_explained.specs.Causes.{IsCauseAt};
+ghost use Rattle.net_tables.{specs.Routing.{IsBridge}, specs.Ownership.{owner_of, IsOwnedBy, pool_of, IsInPool, IsInPoolOf}};
+ghost use Rattle.net_rules.{specs.Pools.{IsInOwnersPool, IsPoolInRange, LiesInOwnersPool}, specs.declared.rule.Rule.TheVariants.{C08, C09}};
+ghost use Rattle.net_explained.{specs.declared.cause.Cause.TheVariants.{PoolOutOfRange, PoolBeyondOwners, PoolsMeet, InPeersPool}, specs.Searches.{IsFirst, IsLeastEid, IsFirstWithEid}, specs.Causes.{IsCauseAt}};
 
 use crate::cause::Cause;
 use mctp_transport::Eid;

@@ -2,8 +2,7 @@
 ghost use Rattle.std.specs.Prelude.{◌≡◌, ℕ, ◌↔◌, IsTrue, Some, None, MatchResult};
 ghost use Rattle.pdr_repository.specs.Records.{IsRecordOf};
 ghost use Rattle.net_rules.specs.declared.rule.Rule.TheVariants.{C12, C13};
-ghost use Rattle.net_explained.specs.Searches.{IsFirstBelow};
-ghost use Rattle.net_explained.specs.Causes.{IsCauseAt, HasRecordThat, IsEmptyTerminus, AreNoRecordFor};
+ghost use Rattle.net_explained.{specs.Searches.{IsFirstBelow}, specs.Causes.{IsCauseAt, HasRecordThat, IsEmptyTerminus, AreNoRecordFor}};
 
 use crate::cause::Cause;
 use mctp_transport::Wire;

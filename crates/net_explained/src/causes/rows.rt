@@ -1,12 +1,8 @@
 //! C04 to C06: what is wrong with a row.
 ghost use Rattle.std.specs.Prelude.{◌≡◌, ◌≢◌, ◌≤◌, ℕ, ◌↔◌, IsTrue, Some, None, slice_get};
-ghost use Rattle.net_tables.specs.Routing.{rows_of, Covers, IsBridge};
-ghost use Rattle.net_tables.specs.Rows.{IsJoined, bus_of};
+ghost use Rattle.net_tables.{specs.Routing.{rows_of, Covers, IsBridge}, specs.Rows.{IsJoined, bus_of}};
 ghost use Rattle.net_rules.specs.declared.rule.Rule.TheVariants.{C04, C05, C06};
-ghost use Rattle.net_explained.specs.declared.cause.Cause.TheVariants.{NextIsItself, NoSuchPort, EndpointForSeveral};
-ghost use Rattle.net_explained.specs.Searches.{IsLeastEid, IsFirstWithEid};
-ghost use Rattle.net_explained.specs.Causes.{IsCauseAt};
-ghost use Rattle.net_explained.specs.Rows.{CoversAt};
+ghost use Rattle.net_explained.{specs.declared.cause.Cause.TheVariants.{NextIsItself, NoSuchPort, EndpointForSeveral}, specs.Searches.{IsLeastEid, IsFirstWithEid}, specs.Causes.{IsCauseAt}, specs.Rows.{CoversAt}};
 
 use crate::cause::Cause;
 use mctp_transport::Eid;

@@ -1,11 +1,8 @@
 //! C11: why a row leads what another node holds nowhere.
 ghost use Rattle.std.specs.Prelude.{◌≢◌, ◌↔◌, ◌⊎◌, ⊤, IsTrue, Some, MatchOption};
-ghost use Rattle.net_tables.specs.Routing.{Holds, IsBridge, HasRow};
-ghost use Rattle.net_tables.specs.TwoPlans.{one_plan};
-ghost use Rattle.net_rules.specs.HeldEids.{IsLedOn};
-ghost use Rattle.net_rules.specs.declared.rule.Rule.TheVariants.{C11};
-ghost use Rattle.net_explained.specs.Searches.{IsFirst};
-ghost use Rattle.net_explained.specs.Causes.{IsCauseAt};
+ghost use Rattle.net_tables.{specs.Routing.{Holds, IsBridge, HasRow}, specs.TwoPlans.{one_plan}};
+ghost use Rattle.net_rules.{specs.HeldEids.{IsLedOn}, specs.declared.rule.Rule.TheVariants.{C11}};
+ghost use Rattle.net_explained.{specs.Searches.{IsFirst}, specs.Causes.{IsCauseAt}};
 
 use crate::cause::Cause;
 use mctp_transport::Eid;

@@ -1,9 +1,6 @@
 //! The bodies of records that a plan lists as bytes.
 ghost use Rattle.std.specs.Prelude.{◌≡◌, IfSome, IsSomeAnd, option_map};
-ghost use Rattle.pdr_record.specs.Bodies.{body_value};
-ghost use Rattle.pdr_record.specs.Layouts.{SensorValue};
-ghost use Rattle.pdr_record.specs.Records.{BodyValue};
-ghost use Rattle.pdr_record.specs.Values.{sensor_value};
+ghost use Rattle.pdr_record.{specs.Bodies.{body_value}, specs.Layouts.{SensorValue}, specs.Records.{BodyValue}, specs.Values.{sensor_value}};
 ghost use Rattle.net_questions.specs.Sensors.{HasBody, IsSensor, sensor_of};
 
 use mctp_transport::Wire;

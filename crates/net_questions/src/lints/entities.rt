@@ -1,10 +1,7 @@
 //! H19: the entities that sensors measure.
 ghost use Rattle.std.specs.Prelude.{◌≡◌, ◌↔◌, IsTrue, OnOk, Contains};
-ghost use Rattle.pdr_record.specs.Bodies.{body_value};
-ghost use Rattle.pdr_record.specs.Lists.{entities_value};
-ghost use Rattle.pdr_record.specs.Values.{entity_value};
-ghost use Rattle.net_questions.specs.Sensors.{Associates, IsUncontained, HasUncontainedEntity, MeasuresUncontained};
-ghost use Rattle.net_questions.specs.RecordIndexes.{AreRecordIndexes, AssociatesIn, NotesEntities, entity_key};
+ghost use Rattle.pdr_record.{specs.Bodies.{body_value}, specs.Lists.{entities_value}, specs.Values.{entity_value}};
+ghost use Rattle.net_questions.{specs.Sensors.{Associates, IsUncontained, HasUncontainedEntity, MeasuresUncontained}, specs.RecordIndexes.{AreRecordIndexes, AssociatesIn, NotesEntities, entity_key}};
 
 use super::bodies::{body, sensor};
 use super::record_index::{RecordIndex, has_association_of};

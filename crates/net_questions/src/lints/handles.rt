@@ -1,8 +1,7 @@
 //! H18: the terminus handles of sensors.
 ghost use Rattle.std.specs.Prelude.{◌≡◌, ◌↔◌, ℕ, IsTrue, IfSome, IsSomeAnd};
 ghost use Rattle.pdr_record.specs.Bodies.{body_value};
-ghost use Rattle.net_questions.specs.RecordIndexes.{AreRecordIndexes, handle_of};
-ghost use Rattle.net_questions.specs.Sensors.{IsLocatorOf, HasLocatorOf, HasUnknownHandle, NamesNoTerminus};
+ghost use Rattle.net_questions.{specs.RecordIndexes.{AreRecordIndexes, handle_of}, specs.Sensors.{IsLocatorOf, HasLocatorOf, HasUnknownHandle, NamesNoTerminus}};
 
 use super::bodies::{body, sensor};
 use super::record_index::{RecordIndex, has_locator_of};

@@ -1,11 +1,7 @@
 //! What the records of each node are found by.
-ghost use Rattle.std.specs.Prelude.{◌≡◌, ◌<◌, ◌↔◌, IsSomeAnd, IfOk, OnOk, IsTrue};
-ghost use Rattle.std.specs.Ordering.{nat_cmp};
-ghost use Rattle.std.specs.BTreeMap.{get};
-ghost use Rattle.net_questions.specs.Lint.{IsSensorRecord, HasEarlierSensor};
+ghost use Rattle.std.{specs.Prelude.{◌≡◌, ◌<◌, ◌↔◌, IsSomeAnd, IfOk, OnOk, IsTrue}, specs.Ordering.{nat_cmp}, specs.BTreeMap.{get}};
+ghost use Rattle.net_questions.{specs.Lint.{IsSensorRecord, HasEarlierSensor}, specs.Sensors.{HasAssociationOf, IsLocatorOf, HasLocatorOf}, specs.RecordIndexes.{AreContained, AreFirst, IsRecordIndex, AreRecordIndexes, NotesAny}};
 ghost use Rattle.pdr_record.specs.Values.{entity_value};
-ghost use Rattle.net_questions.specs.Sensors.{HasAssociationOf, IsLocatorOf, HasLocatorOf};
-ghost use Rattle.net_questions.specs.RecordIndexes.{AreContained, AreFirst, IsRecordIndex, AreRecordIndexes, NotesAny};
 
 use super::entities::{EntityKey, key_of, note_contained};
 use super::handles::locator_handle;

@@ -1,7 +1,6 @@
 //! H08, H09 and H12: rows, pools, and whom rows lead to.
 ghost use Rattle.std.specs.Prelude.{◌<◌, ◌⊎◌, ◌↔◌, ℕ, IsTrue, length};
-ghost use Rattle.net_tables.specs.Routing.{Holds, Covers};
-ghost use Rattle.net_tables.specs.Ownership.{IsInPool, IsInPoolOf};
+ghost use Rattle.net_tables.{specs.Routing.{Holds, Covers}, specs.Ownership.{IsInPool, IsInPoolOf}};
 ghost use Rattle.net_questions.specs.Lint.{LeadsToNobody, HasIdleRow, LeavesHeld, NobodyHasRow, IsUnknown, IsIsolated};
 
 use crate::lookup::eid_at;

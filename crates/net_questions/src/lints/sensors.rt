@@ -1,12 +1,7 @@
 //! H05 and H11: the sensor IDs of sensors, and the readable ranges of numeric ones.
-ghost use Rattle.std.specs.Prelude.{◌≡◌, ◌<◌, ◌≤◌, ◌↔◌, ◌^◌, ◌/◌, ◌%◌, ℕ, length, IsTrue};
-ghost use Rattle.std.specs.Prelude.{IfSome, IsSomeAnd, Some};
-ghost use Rattle.pdr_record.specs.Layouts.{NumericValue, IsNumeric, width_of};
-ghost use Rattle.pdr_record.specs.Numbers.{size_code};
-ghost use Rattle.pdr_record.specs.NumericValues.{numeric_value};
-ghost use Rattle.net_questions.specs.Lint.{sensor_id_of, IsSensorRecord, HasEarlierSensor, RepeatsSensorId, SharesSensorId};
-ghost use Rattle.net_questions.specs.RecordIndexes.{AreRecordIndexes};
-ghost use Rattle.net_questions.specs.Lint.{number_of, flipped, position_of, IsOver, IsNumericSensor, HasEmptyRange, HasEmptyReadableRange};
+ghost use Rattle.std.specs.Prelude.{◌≡◌, ◌<◌, ◌≤◌, ◌↔◌, ◌^◌, ◌/◌, ◌%◌, ℕ, length, IsTrue, IfSome, IsSomeAnd, Some};
+ghost use Rattle.pdr_record.{specs.Layouts.{NumericValue, IsNumeric, width_of}, specs.Numbers.{size_code}, specs.NumericValues.{numeric_value}};
+ghost use Rattle.net_questions.{specs.Lint.{sensor_id_of, IsSensorRecord, HasEarlierSensor, RepeatsSensorId, SharesSensorId, number_of, flipped, position_of, IsOver, IsNumericSensor, HasEmptyRange, HasEmptyReadableRange}, specs.RecordIndexes.{AreRecordIndexes}};
 
 use super::record_index::{RecordIndex, has_earlier_sensor};
 use mctp_transport::Wire;

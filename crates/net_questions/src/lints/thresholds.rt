@@ -1,9 +1,6 @@
 //! H17: the thresholds of numeric sensors.
 ghost use Rattle.std.specs.Prelude.{◌≡◌, ◌<◌, ◌↔◌, ℕ, IsTrue, IfSome, option_map, length};
-ghost use Rattle.pdr_record.specs.declared.range_field_format.RangeFieldFormat.TheVariants.{Integer};
-ghost use Rattle.pdr_record.specs.Layouts.{IsNumeric, width_of};
-ghost use Rattle.pdr_record.specs.Numbers.{size_code};
-ghost use Rattle.pdr_record.specs.NumericValues.{numeric_value};
+ghost use Rattle.pdr_record.{specs.declared.range_field_format.RangeFieldFormat.TheVariants.{Integer}, specs.Layouts.{IsNumeric, width_of}, specs.Numbers.{size_code}, specs.NumericValues.{numeric_value}};
 ghost use Rattle.net_questions.specs.Sensors.{has_bit, given, threshold_of, AreCrossed, CrossesLater, HasCrossed, AreOfCrossed, HasCrossedThresholds};
 
 use super::sensors::{is_over, numeric_sensor};

@@ -1,11 +1,8 @@
 //! Between which endpoint IDs, and at which entries, a rule can be broken at a node.
 ghost use Rattle.std.specs.Prelude.{ℕ, ◌<◌, ◌≤◌, length, Some};
 ghost use Rattle.plan_values.specs.declared.certificate.Certificate.{Certificate};
-ghost use Rattle.net_tables.specs.Routing.{rows_of, Covers, Holds, OfItem};
-ghost use Rattle.net_tables.specs.Repositories.{records_of};
-ghost use Rattle.net_rules.specs.Locators.{LocatesTerminus};
-ghost use Rattle.net_rules.specs.Rules.{PlanDemands, CertificateDemands};
-ghost use Rattle.net_rules.specs.FaultLists.{IsOutside};
+ghost use Rattle.net_tables.{specs.Routing.{rows_of, Covers, Holds, OfItem}, specs.Repositories.{records_of}};
+ghost use Rattle.net_rules.{specs.Locators.{LocatesTerminus}, specs.Rules.{PlanDemands, CertificateDemands}, specs.FaultLists.{IsOutside}};
 
 use crate::all_faults::locators::located_eid;
 use crate::rule::Rule;

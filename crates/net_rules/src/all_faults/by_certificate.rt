@@ -1,9 +1,7 @@
 //! Whether the certificate meets a rule at one place.
 ghost use Rattle.std.specs.Prelude.{◌≡◌, ◌↔◌, ◌<◌, IsTrue, Some, None, length};
-ghost use Rattle.net_tables.specs.Routing.{eid_number};
-ghost use Rattle.net_rules.specs.Rules.{CertificateDemands};
-ghost use Rattle.net_rules.specs.Superfluous.{NeedsItsRank};
-ghost use Rattle.net_tables.specs.TwoPlans.{one_plan};
+ghost use Rattle.net_tables.{specs.Routing.{eid_number}, specs.TwoPlans.{one_plan}};
+ghost use Rattle.net_rules.{specs.Rules.{CertificateDemands}, specs.Superfluous.{NeedsItsRank}};
 
 use crate::all_faults::{records, rows};
 use crate::certified_ranks::CertifiedRanks;

@@ -24,9 +24,7 @@ pub struct Judge<'a> {
 impl<'a> Judge<'a> {
     ghost use Rattle.std.specs.Prelude.{◌≡◌, ◌↔◌, ◌<◌, ℕ, Option, IsTrue, IfOk, IfSome, length, option_map};
     ghost use Rattle.net_tables.specs.Routing.{eid_number};
-    ghost use Rattle.net_rules.specs.FaultLists.{DemandsOf};
-    ghost use Rattle.net_rules.specs.Rules.{PlanDemands, CertificateDemands};
-    ghost use Rattle.net_rules.specs.Search.{IsFirstSpot};
+    ghost use Rattle.net_rules.{specs.FaultLists.{DemandsOf}, specs.Rules.{PlanDemands, CertificateDemands}, specs.Search.{IsFirstSpot}};
 
     /// Of the plan, and of the certificate if there is one.
     pub fn of(

@@ -1,8 +1,7 @@
 //! Whether a record of a node's terminus is as the rules demand.
 ghost use Rattle.std.specs.Prelude.{◌≡◌, ◌≢◌, ◌<◌, ◌↔◌, ◌+◌, ◌⊎◌, ℕ, IsTrue, IfSome, Some, length, map, slice_get};
 ghost use Rattle.plan_values.specs.declared.terminus.PlannedRecord.{PlannedRecord};
-ghost use Rattle.net_tables.specs.Routing.{OfItem};
-ghost use Rattle.net_tables.specs.Repositories.{records_of, places_of, HasNewHandle, IsChained, IsHandleAt};
+ghost use Rattle.net_tables.{specs.Routing.{OfItem}, specs.Repositories.{records_of, places_of, HasNewHandle, IsChained, IsHandleAt}};
 ghost use Rattle.pdr_repository.specs.Records.{IsRecordOf};
 ghost use Rattle.net_rules.specs.Locators.{HasOneByteAsEid, LocatesTerminus};
 

@@ -1,10 +1,7 @@
 //! Whether a row of a node is as the rules demand.
 ghost use Rattle.std.specs.Prelude.{◌≡◌, ◌↔◌, IsTrue};
-ghost use Rattle.net_tables.specs.Routing.{rows_of, Covers, OfItem};
-ghost use Rattle.net_tables.specs.Rows.{IsInRange, IsApartFromEarlier, NamesNeighbor};
-ghost use Rattle.net_tables.specs.Ranks.{Falls};
+ghost use Rattle.net_tables.{specs.Routing.{rows_of, Covers, OfItem}, specs.Rows.{IsInRange, IsApartFromEarlier, NamesNeighbor}, specs.Ranks.{Falls}, specs.TwoPlans.{one_plan}};
 ghost use Rattle.net_rules.specs.HeldEids.{IsLedOn};
-ghost use Rattle.net_tables.specs.TwoPlans.{one_plan};
 
 use crate::certified_ranks::CertifiedRanks;
 use crate::plan_index::PlanIndex;

@@ -1,8 +1,7 @@
 //! The chain that the next handles of a terminus's records make, or what is wrong with it.
 ghost use Rattle.std.specs.Prelude.{◌≡◌, ◌<◌, ◌≤◌, ◌↔◌, IsTrue, IfOk, length, map, replicate};
 ghost use Rattle.net_tables.specs.Routing.{OfItem};
-ghost use Rattle.net_rules.specs.Search.{IsFirstItem};
-ghost use Rattle.net_rules.specs.RecordChains.{HasNext, HasNewNext, HaveNewHandles, IsChainOf, IsIndexOf, AreLinked, AreFromTheEnd};
+ghost use Rattle.net_rules.{specs.Search.{IsFirstItem}, specs.RecordChains.{HasNext, HasNewNext, HaveNewHandles, IsChainOf, IsIndexOf, AreLinked, AreFromTheEnd}};
 
 use crate::certifying::handle_index::{HandleIndex, first_at, index_of};
 use plan_values::{PlannedRecord, RecordPlace};

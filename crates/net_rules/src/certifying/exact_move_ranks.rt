@@ -1,13 +1,7 @@
 //! The ranks of a move's certificate.
 ghost use Rattle.std.specs.Prelude.{◌≡◌, ◌≤◌, length, IfOk, IfErr};
-ghost use Rattle.net_tables.specs.Routing.{MovesTo};
-ghost use Rattle.net_tables.specs.Rows.{RowsAreApart, RowsAreInRange};
-ghost use Rattle.net_tables.specs.Tables.{AreTables};
-ghost use Rattle.net_rules.specs.Certificates.{AreRanksOf};
-ghost use Rattle.net_rules.specs.LongestWays.{IsLongestOrLoop};
-ghost use Rattle.net_rules.specs.MovingAlike.{MoveAlike};
-ghost use Rattle.net_rules.specs.MoveObstacles.{NamesMixedLoop};
-ghost use Rattle.net_rules.specs.MoveRanks.{IsMoveRank, HoldTheSame};
+ghost use Rattle.net_tables.{specs.Routing.{MovesTo}, specs.Rows.{RowsAreApart, RowsAreInRange}, specs.Tables.{AreTables}};
+ghost use Rattle.net_rules.{specs.Certificates.{AreRanksOf}, specs.LongestWays.{IsLongestOrLoop}, specs.MovingAlike.{MoveAlike}, specs.MoveObstacles.{NamesMixedLoop}, specs.MoveRanks.{IsMoveRank, HoldTheSame}};
 
 use crate::certifying::exact_ranks::keep_ranked;
 use crate::certifying::longest_ways::{Longest, longest_or_loop};

@@ -1,8 +1,7 @@
 //! The places of a plan's certificate.
 ghost use Rattle.std.specs.Prelude.{◌≡◌, ◌<◌, ◌+◌, ℕ, [], ◌∷◌, ◌++◌, IfOk, OnOk, IfErr, length};
-ghost use Rattle.net_rules.specs.RecordChains.{HaveNewHandles};
+ghost use Rattle.net_rules.{specs.RecordChains.{HaveNewHandles}, specs.Certificates.{AreExactPlaces, ArePlacesBefore, NamesBadChain}};
 ghost use Rattle.net_tables.specs.Repositories.{records_of, HasRecords};
-ghost use Rattle.net_rules.specs.Certificates.{AreExactPlaces, ArePlacesBefore, NamesBadChain};
 
 use crate::certify_error::CertifyError;
 use crate::certifying::chains::{Chained, chain_of};

@@ -1,9 +1,7 @@
 //! How many owners stand above each node, or a loop of owners.
 ghost use Rattle.std.specs.Prelude.{◌≡◌, ◌<◌, All, IfOk, IfErr, length, map};
 ghost use Rattle.net_tables.specs.Ownership.{IsOwnedBy};
-ghost use Rattle.net_rules.specs.Circles.{IsWalked};
-ghost use Rattle.net_rules.specs.OwnerLoops.{AreLevels};
-ghost use Rattle.net_rules.specs.Certificates.{NamesOwnerLoop};
+ghost use Rattle.net_rules.{specs.Circles.{IsWalked}, specs.OwnerLoops.{AreLevels}, specs.Certificates.{NamesOwnerLoop}};
 
 use crate::certify_error::CertifyError;
 use crate::certifying::walks::{Walked, walk};

@@ -1,7 +1,6 @@
 //! The longest ways of moves from index to index, each by one of two tables of next places.
 ghost use Rattle.std.specs.Prelude.{◌≡◌, ℕ, ◌+◌, ◌≤◌, ◌↔◌, length, IfOk, IsTrue, MatchOption, Some, None, replicate, slice_get};
-ghost use Rattle.net_rules.specs.Circles.{HasCircle, MovesBy};
-ghost use Rattle.net_rules.specs.LongestWays.{AreLongest, AreLongestWithin, MovesByEither, IsLongestOrLoop, one_before};
+ghost use Rattle.net_rules.{specs.Circles.{HasCircle, MovesBy}, specs.LongestWays.{AreLongest, AreLongestWithin, MovesByEither, IsLongestOrLoop, one_before}};
 
 use crate::certifying::mixed_loops::first_loop;
 use crate::certifying::walks::next_of;

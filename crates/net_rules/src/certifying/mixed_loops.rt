@@ -1,9 +1,6 @@
 //! The first loop of moves from index to index, each by one of two tables of next places.
 ghost use Rattle.std.specs.Prelude.{◌≡◌, ℕ, ◌+◌, ◌-◌, ◌<◌, ◌≤◌, ◌↔◌, length, IfOk, IsTrue, MatchOption, Some, None, slice_get, true, ◌||◌};
-ghost use Rattle.net_rules.specs.Moves.{Leads};
-ghost use Rattle.net_rules.specs.Circles.{HasNoCircle, IsOnCircle, IsLeastOnCircle, MovesBy};
-ghost use Rattle.net_rules.specs.MixedLoops.{IsMixedLoop, IsFirstReturn, MovesOn, AreMarked, is_marked, leads_to_mark};
-ghost use Rattle.net_rules.specs.LongestWays.{MovesByEither};
+ghost use Rattle.net_rules.{specs.Moves.{Leads}, specs.Circles.{HasNoCircle, IsOnCircle, IsLeastOnCircle, MovesBy}, specs.MixedLoops.{IsMixedLoop, IsFirstReturn, MovesOn, AreMarked, is_marked, leads_to_mark}, specs.LongestWays.{MovesByEither}};
 
 use crate::certifying::walks::next_of;
 use crate::mixed_loop::Side;

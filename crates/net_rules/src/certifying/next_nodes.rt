@@ -1,10 +1,7 @@
 //! Where what is for an endpoint ID goes on to from each node.
 ghost use Rattle.std.specs.Prelude.{length, IfOk};
-ghost use Rattle.net_tables.specs.Routing.{MovesTo, rows_of};
-ghost use Rattle.net_rules.specs.RoutingLoops.{IsNext, AreNexts};
-ghost use Rattle.net_tables.specs.Rows.{RowsAreApart};
-ghost use Rattle.net_tables.specs.Tables.{SendsAs, AreTables};
-ghost use Rattle.net_rules.specs.Circles.{IsWalked};
+ghost use Rattle.net_tables.{specs.Routing.{MovesTo, rows_of}, specs.Rows.{RowsAreApart}, specs.Tables.{SendsAs, AreTables}};
+ghost use Rattle.net_rules.{specs.RoutingLoops.{IsNext, AreNexts}, specs.Circles.{IsWalked}};
 
 use crate::certifying::walks::{Walked, walk};
 use mctp_routing::RangeTable;

@@ -1,8 +1,6 @@
 //! Stretches of endpoint IDs that each node sends on alike.
 ghost use Rattle.std.specs.Prelude.{◌≡◌, ◌⊎◌, ◌+◌, ◌<◌, ◌≤◌, length, min};
-ghost use Rattle.net_tables.specs.Routing.{rows_of};
-ghost use Rattle.net_tables.specs.Rows.{RowsAreApart};
-ghost use Rattle.net_tables.specs.Tables.{SendsAs, AreTables};
+ghost use Rattle.net_tables.{specs.Routing.{rows_of}, specs.Rows.{RowsAreApart}, specs.Tables.{SendsAs, AreTables}};
 ghost use Rattle.net_rules.specs.MovingAlike.{MovesAlike, MoveAlike, HoldsAlike, HaveOneHop, HoldsBeside, HaveEdge, IsCutAt, IsCut};
 
 use mctp_routing::RangeTable;

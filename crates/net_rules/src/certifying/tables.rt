@@ -1,7 +1,6 @@
 //! The rows of a plan's nodes as routing tables, ready for look-ups.
 ghost use Rattle.std.specs.Prelude.{◌≡◌, IfOk, length};
-ghost use Rattle.net_tables.specs.Rows.{RowsAreApart, RowsAreInRange};
-ghost use Rattle.net_tables.specs.Tables.{AreTables};
+ghost use Rattle.net_tables.{specs.Rows.{RowsAreApart, RowsAreInRange}, specs.Tables.{AreTables}};
 
 use mctp_routing::RangeTable;
 use net_tables::routing_tables;

@@ -1,11 +1,7 @@
 //! C14: the certified places lead along the next handles through all records of a terminus once.
-ghost use Rattle.std.specs.Prelude.{◌≡◌, ℕ, ◌+◌, ◌<◌, ◌≤◌, ◌↔◌, ◌⊎◌, IsTrue, IfOk, IfSome, Some, None, length, map, replicate, slice_get};
-ghost use Rattle.std.specs.BTreeSet.{IsFromIterResult, contains};
-ghost use Rattle.net_rules.specs.Handles.{by_place_and_handle, pairs, AreFiled};
-ghost use Rattle.net_rules.specs.RecordChains.{AreChained};
+ghost use Rattle.std.{specs.Prelude.{◌≡◌, ℕ, ◌+◌, ◌<◌, ◌≤◌, ◌↔◌, ◌⊎◌, IsTrue, IfOk, IfSome, Some, None, length, map, replicate, slice_get}, specs.BTreeSet.{IsFromIterResult, contains}};
+ghost use Rattle.net_rules.{specs.Handles.{by_place_and_handle, pairs, AreFiled}, specs.RecordChains.{AreChained}, specs.Rules.{CertificateDemands}, specs.Search.{IsFirstItem, IsFirstSpot}};
 ghost use Rattle.net_tables.specs.Repositories.{IsChained};
-ghost use Rattle.net_rules.specs.Rules.{CertificateDemands};
-ghost use Rattle.net_rules.specs.Search.{IsFirstItem, IsFirstSpot};
 
 use crate::rule::Rule;
 use crate::spot::Spot;

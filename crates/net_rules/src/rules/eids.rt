@@ -1,8 +1,6 @@
 //! C02 and C03: each node holds an endpoint ID of its own that can be held.
 ghost use Rattle.std.specs.Prelude.{◌≡◌, ◌<◌, ◌↔◌, IsTrue, length};
-ghost use Rattle.net_rules.specs.Eids.{IsNewlyHeld};
-ghost use Rattle.net_rules.specs.Rules.{PlanDemands};
-ghost use Rattle.net_rules.specs.Search.{IsFirstSpot};
+ghost use Rattle.net_rules.{specs.Eids.{IsNewlyHeld}, specs.Rules.{PlanDemands}, specs.Search.{IsFirstSpot}};
 
 use crate::holders::Holders;
 use crate::rule::Rule;

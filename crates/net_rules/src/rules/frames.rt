@@ -1,7 +1,6 @@
 //! M01: two plans that differ in rows alone.
 ghost use Rattle.std.specs.Prelude.{◌≡◌, ◌<◌, ◌↔◌, IsTrue, length};
-ghost use Rattle.net_rules.specs.MoveRules.{HaveSameFrame, IsSameNode};
-ghost use Rattle.net_rules.specs.MoveSearch.{IsFirstUnlike};
+ghost use Rattle.net_rules.{specs.MoveRules.{HaveSameFrame, IsSameNode}, specs.MoveSearch.{IsFirstUnlike}};
 
 use plan_values::{Plan, are_same, are_same_but_rows};
 

@@ -1,11 +1,7 @@
 //! C11 and M02: rows lead on what other nodes hold, whether or not a node has switched to new rows.
 ghost use Rattle.std.specs.Prelude.{ℕ, ◌≡◌, ◌≢◌, ◌⊎◌, ◌↔◌, IsTrue};
-ghost use Rattle.net_tables.specs.Routing.{Holds, IsBridge, eid_number};
-ghost use Rattle.net_rules.specs.PlanTables.{plans_value};
-ghost use Rattle.net_tables.specs.TwoPlans.{HasRowAlways};
-ghost use Rattle.net_rules.specs.HeldEids.{IsLedOn};
-ghost use Rattle.net_rules.specs.Rules.{AtRowEid};
-ghost use Rattle.net_rules.specs.Search.{IsFirstSpot, IsFirstEid};
+ghost use Rattle.net_tables.{specs.Routing.{Holds, IsBridge, eid_number}, specs.TwoPlans.{HasRowAlways}};
+ghost use Rattle.net_rules.{specs.PlanTables.{plans_value}, specs.HeldEids.{IsLedOn}, specs.Rules.{AtRowEid}, specs.Search.{IsFirstSpot, IsFirstEid}};
 
 use crate::plan_index::PlanIndex;
 use crate::plans::Plans;
@@ -52,8 +48,7 @@ struct WayOn<'a> {
 
 impl<'a> Stretched for WayOn<'a> {
     ghost use Rattle.std.specs.Prelude.{ℕ, ◌↔◌, IsTrue};
-    ghost use Rattle.net_rules.specs.PlanTables.{plans_value};
-    ghost use Rattle.net_rules.specs.HeldEids.{IsLedOn};
+    ghost use Rattle.net_rules.{specs.PlanTables.{plans_value}, specs.HeldEids.{IsLedOn}};
 
     ghost Demand = { λ way e. IsLedOn (plans_value way.plans.now) way.node e way.next };
 

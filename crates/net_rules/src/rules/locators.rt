@@ -1,10 +1,7 @@
 //! C15: terminus locators name a node that holds the endpoint ID, and whose terminus has the terminus ID.
 ghost use Rattle.std.specs.Prelude.{◌≡◌, ℕ, List, [], ◌∷◌, length, ◌↔◌, IsTrue, IfSome, IsSomeAnd, Some, option_map};
-ghost use Rattle.net_tables.specs.Routing.{Holds};
-ghost use Rattle.net_tables.specs.Repositories.{terminus_of};
-ghost use Rattle.net_rules.specs.Locators.{IsEidLocator, HasOneByteAsEid, IsHeldByTerminus, LocatesTerminus};
-ghost use Rattle.net_rules.specs.Rules.{PlanDemands, AtNodeOrEid};
-ghost use Rattle.net_rules.specs.Search.{IsFirstSpot};
+ghost use Rattle.net_tables.{specs.Routing.{Holds}, specs.Repositories.{terminus_of}};
+ghost use Rattle.net_rules.{specs.Locators.{IsEidLocator, HasOneByteAsEid, IsHeldByTerminus, LocatesTerminus}, specs.Rules.{PlanDemands, AtNodeOrEid}, specs.Search.{IsFirstSpot}};
 
 use crate::holders::Holders;
 use crate::rule::Rule;

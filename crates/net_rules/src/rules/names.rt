@@ -1,8 +1,6 @@
 //! C01: no two nodes have one name.
 ghost use Rattle.std.specs.Prelude.{◌<◌, ◌↔◌, IsTrue, length};
-ghost use Rattle.net_rules.specs.Names.{HasNewName, HaveOneName};
-ghost use Rattle.net_rules.specs.Rules.{PlanDemands};
-ghost use Rattle.net_rules.specs.Search.{IsFirstSpot};
+ghost use Rattle.net_rules.{specs.Names.{HasNewName, HaveOneName}, specs.Rules.{PlanDemands}, specs.Search.{IsFirstSpot}};
 
 use crate::rule::Rule;
 use crate::spot::Spot;

@@ -1,10 +1,7 @@
 //! C07: an owner is a bridge that shares a bus with its node, of a lower level.
-ghost use Rattle.std.specs.Prelude.{◌≡◌, ◌<◌, ◌↔◌, ◌==◌, IsTrue, length};
-ghost use Rattle.std.specs.List.{list_any};
+ghost use Rattle.std.{specs.Prelude.{◌≡◌, ◌<◌, ◌↔◌, ◌==◌, IsTrue, length}, specs.List.{list_any}};
 ghost use Rattle.net_tables.specs.Routing.{ports_of};
-ghost use Rattle.net_rules.specs.Owners.{ShareBus, HasBridgeAsOwner, IsBelowItsOwner};
-ghost use Rattle.net_rules.specs.Rules.{PlanDemands, Demands};
-ghost use Rattle.net_rules.specs.Search.{IsFirstSpot};
+ghost use Rattle.net_rules.{specs.Owners.{ShareBus, HasBridgeAsOwner, IsBelowItsOwner}, specs.Rules.{PlanDemands, Demands}, specs.Search.{IsFirstSpot}};
 
 use crate::rule::Rule;
 use crate::spot::Spot;

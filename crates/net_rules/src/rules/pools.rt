@@ -2,9 +2,7 @@
 //! apart.
 ghost use Rattle.std.specs.Prelude.{ℕ, ◌<◌, ◌↔◌, IsTrue, length};
 ghost use Rattle.net_tables.specs.Ownership.{IsInPool, IsInPoolOf};
-ghost use Rattle.net_rules.specs.Pools.{IsInOwnersPool, IsInNoPeersPool, IsInItsPool, IsPoolInRange, LiesInOwnersPool, LiesApartFromEarlierPools, IsLawfulPool, HasLawfulPool};
-ghost use Rattle.net_rules.specs.Rules.{PlanDemands};
-ghost use Rattle.net_rules.specs.Search.{IsFirstSpot};
+ghost use Rattle.net_rules.{specs.Pools.{IsInOwnersPool, IsInNoPeersPool, IsInItsPool, IsPoolInRange, LiesInOwnersPool, LiesApartFromEarlierPools, IsLawfulPool, HasLawfulPool}, specs.Rules.{PlanDemands}, specs.Search.{IsFirstSpot}};
 
 use crate::rule::Rule;
 use crate::spot::Spot;

@@ -1,9 +1,7 @@
 //! C10: along a row the rank falls, for each endpoint ID that the node does not hold.
 ghost use Rattle.std.specs.Prelude.{◌≡◌, ℕ, ◌<◌, ◌↔◌, IsTrue, All};
-ghost use Rattle.net_tables.specs.Routing.{Covers, Holds, eid_number};
-ghost use Rattle.net_tables.specs.Ranks.{rank, Falls};
-ghost use Rattle.net_rules.specs.Rules.{CertificateDemands};
-ghost use Rattle.net_rules.specs.Search.{IsFirstSpot, IsFirstEid};
+ghost use Rattle.net_tables.{specs.Routing.{Covers, Holds, eid_number}, specs.Ranks.{rank, Falls}};
+ghost use Rattle.net_rules.{specs.Rules.{CertificateDemands}, specs.Search.{IsFirstSpot, IsFirstEid}};
 
 use crate::certified_ranks::CertifiedRanks;
 use crate::plan_index::PlanIndex;

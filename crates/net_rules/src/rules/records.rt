@@ -1,12 +1,8 @@
 //! C12 and C13: the records of a terminus have handles of their own, and bytes that are those of a record.
-ghost use Rattle.std.specs.Prelude.{◌≡◌, ◌≢◌, ℕ, ◌<◌, ◌↔◌, true, false, IsTrue, IfOk, OnOk, Some, map, replicate, slice_get};
-ghost use Rattle.std.specs.BTreeSet.{contains, Updates};
-ghost use Rattle.std.specs.Ordering.{nat_cmp};
+ghost use Rattle.std.{specs.Prelude.{◌≡◌, ◌≢◌, ℕ, ◌<◌, ◌↔◌, true, false, IsTrue, IfOk, OnOk, Some, map, replicate, slice_get}, specs.BTreeSet.{contains, Updates}, specs.Ordering.{nat_cmp}};
 ghost use Rattle.pdr_repository.specs.Records.{IsRecordOf};
-ghost use Rattle.net_rules.specs.RecordChains.{HaveNewHandles};
+ghost use Rattle.net_rules.{specs.RecordChains.{HaveNewHandles}, specs.Rules.{PlanDemands}, specs.Search.{IsFirstItem, IsFirstSpot}};
 ghost use Rattle.net_tables.specs.Repositories.{HasRecords, HasNewHandle};
-ghost use Rattle.net_rules.specs.Rules.{PlanDemands};
-ghost use Rattle.net_rules.specs.Search.{IsFirstItem, IsFirstSpot};
 
 use crate::rule::Rule;
 use crate::spot::Spot;

@@ -1,8 +1,7 @@
 //! C04 to C06: a node's rows are lawful, lie apart, and lead to neighbors.
 ghost use Rattle.std.specs.Prelude.{◌≡◌, ℕ, ◌<◌, ◌↔◌, IsTrue, All, length};
 ghost use Rattle.net_tables.specs.Rows.{IsInRange, AreApart, IsApartFromEarlier, IsJoined, NamesNeighbor};
-ghost use Rattle.net_rules.specs.Rules.{PlanDemands};
-ghost use Rattle.net_rules.specs.Search.{IsFirstItem, IsFirstSpot};
+ghost use Rattle.net_rules.{specs.Rules.{PlanDemands}, specs.Search.{IsFirstItem, IsFirstSpot}};
 
 use crate::plan_index::PlanIndex;
 use crate::rule::Rule;

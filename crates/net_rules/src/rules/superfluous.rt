@@ -1,13 +1,7 @@
 //! C16 and M03: the certificate gives nothing that the plan has no use for, or of a move neither plan.
 ghost use Rattle.std.specs.Prelude.{◌≡◌, ℕ, ◌<◌, ◌↔◌, IsTrue, MatchOption, Some, length};
-ghost use Rattle.net_tables.specs.Routing.{Holds, eid_number};
-ghost use Rattle.net_tables.specs.Repositories.{places_of};
-ghost use Rattle.net_rules.specs.Superfluous.{NeedsItsLevel, NeedsItsPlaces, NeedsWhatItIsGiven, NeedsItsRank, NeedsRankBy};
-ghost use Rattle.net_rules.specs.PlanTables.{plans_value};
-ghost use Rattle.net_tables.specs.TwoPlans.{HasRowEver};
-ghost use Rattle.net_rules.specs.Spans.{IsInSpan};
-ghost use Rattle.net_rules.specs.Rules.{AtNodeOrEid};
-ghost use Rattle.net_rules.specs.Search.{IsFirstSpot};
+ghost use Rattle.net_tables.{specs.Routing.{Holds, eid_number}, specs.Repositories.{places_of}, specs.TwoPlans.{HasRowEver}};
+ghost use Rattle.net_rules.{specs.Superfluous.{NeedsItsLevel, NeedsItsPlaces, NeedsWhatItIsGiven, NeedsItsRank, NeedsRankBy}, specs.PlanTables.{plans_value}, specs.Spans.{IsInSpan}, specs.Rules.{AtNodeOrEid}, specs.Search.{IsFirstSpot}};
 
 use crate::node_ranges::NodeRanges;
 use crate::plans::Plans;
@@ -90,8 +84,7 @@ struct GivenRanks<'a> {
 
 impl<'a> Stretched for GivenRanks<'a> {
     ghost use Rattle.std.specs.Prelude.{ℕ, ◌↔◌, IsTrue};
-    ghost use Rattle.net_rules.specs.PlanTables.{plans_value};
-    ghost use Rattle.net_rules.specs.Superfluous.{NeedsRankBy};
+    ghost use Rattle.net_rules.{specs.PlanTables.{plans_value}, specs.Superfluous.{NeedsRankBy}};
 
     ghost Demand = { λ given e. NeedsRankBy (plans_value given.plans.now) given.node given.ranks e };
 

@@ -1,7 +1,6 @@
 //! The requests of an assignment (DSP0236, "Set Endpoint ID" and "Allocate Endpoint IDs"), with instance ID 0.
 ghost use Rattle.std.specs.Prelude.{◌≡◌};
-ghost use Rattle.mctp_control.specs.Headers.{header_value};
-ghost use Rattle.mctp_control.specs.Requests.{request_value};
+ghost use Rattle.mctp_control.{specs.Headers.{header_value}, specs.Requests.{request_value}};
 ghost use Rattle.net_sim.specs.Assignments.{plain_header, sets_eid, allocates_pool};
 
 use mctp_control::{

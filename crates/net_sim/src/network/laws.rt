@@ -1,11 +1,7 @@
 //! Laws of what a network plays. The functions do nothing: their contracts are the laws.
 ghost use Rattle.net_tables.specs.TwoPlans.{Tables};
 ghost use Rattle.net_runs.specs.Walkers.{WalkedState, WalkedEvent};
-ghost use Rattle.net_sim.specs.LackingRooms.{NetworkLacksRoom};
-ghost use Rattle.net_sim.specs.MemoryFree.{TakesNoRoom, NeverWants};
-ghost use Rattle.net_sim.specs.Networks.{network_value, checked_of};
-ghost use Rattle.net_sim.specs.SentRequests.{RequestsComeAsSent};
-ghost use Rattle.net_sim.specs.WalkedStanding.{StandsForWalked};
+ghost use Rattle.net_sim.{specs.LackingRooms.{NetworkLacksRoom}, specs.MemoryFree.{TakesNoRoom, NeverWants}, specs.Networks.{network_value, checked_of}, specs.SentRequests.{RequestsComeAsSent}, specs.WalkedStanding.{StandsForWalked}};
 
 use crate::network::Network;
 use pdr_repository::Terminus;

@@ -1,8 +1,7 @@
 //! One event of a network with walkers.
 ghost use Rattle.std.specs.Prelude.{◌≡◌, OnErr, None};
 ghost use Rattle.net_runs.specs.Walkers.{Happened};
-ghost use Rattle.net_sim.specs.Effects.{effect_value};
-ghost use Rattle.net_sim.specs.Outcomes.{outcome_value};
+ghost use Rattle.net_sim.{specs.Effects.{effect_value}, specs.Outcomes.{outcome_value}};
 
 mod asking;
 mod beginning;
@@ -17,9 +16,7 @@ use plan_values::Event;
 use std::alloc::AllocError;
 
 impl<'a, T: Terminus> Network<'a, T> {
-    ghost use Rattle.net_sim.specs.Outcomes.{event_value};
-    ghost use Rattle.net_sim.specs.Networks.{checked_of, EndsInOutcome};
-    ghost use Rattle.net_sim.specs.LackingRooms.{NetworkLacksRoom};
+    ghost use Rattle.net_sim.{specs.Outcomes.{event_value}, specs.Networks.{checked_of, EndsInOutcome}, specs.LackingRooms.{NetworkLacksRoom}};
 
     /// Plays an event. Where memory runs out, nothing has changed.
     pub fn play(&mut self, event: &Event) -> Result<Outcome, AllocError>

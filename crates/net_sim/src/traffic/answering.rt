@@ -2,8 +2,7 @@
 ghost use Rattle.std.specs.Prelude.{◌≡◌, All, ◌+◌, ◌*◌, ◌-◌, ◌<◌, ◌≤◌, OnErr, length, Some, false};
 ghost use Rattle.mctp_transport.specs.Packets.{key_value};
 ghost use Rattle.net_runs.specs.States.{unit_of};
-ghost use Rattle.net_sim.specs.Flights.{slots_of, room_of};
-ghost use Rattle.net_sim.specs.Payloads.{IsRoomFor};
+ghost use Rattle.net_sim.{specs.Flights.{slots_of, room_of}, specs.Payloads.{IsRoomFor}};
 
 use super::Traffic;
 use crate::effect::Effect;
@@ -17,10 +16,7 @@ use std::alloc::AllocError;
 
 impl<'a, T: Terminus> Traffic<'a, T> {
     ghost use Rattle.net_runs.specs.Events.{most_flights, AnswerAt};
-    ghost use Rattle.net_sim.specs.Effects.{effect_value};
-    ghost use Rattle.net_sim.specs.Traffics.{EndsInEffect};
-    ghost use Rattle.net_sim.specs.Sending.{Sends};
-    ghost use Rattle.net_sim.specs.LackingRooms.{LacksRoom};
+    ghost use Rattle.net_sim.{specs.Effects.{effect_value}, specs.Traffics.{EndsInEffect}, specs.Sending.{Sends}, specs.LackingRooms.{LacksRoom}};
 
     /// Lets the terminus of a node answer the oldest message that waits there. Its answer is written into `out`.
     pub fn answer(

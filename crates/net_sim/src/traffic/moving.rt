@@ -37,11 +37,7 @@ struct Room {
 
 impl<'a, T: Terminus> Traffic<'a, T> {
     ghost use Rattle.net_runs.specs.Events.{most_flights, Move};
-    ghost use Rattle.net_sim.specs.Effects.{effect_value};
-    ghost use Rattle.net_sim.specs.Standing.{Receives, CarriesOutMove};
-    ghost use Rattle.net_sim.specs.Traffics.{traffic_value, HasRoomAt, HasEffect, EndsInEffect};
-    ghost use Rattle.net_sim.specs.Moves.{HasNumberFor, IsDecidedMove, IsRoomAt};
-    ghost use Rattle.net_sim.specs.LackingRooms.{LacksRoom};
+    ghost use Rattle.net_sim.{specs.Effects.{effect_value}, specs.Standing.{Receives, CarriesOutMove}, specs.Traffics.{traffic_value, HasRoomAt, HasEffect, EndsInEffect}, specs.Moves.{HasNumberFor, IsDecidedMove, IsRoomAt}, specs.LackingRooms.{LacksRoom}};
 
     /// What a move comes to, of a flight or of a copy of it, or why it is refused.
     pub fn decide(&self, number: u32, keep: bool) -> Result<DecidedMove, Refusal>

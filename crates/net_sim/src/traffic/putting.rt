@@ -2,8 +2,7 @@
 ghost use Rattle.std.specs.Prelude.{◌≡◌, ◌+◌, ◌-◌, ◌<◌, ◌≤◌, ◌++◌, OnErr, length, map, Some};
 ghost use Rattle.mctp_transport.specs.Packets.{key_value};
 ghost use Rattle.net_runs.specs.States.{Flight};
-ghost use Rattle.net_sim.specs.Flights.{slots_of, begun, room_of};
-ghost use Rattle.net_sim.specs.Payloads.{HaveRooms};
+ghost use Rattle.net_sim.{specs.Flights.{slots_of, begun, room_of}, specs.Payloads.{HaveRooms}};
 
 use super::Traffic;
 use crate::effect::Effect;
@@ -17,9 +16,7 @@ use std::alloc::AllocError;
 impl<'a, T: Terminus> Traffic<'a, T> {
     ghost use Rattle.net_runs.specs.Events.{most_flights, Put};
     ghost use Rattle.mctp_transport.specs.PacketsLeft.{frames_left};
-    ghost use Rattle.net_sim.specs.Traffics.{traffic_value, EndsInEffect};
-    ghost use Rattle.net_sim.specs.Sending.{PutsOne};
-    ghost use Rattle.net_sim.specs.LackingRooms.{LacksRoom};
+    ghost use Rattle.net_sim.{specs.Traffics.{traffic_value, EndsInEffect}, specs.Sending.{PutsOne}, specs.LackingRooms.{LacksRoom}};
 
     /// Puts the packet of these bytes in at a node.
     pub fn put(&mut self, node: usize, bytes: &[u8]) -> Result<Effect, AllocError>

@@ -8,12 +8,9 @@ use mctp_transport::{Eid, Key};
 use pdr_repository::Terminus;
 
 impl<'a, T: Terminus> Traffic<'a, T> {
-    ghost use Rattle.net_sim.specs.Standing.{HasNetworkState};
-    ghost use Rattle.net_sim.specs.Traffics.{traffic_value};
-    ghost use Rattle.net_runs.specs.States.{NetworkState};
+    ghost use Rattle.net_sim.{specs.Standing.{HasNetworkState}, specs.Traffics.{traffic_value}, specs.Settling.{IsClearAt}};
+    ghost use Rattle.net_runs.{specs.States.{NetworkState}, specs.ExactMessages.{IsSettled}};
     ghost use Rattle.net_tables.specs.Routing.{Holds};
-    ghost use Rattle.net_runs.specs.ExactMessages.{IsSettled};
-    ghost use Rattle.net_sim.specs.Settling.{IsClearAt};
 
     /// Whether no node with a terminus holds the endpoint ID.
     pub fn no_terminus_holds(&self, eid: Eid) -> bool

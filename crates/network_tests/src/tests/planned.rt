@@ -2,8 +2,7 @@
 ghost use Rattle.std.specs.Prelude.{◌≡◌, ◌≤◌, ◌∷◌, [], IsTrue, IfOk, IfSome, MatchOption, Some, None, length, map, take};
 ghost use Rattle.pdr_repository.specs.Records.{entries, IsLawful};
 ghost use Rattle.net_tables.specs.Repositories.{entry_of, terminus_of};
-ghost use Rattle.net_sim.specs.Dealing.{resting, planned_termini};
-ghost use Rattle.net_sim.specs.Outcomes.{event_value, outcome_value};
+ghost use Rattle.net_sim.{specs.Dealing.{resting, planned_termini}, specs.Outcomes.{event_value, outcome_value}};
 ghost use Rattle.network_tests.specs.Planned.{IsRunFromStart, IsAlone};
 
 use super::keys::THERE_AND_BACK;

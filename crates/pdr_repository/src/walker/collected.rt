@@ -1,8 +1,6 @@
 //! The records that a walker has collected, and their handles.
-ghost use Rattle.std.specs.Prelude.{◌≡◌, ◌<◌, ◌≤◌, ℕ, IsTrue, length, map, slice_index, vec_len, vec_capacity};
-ghost use Rattle.std.specs.List.Sorted.{IsNonDecreasing};
-ghost use Rattle.pdr_repository.specs.Records.{handle_in};
-ghost use Rattle.pdr_repository.specs.Handles.{AreHandlesOf};
+ghost use Rattle.std.{specs.Prelude.{◌≡◌, ◌<◌, ◌≤◌, ℕ, IsTrue, length, map, slice_index, vec_len, vec_capacity}, specs.List.Sorted.{IsNonDecreasing}};
+ghost use Rattle.pdr_repository.{specs.Records.{handle_in}, specs.Handles.{AreHandlesOf}};
 
 use super::pieces::handle_of;
 use std::alloc::{AllocError, Global};
@@ -41,8 +39,7 @@ fn comes_last(handles: &[u32], handle: u32) -> bool
 }
 
 impl Collected {
-    ghost use Rattle.std.specs.Prelude.{◌==◌, [], ◌∷◌, ◌++◌, OnOk, OnErr};
-    ghost use Rattle.std.specs.List.{list_any};
+    ghost use Rattle.std.{specs.Prelude.{◌==◌, [], ◌∷◌, ◌++◌, OnOk, OnErr}, specs.List.{list_any}};
     ghost use Rattle.pdr_repository.specs.Handles.{IsPlaceFor, StandsAt};
 
     /// No records.

@@ -15,8 +15,7 @@ pub(crate) struct Due {
 impl Due {
     ghost use Rattle.std.specs.Prelude.{◌≡◌};
     ghost use Rattle.pldm_message.specs.Pdrs.{IsPartRequest, get_pdr_request_bytes};
-    ghost use Rattle.pdr_repository.specs.Dues.{request_of};
-    ghost use Rattle.pdr_repository.specs.Walkers.{asked_under};
+    ghost use Rattle.pdr_repository.{specs.Dues.{request_of}, specs.Walkers.{asked_under}};
 
     /// The bytes of its request for at most `count` bytes, under an instance ID.
     pub(super) fn request(self, id: InstanceId, count: u16) -> [u8; GetPdrRequest::LENGTH]

@@ -1,8 +1,7 @@
 //! The tests of a part that a walker is given (DSP0248, section 26.2).
 ghost use Rattle.std.specs.Prelude.{◌≡◌, ◌≤◌, IsTrue, ◌↔◌, slice_index, map};
 ghost use Rattle.pldm_message.specs.PdrValues.{part};
-ghost use Rattle.pdr_repository.specs.Faults.{IsLast, HasWrongFlag, HasWrongSize, HasWrongCrc, HasWrongHandle, HasDoubledHandle, IsTooMuch, Judges};
-ghost use Rattle.pdr_repository.specs.Dues.{request_of, room};
+ghost use Rattle.pdr_repository.{specs.Faults.{IsLast, HasWrongFlag, HasWrongSize, HasWrongCrc, HasWrongHandle, HasDoubledHandle, IsTooMuch, Judges}, specs.Dues.{request_of, room}};
 
 use super::collected::Collected;
 use super::due::Due;

@@ -1,9 +1,7 @@
 //! A walk over a terminus, from its first record to its last.
 ghost use Rattle.std.specs.Prelude.{◌≡◌, ◌≤◌, ℕ, false, length, IfOk, IfErr};
 ghost use Rattle.pldm_message.specs.InstanceIdValues.{ids_of};
-ghost use Rattle.pdr_repository.specs.ListTermini.{list_records};
-ghost use Rattle.pdr_repository.specs.Records.{IsLawful};
-ghost use Rattle.pdr_repository.specs.WalkerStates.{state_of};
+ghost use Rattle.pdr_repository.{specs.ListTermini.{list_records}, specs.Records.{IsLawful}, specs.WalkerStates.{state_of}};
 ghost use Rattle.plan_commands.specs.Collecting.{Goes, EndsEarlyFor, HasCollected};
 
 use arrayvec::ArrayVec;

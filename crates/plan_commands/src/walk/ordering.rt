@@ -2,8 +2,7 @@
 ghost use Rattle.std.specs.Prelude.{◌≡◌, ◌≤◌, Some, length, IfOk};
 ghost use Rattle.net_tables.specs.Repositories.{terminus_of, records_by_place};
 ghost use Rattle.net_rules.specs.Rules.{Accepts};
-ghost use Rattle.pdr_repository.specs.ListTermini.{list_records};
-ghost use Rattle.pdr_repository.specs.Records.{IsLawful};
+ghost use Rattle.pdr_repository.{specs.ListTermini.{list_records}, specs.Records.{IsLawful}};
 
 use command_answers::records_by_place;
 use pdr_repository::ListTerminus;

@@ -1,6 +1,5 @@
 //! What is red in a drawing: the loop that rules certificates out.
-ghost use Rattle.std.specs.Prelude.{◌≡◌, ◌==◌, IfOk, codes, option_map, if◌then◌else◌};
-ghost use Rattle.std.specs.List.{list_any};
+ghost use Rattle.std.{specs.Prelude.{◌≡◌, ◌==◌, IfOk, codes, option_map, if◌then◌else◌}, specs.List.{list_any}};
 ghost use Rattle.plan_texts.specs.Drawings.{hops_along, loop_hops, loop_nodes, owner_loop_nodes};
 
 use mctp_transport::Eid;

@@ -1,6 +1,5 @@
 //! The lines that tell how nodes get from the rows of one plan to those of another.
-ghost use Rattle.std.specs.Prelude.{◌≡◌, Some, IfOk, string_bytes};
-ghost use Rattle.std.specs.List.{flat_map};
+ghost use Rattle.std.{specs.Prelude.{◌≡◌, Some, IfOk, string_bytes}, specs.List.{flat_map}};
 ghost use Rattle.plan_texts.specs.MoveSteps.{change_text, eids_text, part_text, rollout_text, steps_text, switch_text};
 
 use super::super::names_after_spaces;

@@ -1,13 +1,11 @@
 //! What a text of events is for the walk that is asked for: it is read and played once more, whoever made it.
 ghost use Rattle.std.specs.Prelude.{◌≡◌, ◌≢◌, ◌↔◌, IfOk, IfErr, IsTrue, MatchBool, length, map, option_map};
 ghost use Rattle.net_runs.specs.Walkers.{BeginWalk};
-ghost use Rattle.net_sim.specs.Effects.{effect_value};
-ghost use Rattle.net_sim.specs.Outcomes.{event_value, handed_value, outcome_value};
-ghost use Rattle.net_tables.specs.Repositories.{records_of};
-ghost use Rattle.net_tables.specs.Routing.{Holds};
+ghost use Rattle.net_sim.{specs.Effects.{effect_value}, specs.Outcomes.{event_value, handed_value, outcome_value}};
+ghost use Rattle.net_tables.{specs.Repositories.{records_of}, specs.Routing.{Holds}};
+ghost use Rattle.play_commands.specs.Scripting.{AreOfWalk, ArePlayed, EndsWith, FailsBy, HasRecords, IsDone, IsJudged, IsObstacle, IsOfWalk, IsStuck};
 ghost use Rattle.net_plan.specs.declared.error.PlanError.TheVariants as error_of;
 ghost use Rattle.command_answers.specs.declared.refused.Refused.TheVariants as refused;
-ghost use Rattle.play_commands.specs.Scripting.{AreOfWalk, ArePlayed, EndsWith, FailsBy, HasRecords, IsDone, IsJudged, IsObstacle, IsOfWalk, IsStuck};
 
 use crate::script::course::{TAG, WALKER};
 use crate::script::making::MOST_EVENTS;

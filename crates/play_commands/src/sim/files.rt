@@ -2,9 +2,8 @@
 ghost use Rattle.std.specs.Prelude.{◌≡◌, IfOk, IfErr, map};
 ghost use Rattle.net_plan.specs.Stream.{HasRoom};
 ghost use Rattle.net_sim.specs.Outcomes.{event_value};
-ghost use Rattle.command_answers.specs.Answers.{stream, IsWithoutPlan, AreGiven, AreWithoutCertificate, IsFaultText};
+ghost use Rattle.command_answers.{specs.Answers.{stream, IsWithoutPlan, AreGiven, AreWithoutCertificate, IsFaultText}, specs.Inputs.{GaveEvents}};
 ghost use Rattle.play_commands.specs.Simulating.{RunsOn, IsPlayText, AreUnreadAmong, PlaysSo, ConcludesPlay, TellsRun, IsSimFault, IsSimAnswer};
-ghost use Rattle.command_answers.specs.Inputs.{GaveEvents};
 
 use crate::sim::{end, play_planned};
 use command_answers::{Refused, Status, fault_answer, give, given_events, read_inputs};

@@ -2,10 +2,8 @@
 ghost use Rattle.std.specs.Prelude.{◌≡◌, IfOk, IfErr, map};
 ghost use Rattle.net_plan.specs.Stream.{HasRoom};
 ghost use Rattle.net_sim.specs.Outcomes.{event_value};
-ghost use Rattle.command_answers.specs.Answers.{stream, IsWithoutPlan};
-ghost use Rattle.command_answers.specs.Moves.{AreWithoutMoveCertificate, IsMoveFaultText};
-ghost use Rattle.play_commands.specs.MoveSimulating.{IsPlayGiven, MovesOn, IsMovePlayText, TellsMovedRun, IsPlayFault, IsPlayAnswer, IsPlayUnread};
-ghost use Rattle.play_commands.specs.Simulating.{PlaysSo, ConcludesPlay};
+ghost use Rattle.command_answers.{specs.Answers.{stream, IsWithoutPlan}, specs.Moves.{AreWithoutMoveCertificate, IsMoveFaultText}};
+ghost use Rattle.play_commands.{specs.MoveSimulating.{IsPlayGiven, MovesOn, IsMovePlayText, TellsMovedRun, IsPlayFault, IsPlayAnswer, IsPlayUnread}, specs.Simulating.{PlaysSo, ConcludesPlay}};
 
 use crate::sim::{end, play_planned};
 use command_answers::{Refused, Status, give, given_events, move_fault_answer, read_move};

@@ -1,8 +1,7 @@
 use Rattle.std.proofs.Common.{rules}
 use Rattle.json.specs.Value.{value_view}
 use Rattle.net_pointers.specs.Asks.{sort_of}
-use Rattle.reading_texts.specs.TextErrors.{IsFaultOfValue}
-use Rattle.reading_texts.proofs.TextErrors.{fault_told}
+use Rattle.reading_texts.{specs.TextErrors.{IsFaultOfValue}, proofs.TextErrors.{fault_told}}
 use Rattle.reading_texts.proofs.sound_value.Goals as goal
 
 pub returns-in-Ok-Some-clause-refused : goal.returns-in-Ok-Some-clause-refused

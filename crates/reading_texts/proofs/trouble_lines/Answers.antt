@@ -1,8 +1,6 @@
-use Rattle.std.proofs.Common.{string_bytes, sym, subst}
-use Rattle.std.specs.Prelude.{IfOk}
+use Rattle.std.{proofs.Common.{string_bytes, sym, subst}, specs.Prelude.{IfOk}}
 use Rattle.json.specs.Value.{value_view}
-use Rattle.net_pointers.specs.Asks.{sort_of}
-use Rattle.net_pointers.specs.declared.order.Trouble.{Trouble}
+use Rattle.net_pointers.{specs.Asks.{sort_of}, specs.declared.order.Trouble.{Trouble}}
 use Rattle.reading_texts.specs.TroubleLines.{AreLines}
 use Rattle.reading_texts.proofs.trouble_lines.Goals as goal
 

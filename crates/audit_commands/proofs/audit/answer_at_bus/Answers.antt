@@ -1,5 +1,4 @@
-use Rattle.std.proofs.Common.{refl}
-use Rattle.std.specs.Prelude.{option_map}
+use Rattle.std.{proofs.Common.{refl}, specs.Prelude.{option_map}}
 use Rattle.command_answers.specs.Answers.{stream}
 use Rattle.audit_commands.proofs.Audited.{at_bus, no_bus}
 use Rattle.audit_commands.proofs.audit.answer_at_bus.Goals as goal

@@ -4,8 +4,8 @@ use Rattle.audit_commands.proofs.audit.answer_bytes.Goals as goal
 
 pub returns-in-Ok-clause-answers : goal.returns-in-Ok-clause-answers
 returns-in-Ok-clause-answers c =
-    checked_so c.args.plan.now c.args.certificate.now c.args.bus c.in-Ok.checked c.args.bytes.now c.audited.result c.in-Ok.ensures.checked c.in-Ok.ensures.accepted
-    c.audited.ensures.answers
+    checked_so c.args.plan.now c.args.certificate.now c.args.bus c.in-Ok.checked c.args.bytes.now c.answer_checked.result c.in-Ok.ensures.checked c.in-Ok.ensures.accepted
+    c.answer_checked.ensures.answers
 
 pub returns-in-Err-clause-answers : goal.returns-in-Err-clause-answers
 returns-in-Err-clause-answers c =

@@ -1,11 +1,8 @@
-use Rattle.std.proofs.Common.{List, ◌∷◌, [], sym, subst, ap, ◌∙◌}
-use Rattle.std.proofs.lemmas.List.{map-append}
-use Rattle.plan_values.specs.declared.certificate.Certificate.{Certificate}
-use Rattle.plan_values.specs.declared.plan.Plan.{Plan}
+use Rattle.std.{proofs.Common.{List, ◌∷◌, [], sym, subst, ap, ◌∙◌}, proofs.lemmas.List.{map-append}}
+use Rattle.plan_values.{specs.declared.certificate.Certificate.{Certificate}, specs.declared.plan.Plan.{Plan}}
 use Rattle.net_tables.specs.Repositories.{records_by_place}
 use Rattle.pdr_repository.specs.Records.{Entry, entries}
-use Rattle.audited_captures.specs.Audits.{AreRepositories}
-use Rattle.audited_captures.specs.Repositories.{repository_values}
+use Rattle.audited_captures.{specs.Audits.{AreRepositories}, specs.Repositories.{repository_values}}
 use Rattle.audit_commands.proofs.Stored.{none_stored, more_stored}
 use Rattle.audit_commands.proofs.repositories.repositories_of.Goals as goal
 

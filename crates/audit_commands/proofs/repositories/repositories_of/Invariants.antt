@@ -1,5 +1,4 @@
-use Rattle.audited_captures.specs.Audits.{AreRepositories}
-use Rattle.audited_captures.specs.Repositories.{repository_values}
+use Rattle.audited_captures.{specs.Audits.{AreRepositories}, specs.Repositories.{repository_values}}
 use Rattle.audit_commands.proofs.repositories.repositories_of.Given as goal
 
 abbrev pub invariant-loop-node : goal.invariant-loop-node

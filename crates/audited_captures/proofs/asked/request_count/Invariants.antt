@@ -1,6 +1,5 @@
 use Rattle.std.proofs.Common.{◌≡◌, ◌≤◌, length, map, take}
-use Rattle.audited_captures.specs.Asked.{requests_to}
-use Rattle.audited_captures.specs.Words.{word_value}
+use Rattle.audited_captures.{specs.Asked.{requests_to}, specs.Words.{word_value}}
 use Rattle.audited_captures.proofs.asked.request_count.Given as goal
 
 abbrev pub invariant-loop-word : goal.invariant-loop-word

@@ -1,13 +1,7 @@
 use Rattle.std.proofs.Common.{◌≡◌, ◌∙◌, ap, map}
 use Rattle.mctp_control.specs.RouteEntries.{entry_value}
 use Rattle.plan_values.specs.NodeValues.{name_bytes}
-use Rattle.audited_captures.specs.Exchanges.{exchange_value}
-use Rattle.audited_captures.specs.Answers.{answer_values}
-use Rattle.audited_captures.specs.Lines.{line_value}
-use Rattle.audited_captures.specs.Readings.{part_value, parts_of}
-use Rattle.audited_captures.specs.Routes.{routes_lines}
-use Rattle.audited_captures.specs.Identities.{answers_of, eid_lines, pool_lines, first_of, size_of, kind_number}
-use Rattle.audited_captures.proofs.AuditLaws.{joined}
+use Rattle.audited_captures.{specs.Exchanges.{exchange_value}, specs.Answers.{answer_values}, specs.Lines.{line_value}, specs.Readings.{part_value, parts_of}, specs.Routes.{routes_lines}, specs.Identities.{answers_of, eid_lines, pool_lines, first_of, size_of, kind_number}, proofs.AuditLaws.{joined}}
 use Rattle.audited_captures.proofs.audits.answered_lines.Goals as goal
 
 pub returns : goal.returns

@@ -1,20 +1,8 @@
-use Rattle.std.proofs.Common.{◌≡◌, ◌∙◌, ℕ, ap, sym, List, subst, map}
-use Rattle.std.proofs.lemmas.Option.{slice_get-get_or, slice_get-map}
-use Rattle.std.specs.Prelude.{IfOk, slice_get, Some, option_map}
-use Rattle.mctp_control.specs.RouteEntries.{entry_value}
-use Rattle.mctp_control.specs.declared.route_entry.RouteEntry.{RouteEntry}
+use Rattle.std.{proofs.Common.{◌≡◌, ◌∙◌, ℕ, ap, sym, List, subst, map}, proofs.lemmas.Option.{slice_get-get_or, slice_get-map}, specs.Prelude.{IfOk, slice_get, Some, option_map}}
+use Rattle.mctp_control.{specs.RouteEntries.{entry_value}, specs.declared.route_entry.RouteEntry.{RouteEntry}}
 use Rattle.pdr_repository.specs.Records.{entries}
-use Rattle.audited_captures.specs.Audits.{heard_of, lines_of_node}
-use Rattle.audited_captures.specs.Exchanges.{exchange_value}
-use Rattle.audited_captures.specs.Lines.{line_value}
-use Rattle.audited_captures.specs.Asked.{unanswered}
-use Rattle.audited_captures.specs.RecordParts.{record_part_value}
-use Rattle.audited_captures.specs.Repositories.{repository_values}
-use Rattle.audited_captures.specs.Walks.{AreWalksLines}
-use Rattle.audited_captures.specs.declared.record_parts.RecordPart.{RecordPart}
+use Rattle.audited_captures.{specs.Audits.{heard_of, lines_of_node}, specs.Exchanges.{exchange_value}, specs.Lines.{line_value}, specs.Asked.{unanswered}, specs.RecordParts.{record_part_value}, specs.Repositories.{repository_values}, specs.Walks.{AreWalksLines}, specs.declared.record_parts.RecordPart.{RecordPart}, specs.Words.{word_value}, proofs.AuditLaws.{of_node}}
 use Rattle.plan_values.specs.NodeValues.{name_bytes}
-use Rattle.audited_captures.specs.Words.{word_value}
-use Rattle.audited_captures.proofs.AuditLaws.{of_node}
 use Rattle.audited_captures.proofs.audits.lines_of_node.Goals as goal
 
 pub returns : goal.returns

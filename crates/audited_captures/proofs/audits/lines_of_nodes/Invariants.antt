@@ -1,11 +1,7 @@
-use Rattle.std.proofs.Common.{map}
-use Rattle.audited_captures.specs.Audits.{AreLines, heard_of}
-use Rattle.audited_captures.specs.Exchanges.{exchange_value}
-use Rattle.audited_captures.specs.Lines.{line_value}
-use Rattle.audited_captures.specs.Repositories.{repository_values}
-use Rattle.audited_captures.specs.Words.{word_value}
+use Rattle.std.proofs.Common.{map, ◌≤◌}
+use Rattle.audited_captures.{specs.Audits.{AreLines, heard_of}, specs.Exchanges.{exchange_value}, specs.Lines.{line_value}, specs.Repositories.{repository_values}, specs.Words.{word_value}}
 use Rattle.audited_captures.proofs.audits.lines_of_nodes.Given as goal
 
 abbrev pub invariant-loop-n : goal.invariant-loop-n
 invariant-loop-n l =
-    AreLines l.plan (repository_values l.repositories) (heard_of (map word_value l.words) (map exchange_value l.exchanges)) l.n (map line_value l.lines.items)
+    AreLines l.plan (repository_values l.repositories) (heard_of (map word_value l.words) (map exchange_value l.exchanges)) l.n (map line_value l.lines.items) l.count × (l.count ≤ l.n)

@@ -1,5 +1,4 @@
-use Rattle.std.proofs.Common.{◌≡◌, ◌∷◌, [], ℕ, List, subst, map}
-use Rattle.std.specs.Prelude.{IfOk}
+use Rattle.std.{proofs.Common.{◌≡◌, ◌∷◌, [], ℕ, List, subst, map}, specs.Prelude.{IfOk}}
 use Rattle.audited_captures.specs.Lines.{line_value, silence}
 use Rattle.audited_captures.proofs.audits.quiet_lines.Goals as goal
 

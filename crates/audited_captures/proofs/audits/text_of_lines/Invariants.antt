@@ -1,8 +1,5 @@
-use Rattle.std.proofs.Common.{◌≡◌, map, take}
-use Rattle.std.specs.Prelude.{string_bytes}
-use Rattle.std.specs.List.{flat_map}
-use Rattle.audited_captures.specs.Lines.{line_value}
-use Rattle.audited_captures.specs.Audits.{text_line}
+use Rattle.std.{proofs.Common.{◌≡◌, map, take}, specs.Prelude.{string_bytes}, specs.List.{flat_map}}
+use Rattle.audited_captures.{specs.Lines.{line_value}, specs.Audits.{text_line}}
 use Rattle.audited_captures.proofs.audits.text_of_lines.Given as goal
 
 abbrev pub invariant-loop-line : goal.invariant-loop-line

@@ -1,11 +1,6 @@
-use Rattle.std.proofs.Common.{rules, ◌≡◌, ◌<◌, ◌≤◌, ◌+◌, [], List, ℕ, length, slice_index_or, slice_set, subst, sym, ap, ◌∙◌, map, take, arith}
-use Rattle.std.proofs.lemmas.List.{length-map, length-take}
-use Rattle.audited_captures.specs.Counts.{AreCounts, place_of}
-use Rattle.audited_captures.specs.Packets.{numbered_packet, count_like, AreFirst}
+use Rattle.std.{proofs.Common.{rules, ◌≡◌, ◌<◌, ◌≤◌, ◌+◌, [], List, ℕ, length, slice_index_or, slice_set, subst, sym, ap, ◌∙◌, map, take, arith}, proofs.lemmas.List.{length-map, length-take}}
+use Rattle.audited_captures.{specs.Counts.{AreCounts, place_of}, specs.Packets.{numbered_packet, count_like, AreFirst}, specs.declared.packets.CapturedPacket.{CapturedPacket}, proofs.PacketLaws.{none_counted, next_counts, next_first, count_within}, proofs.WordLaws.{mapped_more}}
 use Rattle.audited_captures.specs.Packets as packets
-use Rattle.audited_captures.specs.declared.packets.CapturedPacket.{CapturedPacket}
-use Rattle.audited_captures.proofs.PacketLaws.{none_counted, next_counts, next_first, count_within}
-use Rattle.audited_captures.proofs.WordLaws.{mapped_more}
 use Rattle.audited_captures.proofs.counts.first_packets.Goals as goal
 
 few_enough : (held counted long i : ℕ) → held ≡ counted → counted ≤ long → long ≤ i → i < 18446744073709551615 → held < 18446744073709551615

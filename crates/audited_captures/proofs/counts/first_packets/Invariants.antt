@@ -1,6 +1,5 @@
 use Rattle.std.proofs.Common.{map, take}
-use Rattle.audited_captures.specs.Counts.{AreCounts}
-use Rattle.audited_captures.specs.Packets.{numbered_packet, AreFirst}
+use Rattle.audited_captures.{specs.Counts.{AreCounts}, specs.Packets.{numbered_packet, AreFirst}}
 use Rattle.audited_captures.proofs.counts.first_packets.Given as goal
 
 abbrev pub invariant-loop-packet : goal.invariant-loop-packet

@@ -1,8 +1,5 @@
-use Rattle.std.proofs.Common.{◌++◌, [], List, subst, sym, ◌∙◌, ap, map}
-use Rattle.std.specs.Prelude.{option_to_list}
-use Rattle.audited_captures.specs.Exchanges.{exchange_value, AreExchanges, Empty}
-use Rattle.audited_captures.specs.declared.exchanges.Exchange.{Exchange}
-use Rattle.audited_captures.proofs.ExchangeLaws.{next_exchange}
+use Rattle.std.{proofs.Common.{◌++◌, [], List, subst, sym, ◌∙◌, ap, map}, specs.Prelude.{option_to_list}}
+use Rattle.audited_captures.{specs.Exchanges.{exchange_value, AreExchanges, Empty}, specs.declared.exchanges.Exchange.{Exchange}, proofs.ExchangeLaws.{next_exchange}}
 use Rattle.audited_captures.proofs.exchanges.exchanges_of.Goals as goal
 
 pub loop-i-init : goal.loop-i-init

@@ -1,6 +1,5 @@
 use Rattle.std.proofs.Common.{map, take}
-use Rattle.audited_captures.specs.Words.{word_value}
-use Rattle.audited_captures.specs.Exchanges.{exchange_value, AreExchanges}
+use Rattle.audited_captures.{specs.Words.{word_value}, specs.Exchanges.{exchange_value, AreExchanges}}
 use Rattle.audited_captures.proofs.exchanges.exchanges_of.Given as goal
 
 abbrev pub invariant-loop-i : goal.invariant-loop-i

@@ -1,7 +1,5 @@
 use Rattle.std.proofs.Common.{sym, ◌∙◌, arith}
-use Rattle.audited_captures.specs.Words.{word_value}
-use Rattle.audited_captures.specs.Exchanges.{concerns}
-use Rattle.audited_captures.proofs.ExchangeLaws.{last_passes, last_fails}
+use Rattle.audited_captures.{specs.Words.{word_value}, specs.Exchanges.{concerns}, proofs.ExchangeLaws.{last_passes, last_fails}}
 use Rattle.audited_captures.proofs.exchanges.last_concerned.Goals as goal
 
 pub returns-then-concerns : goal.returns-then-concerns

@@ -1,6 +1,5 @@
 use Rattle.std.proofs.Common.{◌≡◌, ◌≤◌, map, take, length}
-use Rattle.audited_captures.specs.Words.{word_value}
-use Rattle.audited_captures.specs.Exchanges.{concerns, last_that}
+use Rattle.audited_captures.{specs.Words.{word_value}, specs.Exchanges.{concerns, last_that}}
 use Rattle.audited_captures.proofs.exchanges.last_concerned.Given as goal
 
 abbrev pub invariant-loop-at : goal.invariant-loop-at

@@ -1,5 +1,4 @@
-use Rattle.std.proofs.Common.{◌≡◌, take}
-use Rattle.std.specs.Prelude.{string_bytes}
+use Rattle.std.{proofs.Common.{◌≡◌, take}, specs.Prelude.{string_bytes}}
 use Rattle.audited_captures.specs.Failures.{failed_text}
 use Rattle.audited_captures.proofs.failures.failed_text.Given as goal
 

@@ -1,6 +1,5 @@
 use Rattle.std.proofs.Common.{◌≡◌, map, take}
-use Rattle.audited_captures.specs.Failures.{failures_in}
-use Rattle.audited_captures.specs.Readings.{part_value}
+use Rattle.audited_captures.{specs.Failures.{failures_in}, specs.Readings.{part_value}}
 use Rattle.audited_captures.proofs.failures.failures_in.Given as goal
 
 abbrev pub invariant-loop-part : goal.invariant-loop-part

@@ -1,7 +1,5 @@
 use Rattle.std.proofs.Common.{◌≡◌, map, take}
-use Rattle.audited_captures.specs.Answers.{answer_values}
-use Rattle.audited_captures.specs.Exchanges.{exchange_value}
-use Rattle.audited_captures.specs.Identities.{answers_of}
+use Rattle.audited_captures.{specs.Answers.{answer_values}, specs.Exchanges.{exchange_value}, specs.Identities.{answers_of}}
 use Rattle.audited_captures.proofs.identities.answers_of.Given as goal
 
 abbrev pub invariant-loop-exchange : goal.invariant-loop-exchange

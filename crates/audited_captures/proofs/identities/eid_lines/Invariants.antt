@@ -1,8 +1,5 @@
-use Rattle.std.proofs.Common.{◌≡◌, map, take}
-use Rattle.std.specs.List.{flat_map, list_any}
-use Rattle.audited_captures.specs.Answers.{answer_values}
-use Rattle.audited_captures.specs.Lines.{line_value}
-use Rattle.audited_captures.specs.Identities.{identity_lines, tells_eid, kind_number}
+use Rattle.std.{proofs.Common.{◌≡◌, map, take}, specs.List.{flat_map, list_any}}
+use Rattle.audited_captures.{specs.Answers.{answer_values}, specs.Lines.{line_value}, specs.Identities.{identity_lines, tells_eid, kind_number}}
 use Rattle.audited_captures.proofs.identities.eid_lines.Given as goal
 
 abbrev pub invariant-loop-answer : goal.invariant-loop-answer

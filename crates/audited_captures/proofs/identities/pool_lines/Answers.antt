@@ -1,8 +1,5 @@
-use Rattle.std.proofs.Common.{◌≡◌, ℕ, subst, map}
-use Rattle.std.specs.Prelude.{IfOk}
-use Rattle.audited_captures.specs.Answers.{answer_values}
-use Rattle.audited_captures.specs.Lines.{line_value}
-use Rattle.audited_captures.specs.Identities.{pool_lines, size_of}
+use Rattle.std.{proofs.Common.{◌≡◌, ℕ, subst, map}, specs.Prelude.{IfOk}}
+use Rattle.audited_captures.{specs.Answers.{answer_values}, specs.Lines.{line_value}, specs.Identities.{pool_lines, size_of}}
 use Rattle.audited_captures.proofs.identities.pool_lines.Goals as goal
 
 pub returns : goal.returns

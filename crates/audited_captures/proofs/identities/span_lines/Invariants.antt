@@ -1,8 +1,5 @@
-use Rattle.std.proofs.Common.{◌≡◌, map, take}
-use Rattle.std.specs.List.{flat_map, list_any}
-use Rattle.audited_captures.specs.Answers.{answer_values}
-use Rattle.audited_captures.specs.Lines.{line_value}
-use Rattle.audited_captures.specs.Identities.{pool_lines_of, tells_pool}
+use Rattle.std.{proofs.Common.{◌≡◌, map, take}, specs.List.{flat_map, list_any}}
+use Rattle.audited_captures.{specs.Answers.{answer_values}, specs.Lines.{line_value}, specs.Identities.{pool_lines_of, tells_pool}}
 use Rattle.audited_captures.proofs.identities.span_lines.Given as goal
 
 abbrev pub invariant-loop-answer : goal.invariant-loop-answer

@@ -1,7 +1,5 @@
 use Rattle.std.proofs.Common.{rules, ◌≡◌, ◌<◌, [], List, length, slice_index_or, subst, sym, map}
-use Rattle.audited_captures.specs.Packets.{numbered_packet, ArePackets, None}
-use Rattle.audited_captures.specs.declared.packets.CapturedPacket.{CapturedPacket}
-use Rattle.audited_captures.proofs.PacketLaws.{next_packet}
+use Rattle.audited_captures.{specs.Packets.{numbered_packet, ArePackets, None}, specs.declared.packets.CapturedPacket.{CapturedPacket}, proofs.PacketLaws.{next_packet}}
 use Rattle.audited_captures.proofs.packets.packets_of.Goals as goal
 
 pub loop-i-init : goal.loop-i-init

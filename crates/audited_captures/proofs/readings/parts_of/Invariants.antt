@@ -1,6 +1,5 @@
 use Rattle.std.proofs.Common.{◌≡◌, map, take}
-use Rattle.audited_captures.specs.Exchanges.{exchange_value}
-use Rattle.audited_captures.specs.Readings.{part_value, parts_of}
+use Rattle.audited_captures.{specs.Exchanges.{exchange_value}, specs.Readings.{part_value, parts_of}}
 use Rattle.audited_captures.proofs.readings.parts_of.Given as goal
 
 abbrev pub invariant-loop-exchange : goal.invariant-loop-exchange

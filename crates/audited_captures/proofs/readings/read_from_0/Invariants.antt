@@ -1,7 +1,5 @@
 use Rattle.std.proofs.Common.{map, drop}
-use Rattle.audited_captures.specs.Readings.{part_value}
-use Rattle.audited_captures.specs.Turns.{entry_values}
-use Rattle.audited_captures.proofs.ReadingLaws.{IsLeft}
+use Rattle.audited_captures.{specs.Readings.{part_value}, specs.Turns.{entry_values}, proofs.ReadingLaws.{IsLeft}}
 use Rattle.audited_captures.proofs.readings.read_from_0.Given as goal
 
 abbrev pub invariant-loop-part : goal.invariant-loop-part

@@ -1,5 +1,4 @@
-use Rattle.std.proofs.Common.{◌≢◌, length, map, sym, ◌∙◌}
-use Rattle.std.proofs.lemmas.List.{length-map}
+use Rattle.std.{proofs.Common.{◌≢◌, length, map, sym, ◌∙◌}, proofs.lemmas.List.{length-map}}
 use Rattle.pdr_repository.specs.Records.{entry_of, entries}
 use Rattle.audited_captures.proofs.RecordLaws.{other_length}
 use Rattle.audited_captures.proofs.record_lines.are_planned.Goals as goal

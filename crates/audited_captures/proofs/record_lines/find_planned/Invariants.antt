@@ -1,5 +1,4 @@
-use Rattle.std.proofs.Common.{◌≡◌, ◌==◌, drop}
-use Rattle.std.specs.Prelude.{find}
+use Rattle.std.{proofs.Common.{◌≡◌, ◌==◌, drop}, specs.Prelude.{find}}
 use Rattle.pdr_repository.specs.Records.{Entry, entries}
 use Rattle.audited_captures.proofs.record_lines.find_planned.Given as goal
 

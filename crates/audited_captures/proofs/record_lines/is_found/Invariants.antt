@@ -1,5 +1,4 @@
-use Rattle.std.proofs.Common.{◌≡◌, ◌==◌, drop, map, List, ℕ}
-use Rattle.std.specs.List.{list_any}
+use Rattle.std.{proofs.Common.{◌≡◌, ◌==◌, drop, map, List, ℕ}, specs.List.{list_any}}
 use Rattle.pdr_repository.specs.Records.{handle_in}
 use Rattle.audited_captures.proofs.record_lines.is_found.Given as goal
 

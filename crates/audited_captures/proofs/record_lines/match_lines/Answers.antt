@@ -1,8 +1,5 @@
-use Rattle.std.proofs.Common.{◌≡◌, ◌∷◌, [], ℕ, List, subst, map, string_bytes}
-use Rattle.std.specs.Prelude.{IfOk}
-use Rattle.audited_captures.specs.Lines.{line_value, note, differences_or}
-use Rattle.audited_captures.specs.RecordLines.{records_match}
-use Rattle.audited_captures.specs.declared.lines.Line.{Line}
+use Rattle.std.{proofs.Common.{◌≡◌, ◌∷◌, [], ℕ, List, subst, map, string_bytes}, specs.Prelude.{IfOk}}
+use Rattle.audited_captures.{specs.Lines.{line_value, note, differences_or}, specs.RecordLines.{records_match}, specs.declared.lines.Line.{Line}}
 use Rattle.audited_captures.proofs.record_lines.match_lines.Goals as goal
 
 pub returns : goal.returns

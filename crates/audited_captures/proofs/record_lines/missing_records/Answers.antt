@@ -1,6 +1,5 @@
 use Rattle.std.proofs.Common.{rules, ◌≡◌, ◌<◌, length, slice_index_or, map}
-use Rattle.audited_captures.specs.Lines.{line_value}
-use Rattle.audited_captures.proofs.RecordLaws.{next_missing}
+use Rattle.audited_captures.{specs.Lines.{line_value}, proofs.RecordLaws.{next_missing}}
 use Rattle.audited_captures.proofs.record_lines.missing_records.Goals as goal
 
 pub loop-listed-preserved : goal.loop-listed-preserved

@@ -1,8 +1,6 @@
-use Rattle.std.proofs.Common.{◌≡◌, map, take}
-use Rattle.std.specs.List.{flat_map}
+use Rattle.std.{proofs.Common.{◌≡◌, map, take}, specs.List.{flat_map}}
 use Rattle.pdr_repository.specs.Records.{entries}
-use Rattle.audited_captures.specs.Lines.{line_value}
-use Rattle.audited_captures.specs.RecordLines.{missing_lines}
+use Rattle.audited_captures.{specs.Lines.{line_value}, specs.RecordLines.{missing_lines}}
 use Rattle.audited_captures.proofs.record_lines.missing_records.Given as goal
 
 abbrev pub invariant-loop-listed : goal.invariant-loop-listed

@@ -1,6 +1,4 @@
-use Rattle.std.proofs.Common.{rules, ◌≡◌, ◌++◌, List, ℕ, subst, string_bytes}
-use Rattle.std.specs.Prelude.{IfOk, codes}
-use Rattle.std.specs.Fmt.{decimal}
+use Rattle.std.{proofs.Common.{rules, ◌≡◌, ◌++◌, List, ℕ, subst, string_bytes}, specs.Prelude.{IfOk, codes}, specs.Fmt.{decimal}}
 use Rattle.audited_captures.proofs.record_lines.stopped_text.Goals as goal
 
 pub returns : goal.returns

@@ -1,7 +1,6 @@
 use Rattle.std.proofs.Common.{◌≡◌, map, take}
 use Rattle.pdr_repository.specs.Records.{entries}
-use Rattle.audited_captures.specs.Lines.{line_value}
-use Rattle.audited_captures.specs.RecordLines.{unlike_records}
+use Rattle.audited_captures.{specs.Lines.{line_value}, specs.RecordLines.{unlike_records}}
 use Rattle.audited_captures.proofs.record_lines.unlike_records.Given as goal
 
 abbrev pub invariant-loop-brought : goal.invariant-loop-brought

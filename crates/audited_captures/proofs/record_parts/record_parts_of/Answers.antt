@@ -1,8 +1,5 @@
-use Rattle.std.proofs.Common.{◌++◌, [], List, subst, sym, ◌∙◌, ap, map}
-use Rattle.std.specs.Prelude.{option_to_list}
-use Rattle.audited_captures.specs.RecordParts.{record_part_value, AreRecordParts, Empty}
-use Rattle.audited_captures.specs.declared.record_parts.RecordPart.{RecordPart}
-use Rattle.audited_captures.proofs.PartLaws.{next_part}
+use Rattle.std.{proofs.Common.{◌++◌, [], List, subst, sym, ◌∙◌, ap, map}, specs.Prelude.{option_to_list}}
+use Rattle.audited_captures.{specs.RecordParts.{record_part_value, AreRecordParts, Empty}, specs.declared.record_parts.RecordPart.{RecordPart}, proofs.PartLaws.{next_part}}
 use Rattle.audited_captures.proofs.record_parts.record_parts_of.Goals as goal
 
 pub loop-i-init : goal.loop-i-init

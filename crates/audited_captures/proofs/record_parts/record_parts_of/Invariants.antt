@@ -1,6 +1,5 @@
 use Rattle.std.proofs.Common.{map, take}
-use Rattle.audited_captures.specs.Words.{word_value}
-use Rattle.audited_captures.specs.RecordParts.{record_part_value, AreRecordParts}
+use Rattle.audited_captures.{specs.Words.{word_value}, specs.RecordParts.{record_part_value, AreRecordParts}}
 use Rattle.audited_captures.proofs.record_parts.record_parts_of.Given as goal
 
 abbrev pub invariant-loop-i : goal.invariant-loop-i

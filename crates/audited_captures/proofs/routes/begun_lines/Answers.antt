@@ -1,13 +1,6 @@
-use Rattle.std.proofs.Common.{rules, ◌≡◌, List, subst, map}
-use Rattle.std.specs.Prelude.{IfOk, Some, slice_get}
-use Rattle.std.specs.Borrow.{Bor}
-use Rattle.mctp_control.specs.RouteEntries.{entry_value}
-use Rattle.mctp_control.specs.declared.route_entry.RouteEntry.{RouteEntry}
-use Rattle.audited_captures.specs.Lines.{LineValue, line_value}
-use Rattle.audited_captures.specs.Turns.{entry_values}
-use Rattle.audited_captures.specs.Readings.{Read, part_value, read_from}
-use Rattle.audited_captures.specs.Routes.{reading_lines}
-use Rattle.audited_captures.proofs.RouteLaws.{begun}
+use Rattle.std.{proofs.Common.{rules, ◌≡◌, List, subst, map}, specs.Prelude.{IfOk, Some, slice_get}, specs.Borrow.{Bor}}
+use Rattle.mctp_control.{specs.RouteEntries.{entry_value}, specs.declared.route_entry.RouteEntry.{RouteEntry}}
+use Rattle.audited_captures.{specs.Lines.{LineValue, line_value}, specs.Turns.{entry_values}, specs.Readings.{Read, part_value, read_from}, specs.Routes.{reading_lines}, proofs.RouteLaws.{begun}}
 use Rattle.audited_captures.proofs.routes.begun_lines.Goals as goal
 
 pub returns-in-Read : goal.returns-in-Read

@@ -1,11 +1,6 @@
-use Rattle.std.proofs.Common.{◌≡◌, ◌++◌, map, subst, List}
-use Rattle.std.specs.Borrow.{Bor}
-use Rattle.mctp_control.specs.RouteEntries.{entry_value}
-use Rattle.mctp_control.specs.declared.route_entry.RouteEntry.{RouteEntry}
-use Rattle.audited_captures.specs.Lines.{line_value}
-use Rattle.audited_captures.specs.Turns.{entry_values}
-use Rattle.audited_captures.specs.Routes.{lines_if_extra}
-use Rattle.audited_captures.proofs.RouteLaws.{next_extra}
+use Rattle.std.{proofs.Common.{◌≡◌, ◌++◌, map, subst, List}, specs.Borrow.{Bor}}
+use Rattle.mctp_control.{specs.RouteEntries.{entry_value}, specs.declared.route_entry.RouteEntry.{RouteEntry}}
+use Rattle.audited_captures.{specs.Lines.{line_value}, specs.Turns.{entry_values}, specs.Routes.{lines_if_extra}, proofs.RouteLaws.{next_extra}}
 use Rattle.audited_captures.proofs.routes.extra_lines.Goals as goal
 
 pub loop-i-preserved : goal.loop-i-preserved

@@ -1,8 +1,6 @@
 use Rattle.std.proofs.Common.{◌≡◌, ◌++◌, map, drop}
 use Rattle.mctp_control.specs.RouteEntries.{entry_value}
-use Rattle.audited_captures.specs.Lines.{line_value}
-use Rattle.audited_captures.specs.Turns.{entry_values}
-use Rattle.audited_captures.specs.Routes.{extra_lines}
+use Rattle.audited_captures.{specs.Lines.{line_value}, specs.Turns.{entry_values}, specs.Routes.{extra_lines}}
 use Rattle.audited_captures.proofs.routes.extra_lines.Given as goal
 
 abbrev pub invariant-loop-i : goal.invariant-loop-i

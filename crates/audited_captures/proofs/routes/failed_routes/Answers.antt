@@ -1,7 +1,5 @@
-use Rattle.std.proofs.Common.{rules, ◌≡◌, ◌++◌, ◌∙◌, ℕ, false, List, subst, map}
-use Rattle.std.specs.Prelude.{IfOk, codes}
-use Rattle.audited_captures.specs.Failures.{failed_lines}
-use Rattle.audited_captures.specs.Lines.{line_value}
+use Rattle.std.{proofs.Common.{rules, ◌≡◌, ◌++◌, ◌∙◌, ℕ, false, List, subst, map}, specs.Prelude.{IfOk, codes}}
+use Rattle.audited_captures.{specs.Failures.{failed_lines}, specs.Lines.{line_value}}
 use Rattle.audited_captures.proofs.routes.failed_routes.Goals as goal
 
 pub returns : goal.returns

@@ -1,8 +1,6 @@
-use Rattle.std.proofs.Common.{◌≡◌, drop}
-use Rattle.std.specs.Prelude.{find}
+use Rattle.std.{proofs.Common.{◌≡◌, drop}, specs.Prelude.{find}}
 use Rattle.mctp_control.specs.RouteEntries.{entry_value}
-use Rattle.audited_captures.specs.Turns.{entry_values}
-use Rattle.audited_captures.specs.Routes.{same_range}
+use Rattle.audited_captures.{specs.Turns.{entry_values}, specs.Routes.{same_range}}
 use Rattle.audited_captures.proofs.routes.find_range.Given as goal
 
 abbrev pub invariant-loop-entry : goal.invariant-loop-entry

@@ -1,11 +1,6 @@
-use Rattle.std.proofs.Common.{◌≡◌, ◌++◌, ◌∙◌, ap, map, List}
-use Rattle.std.proofs.lemmas.List.{map-append}
+use Rattle.std.{proofs.Common.{◌≡◌, ◌++◌, ◌∙◌, ap, map, List}, proofs.lemmas.List.{map-append}}
 use Rattle.mctp_control.specs.RouteEntries.{entry_value}
-use Rattle.audited_captures.specs.Lines.{line_value}
-use Rattle.audited_captures.specs.Readings.{part_value}
-use Rattle.audited_captures.specs.declared.readings.Part.{Part}
-use Rattle.audited_captures.specs.Routes.{begun_lines}
-use Rattle.audited_captures.proofs.RouteLaws.{next_begun}
+use Rattle.audited_captures.{specs.Lines.{line_value}, specs.Readings.{part_value}, specs.declared.readings.Part.{Part}, specs.Routes.{begun_lines}, proofs.RouteLaws.{next_begun}}
 use Rattle.audited_captures.proofs.routes.readings_lines.Goals as goal
 
 pub loop-i-preserved : goal.loop-i-preserved

@@ -1,8 +1,6 @@
 use Rattle.std.proofs.Common.{◌≡◌, ◌++◌, map, drop}
 use Rattle.mctp_control.specs.RouteEntries.{entry_value}
-use Rattle.audited_captures.specs.Lines.{line_value}
-use Rattle.audited_captures.specs.Readings.{part_value, readings}
-use Rattle.audited_captures.specs.Routes.{readings_lines}
+use Rattle.audited_captures.{specs.Lines.{line_value}, specs.Readings.{part_value, readings}, specs.Routes.{readings_lines}}
 use Rattle.audited_captures.proofs.routes.readings_lines.Given as goal
 
 abbrev pub invariant-loop-i : goal.invariant-loop-i

@@ -1,9 +1,6 @@
-use Rattle.std.proofs.Common.{◌≡◌, map, take}
-use Rattle.std.specs.List.{flat_map}
+use Rattle.std.{proofs.Common.{◌≡◌, map, take}, specs.List.{flat_map}}
 use Rattle.mctp_control.specs.RouteEntries.{entry_value}
-use Rattle.audited_captures.specs.Lines.{line_value}
-use Rattle.audited_captures.specs.Turns.{entry_values}
-use Rattle.audited_captures.specs.Routes.{planned_lines}
+use Rattle.audited_captures.{specs.Lines.{line_value}, specs.Turns.{entry_values}, specs.Routes.{planned_lines}}
 use Rattle.audited_captures.proofs.routes.unlike_lines.Given as goal
 
 abbrev pub invariant-loop-entry : goal.invariant-loop-entry

@@ -1,5 +1,4 @@
-use Rattle.std.proofs.Common.{rules, ◌≡◌, ◌++◌, List, ℕ, subst, string_bytes}
-use Rattle.std.specs.Prelude.{IfOk, codes}
+use Rattle.std.{proofs.Common.{rules, ◌≡◌, ◌++◌, List, ℕ, subst, string_bytes}, specs.Prelude.{IfOk, codes}}
 use Rattle.audited_captures.proofs.routes.unlike_text.Goals as goal
 
 pub returns : goal.returns

@@ -1,7 +1,5 @@
 use Rattle.std.proofs.Common.{rules, map}
-use Rattle.audited_captures.specs.Exchanges.{exchange_value}
-use Rattle.audited_captures.specs.Lines.{line_value}
-use Rattle.audited_captures.proofs.StrangerLaws.{some_line}
+use Rattle.audited_captures.{specs.Exchanges.{exchange_value}, specs.Lines.{line_value}, proofs.StrangerLaws.{some_line}}
 use Rattle.audited_captures.proofs.strangers.lines_of.Goals as goal
 
 pub returns-in-Some : goal.returns-in-Some

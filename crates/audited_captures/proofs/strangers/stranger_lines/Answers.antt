@@ -1,11 +1,5 @@
-use Rattle.std.proofs.Common.{rules, ◌≡◌, ◌<◌, ◌≤◌, [], List, length, slice_index_or, subst, sym, ap, ◌∙◌, map}
-use Rattle.std.proofs.lemmas.List.{map-append, take_all}
-use Rattle.audited_captures.specs.Exchanges.{exchange_value}
-use Rattle.audited_captures.specs.Lines.{line_value}
-use Rattle.audited_captures.specs.Strangers.{AreStrangerLines, Empty}
-use Rattle.audited_captures.specs.declared.exchanges.Exchange.{Exchange}
-use Rattle.audited_captures.specs.declared.lines.Line.{Line}
-use Rattle.audited_captures.proofs.StrangerLaws.{next_answer}
+use Rattle.std.{proofs.Common.{rules, ◌≡◌, ◌<◌, ◌≤◌, [], List, length, slice_index_or, subst, sym, ap, ◌∙◌, map}, proofs.lemmas.List.{map-append, take_all}}
+use Rattle.audited_captures.{specs.Exchanges.{exchange_value}, specs.Lines.{line_value}, specs.Strangers.{AreStrangerLines, Empty}, specs.declared.exchanges.Exchange.{Exchange}, specs.declared.lines.Line.{Line}, proofs.StrangerLaws.{next_answer}}
 use Rattle.audited_captures.proofs.strangers.stranger_lines.Goals as goal
 
 pub loop-exchange-init : goal.loop-exchange-init

@@ -1,7 +1,5 @@
 use Rattle.std.proofs.Common.{map, take}
-use Rattle.audited_captures.specs.Exchanges.{exchange_value}
-use Rattle.audited_captures.specs.Lines.{line_value}
-use Rattle.audited_captures.specs.Strangers.{AreStrangerLines}
+use Rattle.audited_captures.{specs.Exchanges.{exchange_value}, specs.Lines.{line_value}, specs.Strangers.{AreStrangerLines}}
 use Rattle.audited_captures.proofs.strangers.stranger_lines.Given as goal
 
 abbrev pub invariant-loop-exchange : goal.invariant-loop-exchange

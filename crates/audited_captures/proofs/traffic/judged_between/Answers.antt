@@ -1,9 +1,6 @@
-use Rattle.std.proofs.Common.{sym, ap, ◌∙◌, subst}
-use Rattle.std.specs.Prelude.{Option}
+use Rattle.std.{proofs.Common.{sym, ap, ◌∙◌, subst}, specs.Prelude.{Option}}
 use Rattle.plan_values.specs.declared.plan.Plan.{Plan}
-use Rattle.audited_captures.specs.Judging.{why_by}
-use Rattle.audited_captures.specs.Traffic.{Unplanned, IsJudged}
-use Rattle.audited_captures.proofs.TrafficLaws.{way_decides}
+use Rattle.audited_captures.{specs.Judging.{why_by}, specs.Traffic.{Unplanned, IsJudged}, proofs.TrafficLaws.{way_decides}}
 use Rattle.audited_captures.proofs.traffic.judged_between.Goals as goal
 
 pub returns : goal.returns

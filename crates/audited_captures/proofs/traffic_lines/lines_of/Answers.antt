@@ -1,13 +1,6 @@
-use Rattle.std.proofs.Common.{subst, map, []}
-use Rattle.std.specs.Prelude.{IfOk, Option, option_map}
+use Rattle.std.{proofs.Common.{subst, map, []}, specs.Prelude.{IfOk, Option, option_map}}
 use Rattle.plan_values.specs.declared.plan.Plan.{Plan}
-use Rattle.audited_captures.specs.Judging.{unplanned_value}
-use Rattle.audited_captures.specs.Lines.{line_value}
-use Rattle.audited_captures.specs.Packets.{numbered_packet}
-use Rattle.audited_captures.specs.Traffic.{IsJudged}
-use Rattle.audited_captures.specs.TrafficLines.{IsOneLine}
-use Rattle.audited_captures.specs.declared.traffic.Unplanned.{Unplanned}
-use Rattle.audited_captures.proofs.TrafficLaws.{some_lines}
+use Rattle.audited_captures.{specs.Judging.{unplanned_value}, specs.Lines.{line_value}, specs.Packets.{numbered_packet}, specs.Traffic.{IsJudged}, specs.TrafficLines.{IsOneLine}, specs.declared.traffic.Unplanned.{Unplanned}, proofs.TrafficLaws.{some_lines}}
 use Rattle.audited_captures.proofs.traffic_lines.lines_of.Goals as goal
 
 pub returns-in-Some : goal.returns-in-Some

@@ -1,11 +1,5 @@
-use Rattle.std.proofs.Common.{rules, ◌≡◌, ◌<◌, ◌≤◌, [], List, length, slice_index_or, subst, sym, ap, ◌∙◌, map}
-use Rattle.std.proofs.lemmas.List.{map-append, take_all}
-use Rattle.audited_captures.specs.Lines.{line_value}
-use Rattle.audited_captures.specs.Packets.{numbered_packet}
-use Rattle.audited_captures.specs.TrafficLines.{AreLinesOf, AreTrafficLines, Empty}
-use Rattle.audited_captures.specs.declared.lines.Line.{Line}
-use Rattle.audited_captures.specs.declared.packets.CapturedPacket.{CapturedPacket}
-use Rattle.audited_captures.proofs.TrafficLaws.{next_lines}
+use Rattle.std.{proofs.Common.{rules, ◌≡◌, ◌<◌, ◌≤◌, [], List, length, slice_index_or, subst, sym, ap, ◌∙◌, map}, proofs.lemmas.List.{map-append, take_all}}
+use Rattle.audited_captures.{specs.Lines.{line_value}, specs.Packets.{numbered_packet}, specs.TrafficLines.{AreLinesOf, AreTrafficLines, Empty}, specs.declared.lines.Line.{Line}, specs.declared.packets.CapturedPacket.{CapturedPacket}, proofs.TrafficLaws.{next_lines}}
 use Rattle.audited_captures.proofs.traffic_lines.lines_of_firsts.Goals as goal
 
 pub loop-first-init : goal.loop-first-init

@@ -1,8 +1,5 @@
 use Rattle.std.proofs.Common.{List, map, take}
-use Rattle.audited_captures.specs.Counts.{AreCounts}
-use Rattle.audited_captures.specs.Lines.{line_value}
-use Rattle.audited_captures.specs.Packets.{NumberedPacket, numbered_packet}
-use Rattle.audited_captures.specs.TrafficLines.{AreTrafficLines}
+use Rattle.audited_captures.{specs.Counts.{AreCounts}, specs.Lines.{line_value}, specs.Packets.{NumberedPacket, numbered_packet}, specs.TrafficLines.{AreTrafficLines}}
 use Rattle.audited_captures.proofs.traffic_lines.lines_of_firsts.Given as goal
 
 abbrev pub invariant-loop-first : goal.invariant-loop-first

@@ -1,6 +1,4 @@
-use Rattle.std.proofs.Common.{◌≡◌, ◌++◌, take}
-use Rattle.std.specs.Prelude.{codes, string_bytes}
-use Rattle.std.specs.List.{flat_map}
+use Rattle.std.{proofs.Common.{◌≡◌, ◌++◌, take}, specs.Prelude.{codes, string_bytes}, specs.List.{flat_map}}
 use Rattle.net_questions.specs.declared.step.WayStep.{WayStep}
 use Rattle.net_tables.specs.Names.{node_name}
 use Rattle.audited_captures.proofs.traffic_lines.push_nodes.Given as goal

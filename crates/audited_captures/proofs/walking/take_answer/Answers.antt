@@ -1,8 +1,5 @@
 use Rattle.std.proofs.Common.{Ok, Result, ap, ◌∙◌, subst}
-use Rattle.pdr_repository.specs.Walkers.{Takes}
-use Rattle.pdr_repository.specs.WalkerStates.{state_of}
-use Rattle.pdr_repository.specs.declared.walk_fault.Step.{Step as WalkStep}
-use Rattle.pdr_repository.specs.declared.walk_fault.WalkFault.{WalkFault}
+use Rattle.pdr_repository.{specs.Walkers.{Takes}, specs.WalkerStates.{state_of}, specs.declared.walk_fault.Step.{Step as WalkStep}, specs.declared.walk_fault.WalkFault.{WalkFault}}
 use Rattle.audited_captures.proofs.walking.take_answer.Goals as goal
 
 pub returns-in-Ok-Done : goal.returns-in-Ok-Done

@@ -1,11 +1,6 @@
-use Rattle.std.proofs.Common.{rules, ◌≡◌, ◌==◌, true, sym, ◌∙◌, subst}
-use Rattle.std.specs.Prelude.{IfOk}
-use Rattle.pdr_repository.specs.Walkers.{WalkState}
-use Rattle.pdr_repository.specs.WalkerStates.{state_of}
-use Rattle.audited_captures.specs.RecordParts.{record_part_value}
-use Rattle.audited_captures.specs.Walking.{is_due}
-use Rattle.audited_captures.specs.WalkTurns.{TakesAnswer}
-use Rattle.audited_captures.proofs.WalkLaws.{taken_so}
+use Rattle.std.{proofs.Common.{rules, ◌≡◌, ◌==◌, true, sym, ◌∙◌, subst}, specs.Prelude.{IfOk}}
+use Rattle.pdr_repository.{specs.Walkers.{WalkState}, specs.WalkerStates.{state_of}}
+use Rattle.audited_captures.{specs.RecordParts.{record_part_value}, specs.Walking.{is_due}, specs.WalkTurns.{TakesAnswer}, proofs.WalkLaws.{taken_so}}
 use Rattle.audited_captures.proofs.walking.take_part.Goals as goal
 
 pub returns-then-asks_what_is_due : goal.returns-then-asks_what_is_due

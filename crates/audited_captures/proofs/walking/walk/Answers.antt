@@ -1,10 +1,6 @@
-use Rattle.std.proofs.Common.{rules, ◌≡◌, ◌<◌, length, slice_index_or, subst, sym, ◌∙◌, map, ap, arith}
-use Rattle.std.specs.Prelude.{List}
+use Rattle.std.{proofs.Common.{rules, ◌≡◌, ◌<◌, length, slice_index_or, subst, sym, ◌∙◌, map, ap, arith}, specs.Prelude.{List}}
 use Rattle.pdr_repository.specs.WalkerStates.{state_of}
-use Rattle.audited_captures.specs.RecordParts.{RecordPartValue, record_part_value}
-use Rattle.audited_captures.specs.Walking.{Open, Walks, NoMore, walked_value}
-use Rattle.audited_captures.proofs.WalkLaws.{goes_past, ends_there}
-use Rattle.audited_captures.proofs.WordLaws.{past_end}
+use Rattle.audited_captures.{specs.RecordParts.{RecordPartValue, record_part_value}, specs.Walking.{Open, Walks, NoMore, walked_value}, proofs.WalkLaws.{goes_past, ends_there}, proofs.WordLaws.{past_end}}
 use Rattle.audited_captures.proofs.walking.walk.Goals as goal
 
 pub returns-in-Some : goal.returns-in-Some

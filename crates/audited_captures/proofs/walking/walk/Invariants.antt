@@ -1,7 +1,6 @@
 use Rattle.std.proofs.Common.{map, drop}
 use Rattle.pdr_repository.specs.WalkerStates.{state_of}
-use Rattle.audited_captures.specs.RecordParts.{record_part_value}
-use Rattle.audited_captures.specs.Walking.{Walked, Walks}
+use Rattle.audited_captures.{specs.RecordParts.{record_part_value}, specs.Walking.{Walked, Walks}}
 use Rattle.audited_captures.proofs.walking.walk.Given as goal
 
 abbrev pub invariant-loop-part : goal.invariant-loop-part

@@ -1,16 +1,7 @@
-use Rattle.std.proofs.Common.{◌≡◌, ◌∙◌, ◌+◌, List, ap, sym, subst, map, true, false}
-use Rattle.std.proofs.lemmas.List.{map-append}
+use Rattle.std.{proofs.Common.{◌≡◌, ◌∙◌, ◌+◌, List, ap, sym, subst, map, true, false}, proofs.lemmas.List.{map-append}}
 use Rattle.pdr_repository.specs.Records.{entries}
-use Rattle.audited_captures.specs.Lines.{LineValue, line_value}
-use Rattle.audited_captures.specs.declared.lines.Line.{Line}
-use Rattle.audited_captures.specs.RecordParts.{record_part_value}
-use Rattle.audited_captures.specs.declared.record_parts.RecordPart.{RecordPart}
-use Rattle.audited_captures.specs.Walking.{begins}
-use Rattle.audited_captures.specs.Walks.{IsWalkLines}
-use Rattle.audited_captures.proofs.WalkLaws.{HasWalked, none_walked, within_walk, next_walk, all_walked}
-use Rattle.audited_captures.proofs.WordLaws.{past_end}
+use Rattle.audited_captures.{specs.Lines.{LineValue, line_value}, specs.declared.lines.Line.{Line}, specs.RecordParts.{record_part_value}, specs.declared.record_parts.RecordPart.{RecordPart}, specs.Walking.{begins}, specs.Walks.{IsWalkLines}, proofs.WalkLaws.{HasWalked, none_walked, within_walk, next_walk, all_walked}, proofs.WordLaws.{past_end}, proofs.walks.walks_lines.Goals.{then-begins+in_ok-more+in_ok-append, else-begins}}
 use Rattle.audited_captures.proofs.walks.walks_lines.Goals as goal
-use Rattle.audited_captures.proofs.walks.walks_lines.Goals.{then-begins+in_ok-more+in_ok-append, else-begins}
 
 pub loop-i-init : goal.loop-i-init
 loop-i-init c =

@@ -1,7 +1,6 @@
 use Rattle.std.proofs.Common.{map}
 use Rattle.pdr_repository.specs.Records.{entries}
-use Rattle.audited_captures.specs.Lines.{line_value}
-use Rattle.audited_captures.proofs.WalkLaws.{HasWalked}
+use Rattle.audited_captures.{specs.Lines.{line_value}, proofs.WalkLaws.{HasWalked}}
 use Rattle.audited_captures.proofs.walks.walks_lines.Given as goal
 
 abbrev pub invariant-loop-i : goal.invariant-loop-i

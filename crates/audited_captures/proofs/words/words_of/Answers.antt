@@ -1,7 +1,5 @@
 use Rattle.std.proofs.Common.{rules, ◌≡◌, ◌<◌, [], List, length, slice_index_or, subst, sym, map}
-use Rattle.audited_captures.specs.Words.{word_value, AreWords, None}
-use Rattle.audited_captures.specs.declared.words.Word.{Word}
-use Rattle.audited_captures.proofs.WordLaws.{next_word}
+use Rattle.audited_captures.{specs.Words.{word_value, AreWords, None}, specs.declared.words.Word.{Word}, proofs.WordLaws.{next_word}}
 use Rattle.audited_captures.proofs.words.words_of.Goals as goal
 
 pub loop-message-init : goal.loop-message-init

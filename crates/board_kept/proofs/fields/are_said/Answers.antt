@@ -1,10 +1,7 @@
-use Rattle.std.proofs.Common.{rules, ◌≡◌, None, map, subst, sym, arith}
-use Rattle.std.proofs.lemmas.List.{length-map}
+use Rattle.std.{proofs.Common.{rules, ◌≡◌, None, map, subst, sym, arith}, proofs.lemmas.List.{length-map}}
 use Rattle.toml.specs.View.{view}
 use Rattle.record_fields.specs.Meanings.{named_of}
-use Rattle.board_kept.specs.Fields.{IsSaidAt, value_at}
-use Rattle.board_kept.proofs.More.{one_more}
-use Rattle.board_kept.proofs.Named.{said_whole}
+use Rattle.board_kept.{specs.Fields.{IsSaidAt, value_at}, proofs.More.{one_more}, proofs.Named.{said_whole}}
 use Rattle.board_kept.proofs.fields.are_said.Goals as goal
 
 pub loop-index-preserved : goal.loop-index-preserved

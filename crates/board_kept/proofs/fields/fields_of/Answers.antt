@@ -1,5 +1,4 @@
-use Rattle.std.proofs.Common.{map, arith}
-use Rattle.std.proofs.lemmas.List.{length-map}
+use Rattle.std.{proofs.Common.{map, arith}, proofs.lemmas.List.{length-map}}
 use Rattle.record_fields.specs.Meanings.{named_of}
 use Rattle.board_kept.proofs.Named.{named_more, named_all}
 use Rattle.board_kept.proofs.fields.fields_of.Goals as goal

@@ -1,6 +1,5 @@
 use Rattle.std.proofs.Common.{List, ◌++◌, map, drop}
-use Rattle.record_fields.specs.Named.{Named}
-use Rattle.record_fields.specs.Meanings.{named_of}
+use Rattle.record_fields.{specs.Named.{Named}, specs.Meanings.{named_of}}
 use Rattle.board_kept.specs.Fields.{AreNamed}
 use Rattle.board_kept.proofs.fields.fields_of.Given as goal
 

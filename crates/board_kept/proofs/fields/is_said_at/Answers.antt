@@ -1,5 +1,4 @@
-use Rattle.std.proofs.Common.{◌∙◌, subst}
-use Rattle.std.proofs.lemmas.Option.{same_Some}
+use Rattle.std.{proofs.Common.{◌∙◌, subst}, proofs.lemmas.Option.{same_Some}}
 use Rattle.toml.specs.View.{view}
 use Rattle.record_fields.specs.Meanings.{named_of}
 use Rattle.board_kept.specs.Fields.{IsSaidOne}

@@ -1,6 +1,5 @@
 use Rattle.toml.specs.View.{view}
-use Rattle.board_kept.specs.Made.{ReachesAllAsked}
-use Rattle.board_kept.proofs.More.{one_more}
+use Rattle.board_kept.{specs.Made.{ReachesAllAsked}, proofs.More.{one_more}}
 use Rattle.board_kept.proofs.fit.judge_all.Goals as goal
 
 pub loop-from-preserved : goal.loop-from-preserved

@@ -1,7 +1,6 @@
 use Rattle.toml.specs.View.{view}
 use Rattle.net_reached.specs.Wishes.{ReachesNode}
-use Rattle.board_kept.specs.Made.{AsksFor}
-use Rattle.board_kept.proofs.More.{one_more}
+use Rattle.board_kept.{specs.Made.{AsksFor}, proofs.More.{one_more}}
 use Rattle.board_kept.proofs.fit.judge_from.Goals as goal
 
 pub loop-to-preserved : goal.loop-to-preserved

@@ -1,6 +1,5 @@
 use Rattle.std.proofs.Common.{rules}
-use Rattle.board_kept.specs.Keys.{IsKeyOf}
-use Rattle.board_kept.proofs.Members.{next_key}
+use Rattle.board_kept.{specs.Keys.{IsKeyOf}, proofs.Members.{next_key}}
 use Rattle.board_kept.proofs.keys.are_keys.Goals as goal
 
 pub loop-name-preserved : goal.loop-name-preserved

@@ -1,7 +1,6 @@
 use Rattle.std.proofs.Common.{rules, arith}
 use Rattle.toml.specs.View.{view}
-use Rattle.board_kept.specs.Kept.{IsNameAt}
-use Rattle.board_kept.proofs.More.{one_more, all_names_kept}
+use Rattle.board_kept.{specs.Kept.{IsNameAt}, proofs.More.{one_more, all_names_kept}}
 use Rattle.board_kept.proofs.nodes.keeps_names.Goals as goal
 
 pub loop-index-preserved : goal.loop-index-preserved

@@ -1,7 +1,6 @@
 use Rattle.std.proofs.Common.{rules, arith}
 use Rattle.toml.specs.View.{view}
-use Rattle.board_kept.specs.Kept.{IsRowKeptAt}
-use Rattle.board_kept.proofs.More.{one_more, all_rows_kept}
+use Rattle.board_kept.{specs.Kept.{IsRowKeptAt}, proofs.More.{one_more, all_rows_kept}}
 use Rattle.board_kept.proofs.nodes.keeps_rows.Goals as goal
 
 pub loop-index-preserved : goal.loop-index-preserved

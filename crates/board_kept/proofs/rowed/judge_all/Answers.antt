@@ -1,5 +1,4 @@
-use Rattle.board_kept.specs.Rowed.{ReachesAll}
-use Rattle.board_kept.proofs.More.{one_more}
+use Rattle.board_kept.{specs.Rowed.{ReachesAll}, proofs.More.{one_more}}
 use Rattle.board_kept.proofs.rowed.judge_all.Goals as goal
 
 pub loop-from-preserved : goal.loop-from-preserved

@@ -1,6 +1,5 @@
 use Rattle.std.proofs.Common.{rules}
-use Rattle.board_kept.specs.Rowed.{AreRowsOfNodeKept}
-use Rattle.board_kept.proofs.More.{one_more}
+use Rattle.board_kept.{specs.Rowed.{AreRowsOfNodeKept}, proofs.More.{one_more}}
 use Rattle.board_kept.proofs.rowed.keeps_all_rows.Goals as goal
 
 pub loop-node-preserved : goal.loop-node-preserved

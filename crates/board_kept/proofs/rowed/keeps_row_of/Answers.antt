@@ -1,5 +1,4 @@
-use Rattle.std.proofs.Common.{◌∙◌, subst}
-use Rattle.std.proofs.lemmas.Option.{same_Some}
+use Rattle.std.{proofs.Common.{◌∙◌, subst}, proofs.lemmas.Option.{same_Some}}
 use Rattle.board_kept.specs.Rowed.{HasTheRow}
 use Rattle.board_kept.proofs.rowed.keeps_row_of.Goals as goal
 

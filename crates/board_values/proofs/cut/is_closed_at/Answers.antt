@@ -1,8 +1,6 @@
-use Rattle.std.proofs.Common.{◌≡◌, Some, true, below_more, arith, rules}
-use Rattle.std.specs.Prelude.{slice_get}
+use Rattle.std.{proofs.Common.{◌≡◌, Some, true, below_more, arith, rules}, specs.Prelude.{slice_get}}
 use Rattle.toml.specs.View.{view}
-use Rattle.board_values.specs.Ways.{IsStepIn}
-use Rattle.board_values.proofs.CutOff.{closed_at_end}
+use Rattle.board_values.{specs.Ways.{IsStepIn}, proofs.CutOff.{closed_at_end}}
 use Rattle.board_values.proofs.cut.is_closed_at.Goals as goal
 
 pub loop-other-preserved : goal.loop-other-preserved

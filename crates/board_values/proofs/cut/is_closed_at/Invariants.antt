@@ -1,5 +1,4 @@
-use Rattle.std.proofs.Common.{◌≡◌, ℕ, ◌<◌, Some, true}
-use Rattle.std.specs.Prelude.{slice_get}
+use Rattle.std.{proofs.Common.{◌≡◌, ℕ, ◌<◌, Some, true}, specs.Prelude.{slice_get}}
 use Rattle.toml.specs.View.{view}
 use Rattle.board_values.specs.Ways.{IsStepIn}
 use Rattle.board_values.proofs.cut.is_closed_at.Given as goal

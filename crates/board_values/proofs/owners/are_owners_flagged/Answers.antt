@@ -1,5 +1,4 @@
-use Rattle.std.proofs.Common.{rules, true, arith, below_more}
-use Rattle.std.proofs.lemmas.Option.{slice_get_within}
+use Rattle.std.{proofs.Common.{rules, true, arith, below_more}, proofs.lemmas.Option.{slice_get_within}}
 use Rattle.toml.specs.View.{view}
 use Rattle.board_values.specs.Owners.{IsOwnerFlagged}
 use Rattle.board_values.proofs.owners.are_owners_flagged.Goals as goal

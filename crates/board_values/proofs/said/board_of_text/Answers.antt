@@ -1,5 +1,4 @@
-use Rattle.toml.specs.View.{table_view}
-use Rattle.toml.proofs.Views.{view-Table}
+use Rattle.toml.{specs.View.{table_view}, proofs.Views.{view-Table}}
 use Rattle.board_values.proofs.said.board_of_text.Goals as goal
 
 pub returns-in-Ok : goal.returns-in-Ok

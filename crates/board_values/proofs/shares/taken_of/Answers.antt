@@ -1,5 +1,4 @@
-use Rattle.std.proofs.Common.{arith}
-use Rattle.std.proofs.lemmas.Grind.{common_steps}
+use Rattle.std.{proofs.Common.{arith}, proofs.lemmas.Grind.{common_steps}}
 use Rattle.toml.specs.View.{view}
 use Rattle.board_values.proofs.Sharing.{one_taken_more}
 use Rattle.board_values.proofs.shares.taken_of.Goals as goal

@@ -1,6 +1,4 @@
-use Rattle.std.proofs.Common.{sym, arith, Some, None}
-use Rattle.std.proofs.lemmas.List.{take_all}
-use Rattle.std.proofs.lemmas.Str.Pattern.{split_once_first}
+use Rattle.std.{proofs.Common.{sym, arith, Some, None}, proofs.lemmas.List.{take_all}, proofs.lemmas.Str.Pattern.{split_once_first}}
 use Rattle.board_values.proofs.ways.bus_name.Goals as goal
 
 pub returns-in-Some : goal.returns-in-Some

@@ -1,7 +1,6 @@
 use Rattle.std.proofs.Common.{◌≡◌, Some, arith, below_more, ap, refl, ◌∙◌}
 use Rattle.toml.specs.View.{view}
-use Rattle.board_values.specs.Ways.{bus_at}
-use Rattle.board_values.proofs.Among.{among_ports, denied}
+use Rattle.board_values.{specs.Ways.{bus_at}, proofs.Among.{among_ports, denied}}
 use Rattle.board_values.proofs.ways.is_on_bus.Goals as goal
 
 pub loop-port-preserved : goal.loop-port-preserved

@@ -1,8 +1,6 @@
 use Rattle.std.proofs.Common.{codes}
 use Rattle.toml.specs.View.{view}
-use Rattle.board_values.specs.Said.{item_at}
-use Rattle.board_values.specs.Ways.{IsSaidBridge}
-use Rattle.board_values.proofs.Among.{at_that}
+use Rattle.board_values.{specs.Said.{item_at}, specs.Ways.{IsSaidBridge}, proofs.Among.{at_that}}
 use Rattle.board_values.proofs.ways.may_be_bridge.Goals as goal
 
 pub returns-in-Some : goal.returns-in-Some

@@ -1,7 +1,6 @@
 use Rattle.std.proofs.Common.{arith, below_more, codes}
 use Rattle.toml.specs.View.{view}
-use Rattle.board_values.specs.Owners.{Owns}
-use Rattle.board_values.proofs.Among.{among_nodes, denied}
+use Rattle.board_values.{specs.Owners.{Owns}, proofs.Among.{among_nodes, denied}}
 use Rattle.board_values.proofs.ways.owns_some.Goals as goal
 
 pub loop-other-preserved : goal.loop-other-preserved

@@ -1,7 +1,6 @@
 use Rattle.std.proofs.Common.{◌≡◌, List, ℕ, Some, arith, below_more}
 use Rattle.toml.specs.View.{view}
-use Rattle.board_values.specs.Ways.{bus_at, IsOnBus}
-use Rattle.board_values.proofs.Among.{among_ports, denied}
+use Rattle.board_values.{specs.Ways.{bus_at, IsOnBus}, proofs.Among.{among_ports, denied}}
 use Rattle.board_values.proofs.ways.share_bus.Goals as goal
 
 pub loop-port-preserved : goal.loop-port-preserved

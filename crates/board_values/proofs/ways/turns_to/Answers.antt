@@ -1,8 +1,6 @@
-use Rattle.std.proofs.Common.{arith}
-use Rattle.std.proofs.lemmas.Grind.{common_steps}
+use Rattle.std.{proofs.Common.{arith}, proofs.lemmas.Grind.{common_steps}}
 use Rattle.toml.specs.View.{view}
-use Rattle.board_values.specs.Ways.{TurnsTo}
-use Rattle.board_values.proofs.Among.{one_turn_more}
+use Rattle.board_values.{specs.Ways.{TurnsTo}, proofs.Among.{one_turn_more}}
 use Rattle.board_values.proofs.ways.turns_to.Goals as goal
 
 pub loop-node-preserved : goal.loop-node-preserved

@@ -1,7 +1,5 @@
 use Rattle.std.proofs.Common.{map}
-use Rattle.bus_captures.specs.Values.{entry_value}
-use Rattle.bus_captures.specs.Records.{record_value}
-use Rattle.bus_captures.proofs.RecordLaws.{one_more}
+use Rattle.bus_captures.{specs.Values.{entry_value}, specs.Records.{record_value}, proofs.RecordLaws.{one_more}}
 use Rattle.bus_captures.proofs.file.add_entries.Goals as goal
 
 pub loop-left-preserved : goal.loop-left-preserved

@@ -1,6 +1,5 @@
 use Rattle.std.proofs.Common.{length, map}
-use Rattle.bus_captures.specs.Files.{AreRead}
-use Rattle.bus_captures.specs.Values.{entry_value}
+use Rattle.bus_captures.{specs.Files.{AreRead}, specs.Values.{entry_value}}
 use Rattle.bus_captures.proofs.file.add_entries.Given as goal
 
 abbrev pub invariant-loop-left : goal.invariant-loop-left

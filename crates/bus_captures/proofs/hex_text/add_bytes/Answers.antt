@@ -1,6 +1,5 @@
 use Rattle.std.proofs.Common.{◌≡◌, ◌++◌, [], ap, ◌∙◌, append-nil, refl}
-use Rattle.bus_captures.specs.Hex.{IsHex}
-use Rattle.bus_captures.proofs.HexLaws.{one_more_byte, one_more_there}
+use Rattle.bus_captures.{specs.Hex.{IsHex}, proofs.HexLaws.{one_more_byte, one_more_there}}
 use Rattle.bus_captures.proofs.hex_text.add_bytes.Goals as goal
 
 pub returns-in-End : goal.returns-in-End

@@ -1,8 +1,6 @@
 use Rattle.std.proofs.Common.{◌≡◌, false, true}
-use Rattle.bus_captures.specs.Sorts.{is_space}
-use Rattle.bus_captures.proofs.HexLaws.{space_passes, mark_passes, byte_splits, two_bytes_are_none}
+use Rattle.bus_captures.{specs.Sorts.{is_space}, proofs.HexLaws.{space_passes, mark_passes, byte_splits, two_bytes_are_none}, proofs.hex_text.front_of.Goals.{else-first-eq48-via-then-first-eq48+else-second-eq120, else-first-eq48-via-else-first-eq48}}
 use Rattle.bus_captures.proofs.hex_text.front_of.Goals as goal
-use Rattle.bus_captures.proofs.hex_text.front_of.Goals.{else-first-eq48-via-then-first-eq48+else-second-eq120, else-first-eq48-via-else-first-eq48}
 
 pub returns-then-is_space : goal.returns-then-is_space
 returns-then-is_space c =

@@ -1,6 +1,5 @@
 use Rattle.std.proofs.Common.{ℕ, List, ap, ◌∙◌}
-use Rattle.bus_captures.specs.Hex.{IsHex}
-use Rattle.bus_captures.proofs.LineLaws.{no_bytes}
+use Rattle.bus_captures.{specs.Hex.{IsHex}, proofs.LineLaws.{no_bytes}}
 use Rattle.bus_captures.proofs.line.read_text_of_line.Goals as goal
 
 pub returns-in-None : goal.returns-in-None

@@ -1,6 +1,5 @@
 use Rattle.std.proofs.Common.{◌≡◌, ◌<◌, ◌+◌, ◌∷◌, [], length, arith}
-use Rattle.bus_captures.specs.Captures.{lines_of}
-use Rattle.bus_captures.proofs.LineLaws.{first_of, line_read, ends_full, ends_whole}
+use Rattle.bus_captures.{specs.Captures.{lines_of}, proofs.LineLaws.{first_of, line_read, ends_full, ends_whole}}
 use Rattle.bus_captures.proofs.text.add_lines.Goals as goal
 
 pub returns-in-Full : goal.returns-in-Full

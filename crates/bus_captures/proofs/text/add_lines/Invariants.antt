@@ -1,7 +1,5 @@
 use Rattle.std.proofs.Common.{◌≤◌, ◌+◌, length, map}
-use Rattle.bus_captures.specs.Captures.{lines_of}
-use Rattle.bus_captures.specs.Values.{entry_value}
-use Rattle.bus_captures.proofs.LineLaws.{HasRead}
+use Rattle.bus_captures.{specs.Captures.{lines_of}, specs.Values.{entry_value}, proofs.LineLaws.{HasRead}}
 use Rattle.bus_captures.proofs.text.add_lines.Given as goal
 
 abbrev pub invariant-lines : goal.invariant-lines

@@ -1,8 +1,6 @@
 use Rattle.std.proofs.Common.{◌≡◌, ◌+◌, ◌++◌, length, ap, ◌∙◌, length-append}
-use Rattle.bus_captures.proofs.WritingLaws.{joined, before}
+use Rattle.bus_captures.{proofs.WritingLaws.{joined, before}, specs.Numbers.{number_bytes}, specs.Written.{carried_value, link_header}}
 use Rattle.bus_captures.specs.declared.format.Order.TheVariants as order
-use Rattle.bus_captures.specs.Numbers.{number_bytes}
-use Rattle.bus_captures.specs.Written.{carried_value, link_header}
 use Rattle.bus_captures.proofs.writing.add_packet.Goals as goal
 
 pub returns-clause-bytes : goal.returns-clause-bytes

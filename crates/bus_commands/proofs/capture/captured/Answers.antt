@@ -1,13 +1,10 @@
-use Rattle.std.proofs.Common.{◌∙◌, ap, subst, map, arith}
-use Rattle.std.proofs.lemmas.List.{length-map}
+use Rattle.std.{proofs.Common.{◌∙◌, ap, subst, map, arith}, proofs.lemmas.List.{length-map}}
 use Rattle.bus_commands.proofs.HopLaws.{added, captured_none, captured_next, captured_all}
 use Rattle.command_answers.proofs.Places.{starts_in}
 use Rattle.net_runs.specs.Walkers.{walked_at_start}
 use Rattle.net_tables.specs.TwoPlans.{one_plan}
-use Rattle.net_sim.specs.Networks.{network_value}
+use Rattle.net_sim.{specs.Networks.{network_value}, specs.Outcomes.{event_value, outcome_value}, specs.WalkedStanding.{WalkedPlays}}
 use Rattle.pdr_repository.specs.BlockTermini.{block_tid, block_records}
-use Rattle.net_sim.specs.Outcomes.{event_value, outcome_value}
-use Rattle.net_sim.specs.WalkedStanding.{WalkedPlays}
 use Rattle.bus_commands.proofs.capture.captured.Goals as goal
 
 pub loop-index-init : goal.loop-index-init

@@ -1,6 +1,5 @@
 use Rattle.std.proofs.Common.{◌≡◌, map, take}
-use Rattle.net_sim.specs.Networks.{network_value, checked_of}
-use Rattle.net_sim.specs.Outcomes.{event_value}
+use Rattle.net_sim.{specs.Networks.{network_value, checked_of}, specs.Outcomes.{event_value}}
 use Rattle.net_tables.specs.TwoPlans.{one_plan}
 use Rattle.net_runs.specs.Walkers.{walked_at_start}
 use Rattle.pdr_repository.specs.BlockTermini.{block_tid, block_records}

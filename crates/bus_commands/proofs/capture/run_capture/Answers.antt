@@ -1,7 +1,5 @@
-use Rattle.std.proofs.Common.{refl}
-use Rattle.std.proofs.lemmas.Result.{IfErr-weaker}
-use Rattle.command_answers.specs.Answers.{stream}
-use Rattle.command_answers.proofs.Told.{concludes_bytes, concludes_unread, memory_lacks}
+use Rattle.std.{proofs.Common.{refl}, proofs.lemmas.Result.{IfErr-weaker}}
+use Rattle.command_answers.{specs.Answers.{stream}, proofs.Told.{concludes_bytes, concludes_unread, memory_lacks}}
 use Rattle.bus_commands.proofs.Capturing.{answers_given}
 use Rattle.bus_commands.proofs.capture.run_capture.Goals as goal
 

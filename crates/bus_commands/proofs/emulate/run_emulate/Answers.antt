@@ -1,10 +1,7 @@
 use Rattle.std.proofs.Common.{rules, ◌≡◌, Result, Ok, Err, refl, subst}
-use Rattle.command_answers.specs.Answers.{stream}
-use Rattle.command_answers.specs.declared.status.Status.{Status}
-use Rattle.bus_commands.specs.Emulating.{AnswersEmulation}
-use Rattle.bus_commands.specs.declared.playing.Stop.{Stop}
+use Rattle.command_answers.{specs.Answers.{stream}, specs.declared.status.Status.{Status}}
+use Rattle.bus_commands.{specs.Emulating.{AnswersEmulation}, specs.declared.playing.Stop.{Stop}, proofs.Emulating.{ends_itself, stops, stops_unsaid}}
 use Rattle.bus_commands.specs.declared.playing.Stop.TheVariants as stop
-use Rattle.bus_commands.proofs.Emulating.{ends_itself, stops, stops_unsaid}
 use Rattle.bus_commands.proofs.emulate.run_emulate.Goals as goal
 
 pub returns-in-Ok-clause-emulates : goal.returns-in-Ok-clause-emulates

@@ -1,5 +1,4 @@
-use Rattle.std.proofs.Common.{rules, ◌≡◌, ◌∙◌, None, ap, slice_get}
-use Rattle.std.specs.Option.{option_and_then}
+use Rattle.std.{proofs.Common.{rules, ◌≡◌, ◌∙◌, None, ap, slice_get}, specs.Option.{option_and_then}}
 use Rattle.plan_values.specs.declared.nodes.Row.{Row}
 use Rattle.net_tables.specs.Routing.{ports_of}
 use Rattle.bus_commands.proofs.hops.port_towards.Goals as goal

@@ -1,5 +1,4 @@
-use Rattle.std.proofs.Common.{◌≡◌, length}
-use Rattle.std.specs.Io.KnownBytes.{Consumes}
+use Rattle.std.{proofs.Common.{◌≡◌, length}, specs.Io.KnownBytes.{Consumes}}
 use Rattle.bus_commands.specs.Lines.{HasNoEnd}
 use Rattle.bus_commands.proofs.lines.next_line.Given as goal
 

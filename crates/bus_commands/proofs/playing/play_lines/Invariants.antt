@@ -1,7 +1,6 @@
 use Rattle.std.proofs.Common.{◌≡◌}
 use Rattle.command_answers.specs.Answers.{stream}
-use Rattle.emulated_node.specs.Nodes.{NodeState}
-use Rattle.emulated_node.specs.Standing.{HasNodeState, setting_of}
+use Rattle.emulated_node.{specs.Nodes.{NodeState}, specs.Standing.{HasNodeState, setting_of}}
 use Rattle.bus_commands.proofs.LinesPlayed.{HasPlayed}
 use Rattle.bus_commands.proofs.playing.play_lines.Given as goal
 

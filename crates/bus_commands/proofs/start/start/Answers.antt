@@ -1,9 +1,7 @@
-use Rattle.std.proofs.Common.{◌≡◌, ◌<◌, length, Some, sym, subst, refl}
-use Rattle.std.proofs.lemmas.Option.{slice_get_read}
+use Rattle.std.{proofs.Common.{◌≡◌, ◌<◌, length, Some, sym, subst, refl}, proofs.lemmas.Option.{slice_get_read}}
 use Rattle.command_answers.proofs.Places.{checked_orders}
 use Rattle.plan_values.specs.declared.plan.Plan.{Plan}
-use Rattle.net_tables.specs.Routing.{node_at, rows_of}
-use Rattle.net_tables.specs.Tables.{AreRows}
+use Rattle.net_tables.{specs.Routing.{node_at, rows_of}, specs.Tables.{AreRows}}
 use Rattle.plan_exports.specs.PlannedTables.{HasLawfulRows}
 use Rattle.bus_commands.proofs.Starting.{are_rows, have_lawful_rows, holds_lawfully, planned_so, started}
 use Rattle.bus_commands.proofs.start.start.Goals as goal

@@ -1,5 +1,4 @@
-use Rattle.std.proofs.Common.{◌≡◌, map, string_bytes, take}
-use Rattle.std.specs.List.{flat_map}
+use Rattle.std.{proofs.Common.{◌≡◌, map, string_bytes, take}, specs.List.{flat_map}}
 use Rattle.bus_commands.specs.Turns.{answer_line}
 use Rattle.bus_commands.proofs.turn.answer_lines.Given as goal
 

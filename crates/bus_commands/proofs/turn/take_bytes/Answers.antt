@@ -1,8 +1,6 @@
 use Rattle.std.proofs.Common.{subst}
-use Rattle.emulated_node.specs.ReceivedValues.{received_value}
-use Rattle.emulated_node.specs.Standing.{HasNodeState, setting_of}
-use Rattle.mctp_transport.specs.PacketValues.{Spelled}
-use Rattle.mctp_transport.specs.Packets.{packet_value_of}
+use Rattle.emulated_node.{specs.ReceivedValues.{received_value}, specs.Standing.{HasNodeState, setting_of}}
+use Rattle.mctp_transport.{specs.PacketValues.{Spelled}, specs.Packets.{packet_value_of}}
 use Rattle.bus_commands.proofs.TurnLaws.{comes_all}
 use Rattle.bus_commands.proofs.turn.take_bytes.Goals as goal
 

@@ -1,8 +1,6 @@
 use Rattle.std.proofs.Common.{subst}
 use Rattle.emulated_node.specs.Standing.{HasNodeState, setting_of}
-use Rattle.bus_commands.specs.PacketLines.{Says, said_value}
-use Rattle.bus_commands.specs.declared.line.Said.{Said}
-use Rattle.bus_commands.proofs.TurnLaws.{says_bytes}
+use Rattle.bus_commands.{specs.PacketLines.{Says, said_value}, specs.declared.line.Said.{Said}, proofs.TurnLaws.{says_bytes}}
 use Rattle.bus_commands.proofs.turn.take_line.Goals as goal
 
 pub returns-in-Packet-clause-takes : goal.returns-in-Packet-clause-takes

@@ -1,8 +1,6 @@
-use Rattle.std.proofs.Common.{ℕ, List, map, string_bytes, sym, subst}
-use Rattle.std.specs.Prelude.{None}
+use Rattle.std.{proofs.Common.{ℕ, List, map, string_bytes, sym, subst}, specs.Prelude.{None}}
 use Rattle.bus_captures.specs.Values.{entry_value}
-use Rattle.byte_commands.specs.Decoding.{IsDecodedSo}
-use Rattle.byte_commands.proofs.Decoded.{decoded_so}
+use Rattle.byte_commands.{specs.Decoding.{IsDecodedSo}, proofs.Decoded.{decoded_so}}
 use Rattle.byte_commands.proofs.decode.decoded.Goals as goal
 
 pub returns-clause-answers : goal.returns-clause-answers

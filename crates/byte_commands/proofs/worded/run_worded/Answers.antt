@@ -1,9 +1,9 @@
 use Rattle.std.proofs.Common.{List, ℕ, map, string_bytes}
 use Rattle.command_questions.specs.declared.words.WordQuestion.{WordQuestion}
-use Rattle.command_questions.specs.declared.words.WordQuestion.TheVariants as question
-use Rattle.command_answers.specs.declared.status.Status.TheVariants as status
 use Rattle.byte_commands.specs.Worded.{AnswersWords}
 use Rattle.command_answers.proofs.Told.{concludes}
+use Rattle.command_questions.specs.declared.words.WordQuestion.TheVariants as question
+use Rattle.command_answers.specs.declared.status.Status.TheVariants as status
 use Rattle.byte_commands.proofs.worded.run_worded.Goals as goal
 
 -- no answer on words is that of an input that can't be read

@@ -1,5 +1,4 @@
-use Rattle.std.proofs.Common.{rules, ◌≡◌, Err, refl}
-use Rattle.std.specs.Cow.{cow_str_bytes}
+use Rattle.std.{proofs.Common.{rules, ◌≡◌, Err, refl}, specs.Cow.{cow_str_bytes}}
 use Rattle.command_answers.proofs.answer.give.Goals as goal
 
 pub returns-in_err-print-clause-broken : goal.returns-in_err-print-clause-broken

@@ -1,8 +1,5 @@
-use Rattle.std.proofs.Common.{string_bytes, subst, sym}
-use Rattle.std.specs.Cow.{cow_str_bytes}
-use Rattle.command_answers.specs.declared.status.Status.{Status}
-use Rattle.command_answers.specs.Certifying.{IsCertifiedBy, IsRuledOutBy, Certifies}
-use Rattle.command_answers.proofs.Obstacles.{not_memory}
+use Rattle.std.{proofs.Common.{string_bytes, subst, sym}, specs.Cow.{cow_str_bytes}}
+use Rattle.command_answers.{specs.declared.status.Status.{Status}, specs.Certifying.{IsCertifiedBy, IsRuledOutBy, Certifies}, proofs.Obstacles.{not_memory}}
 use Rattle.command_answers.proofs.certify.certificate_of_plan.Goals as goal
 
 pub returns-in_ok-text_of_certificate-in-Ok : goal.returns-in_ok-text_of_certificate-in-Ok

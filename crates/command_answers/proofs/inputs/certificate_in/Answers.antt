@@ -1,10 +1,8 @@
 use Rattle.std.proofs.Common.{rules, List, ℕ, refl, subst}
-use Rattle.net_plan.specs.CertificateReading.{certificate}
-use Rattle.net_plan.specs.CertificateText.{IsCertificateOf}
+use Rattle.net_plan.{specs.CertificateReading.{certificate}, specs.CertificateText.{IsCertificateOf}}
 use Rattle.plan_values.specs.PlanValues.{node_names, plan_value}
 use Rattle.net_pointers.specs.Asks.{certificate_text}
-use Rattle.reading_texts.specs.TextErrors.{IsToldAs}
-use Rattle.reading_texts.specs.declared.text_error.TextError.TheVariants.{Faulty}
+use Rattle.reading_texts.{specs.TextErrors.{IsToldAs}, specs.declared.text_error.TextError.TheVariants.{Faulty}}
 use Rattle.command_answers.proofs.inputs.certificate_in.Goals as goal
 
 pub returns-in-Err-Faulty-clause-unread : goal.returns-in-Err-Faulty-clause-unread

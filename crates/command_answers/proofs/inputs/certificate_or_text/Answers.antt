@@ -1,5 +1,4 @@
-use Rattle.net_plan.specs.CertificateReading.{certificate}
-use Rattle.net_plan.specs.CertificateText.{IsCertificateOf}
+use Rattle.net_plan.{specs.CertificateReading.{certificate}, specs.CertificateText.{IsCertificateOf}}
 use Rattle.plan_values.specs.PlanValues.{plan_value, node_names}
 use Rattle.net_pointers.specs.Asks.{certificate_text}
 use Rattle.command_answers.proofs.UnreadInputs.{unread_by}

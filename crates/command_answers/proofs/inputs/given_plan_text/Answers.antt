@@ -1,7 +1,5 @@
 use Rattle.std.proofs.Common.{rules, List, ℕ, subst}
-use Rattle.net_plan.specs.PlanReading.{plan}
-use Rattle.net_plan.specs.PlanText.{IsPlanOf}
-use Rattle.net_plan.specs.Refusals.{IsRefused}
+use Rattle.net_plan.{specs.PlanReading.{plan}, specs.PlanText.{IsPlanOf}, specs.Refusals.{IsRefused}}
 use Rattle.command_answers.proofs.GivenTexts.{no_plan}
 use Rattle.command_answers.proofs.inputs.given_plan_text.Goals as goal
 

@@ -1,9 +1,7 @@
 use Rattle.std.proofs.Common.{rules, List, ℕ, refl, subst}
-use Rattle.net_plan.specs.PlanReading.{plan}
-use Rattle.net_plan.specs.PlanText.{IsPlanOf}
+use Rattle.net_plan.{specs.PlanReading.{plan}, specs.PlanText.{IsPlanOf}}
 use Rattle.net_pointers.specs.Asks.{plan_text}
-use Rattle.reading_texts.specs.TextErrors.{IsToldAs}
-use Rattle.reading_texts.specs.declared.text_error.TextError.TheVariants.{Faulty}
+use Rattle.reading_texts.{specs.TextErrors.{IsToldAs}, specs.declared.text_error.TextError.TheVariants.{Faulty}}
 use Rattle.command_answers.proofs.inputs.plan_in.Goals as goal
 
 pub returns-in-Err-Faulty-clause-unread : goal.returns-in-Err-Faulty-clause-unread

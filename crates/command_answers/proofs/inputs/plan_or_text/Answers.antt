@@ -1,5 +1,4 @@
-use Rattle.net_plan.specs.PlanReading.{plan}
-use Rattle.net_plan.specs.PlanText.{IsPlanOf}
+use Rattle.net_plan.{specs.PlanReading.{plan}, specs.PlanText.{IsPlanOf}}
 use Rattle.net_pointers.specs.Asks.{plan_text}
 use Rattle.command_answers.proofs.UnreadInputs.{unread_by}
 use Rattle.command_answers.proofs.inputs.plan_or_text.Goals as goal

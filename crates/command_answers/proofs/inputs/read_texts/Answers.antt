@@ -1,6 +1,5 @@
 use Rattle.std.proofs.Common.{rules, ◌≡◌, Err}
-use Rattle.command_answers.specs.Answers.{stream}
-use Rattle.command_answers.proofs.GivenTexts.{gave_plan, certificate_unread}
+use Rattle.command_answers.{specs.Answers.{stream}, proofs.GivenTexts.{gave_plan, certificate_unread}}
 use Rattle.command_answers.proofs.inputs.read_texts.Goals as goal
 
 pub returns-in_err-certificate-clause-unread : goal.returns-in_err-certificate-clause-unread

@@ -1,10 +1,7 @@
-use Rattle.std.proofs.Common.{◌≡◌, ◌∙◌, ◌==◌, ◌<◌, ◌+◌, ℕ, List, Option, Some, None, cond, length, map, take, ap, sym, subst, arith}
-use Rattle.std.specs.Option.{option_or}
-use Rattle.std.specs.Prelude.{position, slice_index_or}
+use Rattle.std.{proofs.Common.{◌≡◌, ◌∙◌, ◌==◌, ◌<◌, ◌+◌, ℕ, List, Option, Some, None, cond, length, map, take, ap, sym, subst, arith}, specs.Option.{option_or}, specs.Prelude.{position, slice_index_or}}
 use Rattle.net_rules.proofs.KnownEnds.{written_whole}
 use Rattle.plan_values.specs.declared.certificate.RecordPlace.{RecordPlace}
-use Rattle.command_answers.specs.Ordering.{AreFirstAt}
-use Rattle.command_answers.proofs.Places.{first_given_more}
+use Rattle.command_answers.{specs.Ordering.{AreFirstAt}, proofs.Places.{first_given_more}}
 use Rattle.command_answers.proofs.repositories.indices_by_place.Goals as goal
 
 pub loop-index-preserved : goal.loop-index-preserved

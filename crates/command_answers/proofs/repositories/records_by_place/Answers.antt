@@ -1,10 +1,6 @@
-use Rattle.std.proofs.Common.{◌≡◌, ◌∙◌, ◌<◌, Some, None, length, refl, ap, sym, subst, arith}
-use Rattle.std.proofs.lemmas.Option.{slice_get_read, slice_get-get_or, same_Some}
-use Rattle.std.specs.Option.{option_and_then}
-use Rattle.std.specs.Prelude.{slice_get, slice_index_or}
+use Rattle.std.{proofs.Common.{◌≡◌, ◌∙◌, ◌<◌, Some, None, length, refl, ap, sym, subst, arith}, proofs.lemmas.Option.{slice_get_read, slice_get-get_or, same_Some}, specs.Option.{option_and_then}, specs.Prelude.{slice_get, slice_index_or}}
 use Rattle.net_tables.specs.Repositories.{places_of}
-use Rattle.command_answers.specs.Ordering.{AreFirstAt}
-use Rattle.command_answers.proofs.Places.{one_record_more}
+use Rattle.command_answers.{specs.Ordering.{AreFirstAt}, proofs.Places.{one_record_more}}
 use Rattle.command_answers.proofs.repositories.records_by_place.Goals as goal
 
 pub loop-place-preserved : goal.loop-place-preserved

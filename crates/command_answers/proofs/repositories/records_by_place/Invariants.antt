@@ -1,5 +1,4 @@
-use Rattle.std.proofs.Common.{◌≡◌, option_map}
-use Rattle.std.specs.List.{filter_map, range_with_len}
+use Rattle.std.{proofs.Common.{◌≡◌, option_map}, specs.List.{filter_map, range_with_len}}
 use Rattle.pdr_repository.specs.Records.{entries}
 use Rattle.net_tables.specs.Repositories.{entry_of, record_at, places_of}
 use Rattle.command_answers.proofs.repositories.records_by_place.Given as goal

@@ -1,13 +1,9 @@
-use Rattle.std.proofs.Common.{◌∙◌, ap}
-use Rattle.std.proofs.lemmas.Result.{IfOk-weaker}
+use Rattle.std.{proofs.Common.{◌∙◌, ap}, proofs.lemmas.Result.{IfOk-weaker}}
 use Rattle.pdr_repository.specs.BlockTermini.{block_tid, block_records}
 use Rattle.net_check.proofs.Accepted.{orders}
 use Rattle.net_runs.specs.Walkers.{walked_at_start}
-use Rattle.net_sim.specs.Networks.{network_value, StandsAtStart}
-use Rattle.net_sim.specs.WalkedStanding.{StandsForWalked}
-use Rattle.plan_values.specs.declared.certificate.Certificate.{Certificate}
-use Rattle.plan_values.specs.declared.plan.Plan.{Plan}
-use Rattle.net_sim.specs.Dealing.{planned_termini}
+use Rattle.net_sim.{specs.Networks.{network_value, StandsAtStart}, specs.WalkedStanding.{StandsForWalked}, specs.Dealing.{planned_termini}}
+use Rattle.plan_values.{specs.declared.certificate.Certificate.{Certificate}, specs.declared.plan.Plan.{Plan}}
 use Rattle.command_answers.proofs.Places.{same_order}
 use Rattle.command_answers.proofs.termini.planned_network.Goals as goal
 

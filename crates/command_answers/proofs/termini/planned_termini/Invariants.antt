@@ -1,5 +1,4 @@
-use Rattle.std.proofs.Common.{◌≡◌, map}
-use Rattle.std.specs.List.{filter_map, range_with_len}
+use Rattle.std.{proofs.Common.{◌≡◌, map}, specs.List.{filter_map, range_with_len}}
 use Rattle.pdr_repository.specs.BlockTermini.{block_tid, block_records}
 use Rattle.net_runs.specs.Termini.{terminus_at_start}
 use Rattle.net_sim.specs.Dealing.{resting}

@@ -1,5 +1,4 @@
-use Rattle.std.proofs.Common.{◌≡◌, Some, length, option_map, ap, sym, ◌∙◌, arith}
-use Rattle.std.proofs.lemmas.List.{length-map}
+use Rattle.std.{proofs.Common.{◌≡◌, Some, length, option_map, ap, sym, ◌∙◌, arith}, proofs.lemmas.List.{length-map}}
 use Rattle.pdr_repository.specs.Records.{entries, entry_of}
 use Rattle.net_tables.specs.Repositories.{terminus_of}
 use Rattle.command_answers.proofs.Places.{has_terminus, lawful_records}

@@ -1,5 +1,4 @@
-use Rattle.std.proofs.Common.{rules, ◌≡◌, ◌<◌, List, ℕ, [], length, slice_index_or, string_bytes, subst, sym}
-use Rattle.std.specs.Prelude.{option_map}
+use Rattle.std.{proofs.Common.{rules, ◌≡◌, ◌<◌, List, ℕ, [], length, slice_index_or, string_bytes, subst, sym}, specs.Prelude.{option_map}}
 use Rattle.decoded_texts.proofs.SeenLaws.{HasTold, nothing_told, next_told}
 use Rattle.decoded_texts.proofs.decoding.lines_by.Goals as goal
 

@@ -1,5 +1,4 @@
-use Rattle.std.proofs.Common.{map, take}
-use Rattle.std.specs.Prelude.{string_bytes, option_map}
+use Rattle.std.{proofs.Common.{map, take}, specs.Prelude.{string_bytes, option_map}}
 use Rattle.bus_captures.specs.Values.{entry_value}
 use Rattle.decoded_texts.proofs.SeenLaws.{HasTold}
 use Rattle.decoded_texts.proofs.decoding.lines_by.Given as goal

@@ -1,8 +1,6 @@
-use Rattle.std.proofs.Common.{subst}
-use Rattle.std.specs.Prelude.{option_map}
+use Rattle.std.{proofs.Common.{subst}, specs.Prelude.{option_map}}
 use Rattle.bus_captures.specs.Values.{entry_value}
-use Rattle.heard_captures.specs.Sights.{seen_of}
-use Rattle.heard_captures.specs.Steps.{Sees}
+use Rattle.heard_captures.{specs.Sights.{seen_of}, specs.Steps.{Sees}}
 use Rattle.decoded_texts.proofs.SeenLaws.{step_if}
 use Rattle.decoded_texts.proofs.entries.push_entry.Goals as goal
 

@@ -1,6 +1,5 @@
 use Rattle.std.specs.Prelude.{option_map}
-use Rattle.mctp_transport.specs.Packets.{packet_value_of}
-use Rattle.mctp_transport.specs.Heard.{heard_answer}
+use Rattle.mctp_transport.{specs.Packets.{packet_value_of}, specs.Heard.{heard_answer}}
 use Rattle.decoded_texts.proofs.SeenLaws.{fed_if}
 use Rattle.decoded_texts.proofs.entries.push_fed.Goals as goal
 

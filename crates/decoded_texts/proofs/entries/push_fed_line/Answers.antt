@@ -1,13 +1,8 @@
-use Rattle.std.proofs.Common.{◌≡◌, ◌++◌, rules, string_bytes}
-use Rattle.std.specs.Prelude.{OnOk, codes, option_map}
-use Rattle.std.specs.Fmt.{decimal}
+use Rattle.std.{proofs.Common.{◌≡◌, ◌++◌, rules, string_bytes}, specs.Prelude.{OnOk, codes, option_map}, specs.Fmt.{decimal}}
 use Rattle.hex.specs.Hex.{encode_lower}
-use Rattle.mctp_transport.specs.Heard.{heard_answer}
-use Rattle.mctp_transport.specs.Packets.{packet_value_of}
+use Rattle.mctp_transport.{specs.Heard.{heard_answer}, specs.Packets.{packet_value_of}}
 use Rattle.plan_texts.specs.Shown.{address_words_of, position_words_of, tag_words_of}
-use Rattle.decoded_texts.specs.Names.{names_of}
-use Rattle.decoded_texts.specs.Seen.{answer_word}
-use Rattle.decoded_texts.proofs.SeenLaws.{line_joined}
+use Rattle.decoded_texts.{specs.Names.{names_of}, specs.Seen.{answer_word}, proofs.SeenLaws.{line_joined}}
 use Rattle.decoded_texts.proofs.entries.push_fed_line.Goals as goal
 
 pub returns : goal.returns

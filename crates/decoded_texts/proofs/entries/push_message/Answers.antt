@@ -1,5 +1,4 @@
-use Rattle.std.proofs.Common.{◌≡◌, ◌++◌, rules, string_bytes}
-use Rattle.std.specs.Prelude.{OnOk}
+use Rattle.std.{proofs.Common.{◌≡◌, ◌++◌, rules, string_bytes}, specs.Prelude.{OnOk}}
 use Rattle.decoded_texts.proofs.SeenLaws.{said_if}
 use Rattle.decoded_texts.proofs.entries.push_message.Goals as goal
 

@@ -1,9 +1,6 @@
-use Rattle.std.proofs.Common.{◌≡◌, ◌++◌, List, ℕ, string_bytes, subst, sym}
-use Rattle.std.specs.Prelude.{OnOk}
-use Rattle.mctp_transport.specs.Heard.{heard_answer}
-use Rattle.mctp_transport.specs.declared.heard.Heard.{Heard}
-use Rattle.decoded_texts.specs.Messages.{IsSaid}
-use Rattle.decoded_texts.specs.Seen.{IsSaidOf}
+use Rattle.std.{proofs.Common.{◌≡◌, ◌++◌, List, ℕ, string_bytes, subst, sym}, specs.Prelude.{OnOk}}
+use Rattle.mctp_transport.{specs.Heard.{heard_answer}, specs.declared.heard.Heard.{Heard}}
+use Rattle.decoded_texts.{specs.Messages.{IsSaid}, specs.Seen.{IsSaidOf}}
 use Rattle.decoded_texts.proofs.entries.push_said.Goals as goal
 
 pub returns-in-Whole : goal.returns-in-Whole

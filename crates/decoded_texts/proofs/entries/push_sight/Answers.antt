@@ -1,9 +1,6 @@
-use Rattle.std.proofs.Common.{string_bytes, subst, sym}
-use Rattle.std.specs.Prelude.{OnOk, option_map}
-use Rattle.heard_captures.specs.Sights.{seen_of}
-use Rattle.heard_captures.specs.declared.seeing.Sight.{Sight}
-use Rattle.decoded_texts.specs.Steps.{AddsTold}
-use Rattle.decoded_texts.proofs.SeenLaws.{told_if}
+use Rattle.std.{proofs.Common.{string_bytes, subst, sym}, specs.Prelude.{OnOk, option_map}}
+use Rattle.heard_captures.{specs.Sights.{seen_of}, specs.declared.seeing.Sight.{Sight}}
+use Rattle.decoded_texts.{specs.Steps.{AddsTold}, proofs.SeenLaws.{told_if}}
 use Rattle.decoded_texts.proofs.entries.push_sight.Goals as goal
 
 pub returns-in-Told : goal.returns-in-Told

@@ -1,6 +1,5 @@
 use Rattle.std.proofs.Common.{string_bytes}
-use Rattle.decoded_texts.specs.Seen.{told_line}
-use Rattle.decoded_texts.proofs.SeenLaws.{behind_if}
+use Rattle.decoded_texts.{specs.Seen.{told_line}, proofs.SeenLaws.{behind_if}}
 use Rattle.decoded_texts.proofs.entries.push_told.Goals as goal
 
 pub returns : goal.returns

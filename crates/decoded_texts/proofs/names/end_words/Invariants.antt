@@ -1,5 +1,4 @@
-use Rattle.std.proofs.Common.{◌≡◌, ℕ, ◌<◌, length, Global}
-use Rattle.std.specs.Prelude.{string_bytes, slice_index_or, String}
+use Rattle.std.{proofs.Common.{◌≡◌, ℕ, ◌<◌, length, Global}, specs.Prelude.{string_bytes, slice_index_or, String}}
 use Rattle.decoded_texts.specs.Names.{end_words}
 use Rattle.decoded_texts.proofs.names.end_words.Given as goal
 

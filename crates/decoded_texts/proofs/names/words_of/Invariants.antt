@@ -1,6 +1,4 @@
-use Rattle.std.proofs.Common.{◌≡◌, take}
-use Rattle.std.specs.Prelude.{string_bytes}
-use Rattle.std.specs.List.{flat_map}
+use Rattle.std.{proofs.Common.{◌≡◌, take}, specs.Prelude.{string_bytes}, specs.List.{flat_map}}
 use Rattle.decoded_texts.specs.Names.{holder_words}
 use Rattle.decoded_texts.proofs.names.words_of.Given as goal
 

@@ -1,5 +1,4 @@
-use Rattle.mctp_transport.specs.Packets.{packet_value_of}
-use Rattle.mctp_transport.specs.Heard.{heard_answer}
+use Rattle.mctp_transport.{specs.Packets.{packet_value_of}, specs.Heard.{heard_answer}}
 use Rattle.emulated_node.proofs.Giving.{given, sized, hears_over}
 use Rattle.emulated_node.proofs.hearing.hear_over.Goals as goal
 

@@ -1,8 +1,5 @@
-use Rattle.std.proofs.Common.{ap, sym, refl, ◌∙◌}
-use Rattle.std.specs.Prelude.{option_map}
-use Rattle.std.proofs.lemmas.Option.{same_Some}
-use Rattle.emulated_node.specs.Termini.{terminus_value}
-use Rattle.emulated_node.proofs.Answering.{answered, no_some}
+use Rattle.std.{proofs.Common.{ap, sym, refl, ◌∙◌}, specs.Prelude.{option_map}, proofs.lemmas.Option.{same_Some}}
+use Rattle.emulated_node.{specs.Termini.{terminus_value}, proofs.Answering.{answered, no_some}}
 use Rattle.emulated_node.proofs.responding.respond.Goals as goal
 
 pub returns-in-Some : goal.returns-in-Some

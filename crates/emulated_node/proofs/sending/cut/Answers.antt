@@ -1,6 +1,4 @@
-use Rattle.std.proofs.Common.{◌≡◌, ap, sym, ◌∙◌, [], map}
-use Rattle.std.proofs.lemmas.Bool.{eqb-true}
-use Rattle.std.proofs.lemmas.List.{nil_from_length}
+use Rattle.std.{proofs.Common.{◌≡◌, ap, sym, ◌∙◌, [], map}, proofs.lemmas.Bool.{eqb-true}, proofs.lemmas.List.{nil_from_length}}
 use Rattle.emulated_node.proofs.sending.cut.Goals as goal
 
 pub returns-then-is_empty : goal.returns-then-is_empty

@@ -1,6 +1,5 @@
 use Rattle.std.proofs.Common.{◌≡◌, ◌++◌, map}
-use Rattle.mctp_transport.specs.PacketValues.{packet_value_bytes}
-use Rattle.mctp_transport.specs.PacketsLeft.{frames_left}
+use Rattle.mctp_transport.{specs.PacketValues.{packet_value_bytes}, specs.PacketsLeft.{frames_left}}
 use Rattle.emulated_node.proofs.sending.cut.Given as goal
 
 abbrev pub invariant-loop-packet : goal.invariant-loop-packet

@@ -1,5 +1,4 @@
-use Rattle.std.proofs.Common.{string_bytes, subst, sym}
-use Rattle.std.specs.Cow.{cow_str_bytes}
+use Rattle.std.{proofs.Common.{string_bytes, subst, sym}, specs.Cow.{cow_str_bytes}}
 use Rattle.command_answers.specs.declared.status.Status.{Status}
 use Rattle.explain_commands.specs.Explaining.{IsSoundText, IsExplained}
 use Rattle.explain_commands.proofs.explain.explained_plan.Goals as goal

@@ -1,6 +1,5 @@
 use Rattle.std.proofs.Common.{ℕ, string_bytes}
-use Rattle.command_answers.specs.Certifying.{IsRuledOutBy}
-use Rattle.command_answers.proofs.Obstacles.{not_memory}
+use Rattle.command_answers.{specs.Certifying.{IsRuledOutBy}, proofs.Obstacles.{not_memory}}
 use Rattle.explain_commands.proofs.Explained.{obstacle_written}
 use Rattle.explain_commands.proofs.explain.obstacle_text.Goals as goal
 

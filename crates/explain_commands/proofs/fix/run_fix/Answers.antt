@@ -1,5 +1,4 @@
-use Rattle.std.proofs.Common.{string_bytes}
-use Rattle.std.specs.Cow.{cow_str_bytes}
+use Rattle.std.{proofs.Common.{string_bytes}, specs.Cow.{cow_str_bytes}}
 use Rattle.command_answers.specs.Answers.{stream}
 use Rattle.explain_commands.proofs.Mended.{both_end}
 use Rattle.explain_commands.proofs.fix.run_fix.Goals as goal

@@ -1,8 +1,7 @@
 //! The rows by which packets go while nodes move from one plan to another: of a loop, and where a way ends.
 ghost use Rattle.std.specs.Prelude.{◌≡◌, ◌+◌, IfOk, MatchBool, length, string_bytes};
 ghost use Rattle.explanation_texts.specs.Explanations.{row_for};
-ghost use Rattle.net_rules.specs.Certificates.{HasNoCertificate};
-ghost use Rattle.net_rules.specs.Rules.{Accepts};
+ghost use Rattle.net_rules.{specs.Certificates.{HasNoCertificate}, specs.Rules.{Accepts}};
 ghost use Rattle.plan_values.specs.declared.certificate.Certificate.{Certificate};
 ghost use Rattle.explain_commands.specs.MoveRows.{AreHopsTold, IsHopTold, IsMixedLoopTold, IsRowTold, IsWayOnTold, file_of};
 

@@ -1,9 +1,6 @@
-use Rattle.std.proofs.Common.{◌∙◌, ap, subst, sym}
-use Rattle.net_rules.specs.Circles.{IsLoopFrom, IsOnCircle}
-use Rattle.net_rules.specs.RecordChains.{IsFollowedBy}
-use Rattle.std.specs.List.{flat_map}
-use Rattle.explanation_texts.specs.Explanations.{around, record_subjects}
-use Rattle.explanation_texts.specs.Pieces.{entry_at}
+use Rattle.std.{proofs.Common.{◌∙◌, ap, subst, sym}, specs.List.{flat_map}}
+use Rattle.net_rules.{specs.Circles.{IsLoopFrom, IsOnCircle}, specs.RecordChains.{IsFollowedBy}}
+use Rattle.explanation_texts.{specs.Explanations.{around, record_subjects}, specs.Pieces.{entry_at}}
 use Rattle.explanation_texts.proofs.explanations.circle_pieces.Goals as goal
 
 pub circle_from-requires-clause-circle : goal.circle_from-requires-clause-circle

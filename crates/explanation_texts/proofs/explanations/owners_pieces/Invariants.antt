@@ -1,7 +1,5 @@
-use Rattle.std.proofs.Common.{◌≡◌, take}
-use Rattle.std.specs.List.{flat_map}
-use Rattle.explanation_texts.specs.Explanations.{owner_subjects}
-use Rattle.explanation_texts.specs.Pieces.{subjects}
+use Rattle.std.{proofs.Common.{◌≡◌, take}, specs.List.{flat_map}}
+use Rattle.explanation_texts.{specs.Explanations.{owner_subjects}, specs.Pieces.{subjects}}
 use Rattle.explanation_texts.proofs.explanations.owners_pieces.Given as goal
 
 abbrev pub invariant-loop-node : goal.invariant-loop-node

@@ -1,7 +1,5 @@
-use Rattle.std.proofs.Common.{◌≡◌, take}
-use Rattle.std.specs.List.{flat_map}
-use Rattle.explanation_texts.specs.Explanations.{record_subjects}
-use Rattle.explanation_texts.specs.Pieces.{entry_at, subjects}
+use Rattle.std.{proofs.Common.{◌≡◌, take}, specs.List.{flat_map}}
+use Rattle.explanation_texts.{specs.Explanations.{record_subjects}, specs.Pieces.{entry_at, subjects}}
 use Rattle.explanation_texts.proofs.explanations.records_pieces.Given as goal
 
 abbrev pub invariant-loop-index : goal.invariant-loop-index

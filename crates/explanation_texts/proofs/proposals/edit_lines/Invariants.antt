@@ -1,5 +1,4 @@
-use Rattle.std.proofs.Common.{◌≡◌, string_bytes, take}
-use Rattle.std.specs.List.{flat_map}
+use Rattle.std.{proofs.Common.{◌≡◌, string_bytes, take}, specs.List.{flat_map}}
 use Rattle.explanation_texts.specs.EditLines.{tried_text}
 use Rattle.explanation_texts.proofs.proposals.edit_lines.Given as goal
 

@@ -1,5 +1,4 @@
-use Rattle.std.proofs.Common.{◌≡◌, ◌*◌, ◌≤◌, take}
-use Rattle.std.specs.Prelude.{sum_by}
+use Rattle.std.{proofs.Common.{◌≡◌, ◌*◌, ◌≤◌, take}, specs.Prelude.{sum_by}}
 use Rattle.explanation_texts.specs.SummaryLines.{record_count}
 use Rattle.explanation_texts.proofs.summaries.records_in_all.Given as goal
 

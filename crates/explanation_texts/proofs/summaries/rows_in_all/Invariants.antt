@@ -1,5 +1,4 @@
-use Rattle.std.proofs.Common.{◌≡◌, ◌*◌, ◌≤◌, take, length}
-use Rattle.std.specs.Prelude.{sum_by}
+use Rattle.std.{proofs.Common.{◌≡◌, ◌*◌, ◌≤◌, take, length}, specs.Prelude.{sum_by}}
 use Rattle.explanation_texts.proofs.summaries.rows_in_all.Given as goal
 
 abbrev pub invariant-loop-node : goal.invariant-loop-node

@@ -1,7 +1,6 @@
 use Rattle.std.proofs.Common.{sym, subst}
 use Rattle.plan_values.specs.declared.plan.Plan.{Plan}
-use Rattle.net_tables.specs.Routing.{rows_of}
-use Rattle.net_tables.specs.Tables.{AreRows}
+use Rattle.net_tables.{specs.Routing.{rows_of}, specs.Tables.{AreRows}}
 use Rattle.export_commands.proofs.Lawful.{are_rows}
 use Rattle.export_commands.proofs.exported.source_of.Goals as goal
 

@@ -1,10 +1,7 @@
 use Rattle.std.proofs.Common.{sym, ap, subst}
-use Rattle.plan_values.specs.declared.certificate.Certificate.{Certificate}
-use Rattle.plan_values.specs.declared.plan.Plan.{Plan}
-use Rattle.command_answers.specs.Answers.{IsFaultText}
-use Rattle.command_answers.specs.declared.status.Status.{Status}
-use Rattle.export_commands.specs.Exporting.{AnswersAt, HasForm, IsExported}
-use Rattle.export_commands.proofs.Answered.{first_told}
+use Rattle.plan_values.{specs.declared.certificate.Certificate.{Certificate}, specs.declared.plan.Plan.{Plan}}
+use Rattle.command_answers.{specs.Answers.{IsFaultText}, specs.declared.status.Status.{Status}}
+use Rattle.export_commands.{specs.Exporting.{AnswersAt, HasForm, IsExported}, proofs.Answered.{first_told}}
 use Rattle.export_commands.proofs.exports.answer_at.Goals as goal
 
 pub exported-requires : goal.exported-requires

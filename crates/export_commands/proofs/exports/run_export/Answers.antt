@@ -1,5 +1,4 @@
-use Rattle.std.proofs.Common.{refl, inl, inr}
-use Rattle.std.proofs.lemmas.Result.{IfOk-weaker, IfErr-weaker}
+use Rattle.std.{proofs.Common.{refl, inl, inr}, proofs.lemmas.Result.{IfOk-weaker, IfErr-weaker}}
 use Rattle.command_answers.proofs.Told.{concludes_bytes, concludes_unread}
 use Rattle.export_commands.proofs.exports.run_export.Goals as goal
 

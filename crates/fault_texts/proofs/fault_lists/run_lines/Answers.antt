@@ -1,7 +1,5 @@
-use Rattle.std.proofs.Common.{◌≡◌, ◌+◌, ◌++◌, [], ◌∷◌, List, ℕ, string_bytes, take, sym, subst}
-use Rattle.std.proofs.lemmas.List.{take_more}
-use Rattle.fault_texts.specs.FaultListLines.{AreRunLines, IsRunLine}
-use Rattle.fault_texts.proofs.RunLines.{one_more}
+use Rattle.std.{proofs.Common.{◌≡◌, ◌+◌, ◌++◌, [], ◌∷◌, List, ℕ, string_bytes, take, sym, subst}, proofs.lemmas.List.{take_more}}
+use Rattle.fault_texts.{specs.FaultListLines.{AreRunLines, IsRunLine}, proofs.RunLines.{one_more}}
 use Rattle.fault_texts.proofs.fault_lists.run_lines.Goals as goal
 
 pub loop-run-init : goal.loop-run-init

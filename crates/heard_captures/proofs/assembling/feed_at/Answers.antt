@@ -1,6 +1,5 @@
 use Rattle.std.proofs.Common.{◌<◌, length, rules, refl}
-use Rattle.mctp_transport.specs.Packets.{packet_value_of}
-use Rattle.mctp_transport.specs.Heard.{heard_answer}
+use Rattle.mctp_transport.{specs.Packets.{packet_value_of}, specs.Heard.{heard_answer}}
 use Rattle.heard_captures.proofs.StationLaws.{fed_at_if}
 use Rattle.heard_captures.proofs.assembling.feed_at.Goals as goal
 

@@ -1,6 +1,5 @@
 use Rattle.bus_captures.specs.Values.{entry_value}
-use Rattle.heard_captures.specs.Sights.{seen_of}
-use Rattle.heard_captures.proofs.HearingLaws.{heard_so}
+use Rattle.heard_captures.{specs.Sights.{seen_of}, proofs.HearingLaws.{heard_so}}
 use Rattle.heard_captures.proofs.messages.hear.Goals as goal
 
 pub returns : goal.returns

@@ -1,7 +1,5 @@
 use Rattle.std.proofs.Common.{rules, ◌≡◌, ◌<◌, [], List, length, slice_index_or, subst, sym, map}
-use Rattle.heard_captures.specs.Messages.{message_value}
-use Rattle.heard_captures.specs.declared.messages.Message.{Message}
-use Rattle.heard_captures.proofs.HearingLaws.{HaveHeard, nothing_heard, next_heard}
+use Rattle.heard_captures.{specs.Messages.{message_value}, specs.declared.messages.Message.{Message}, proofs.HearingLaws.{HaveHeard, nothing_heard, next_heard}}
 use Rattle.heard_captures.proofs.messages.heard_messages.Goals as goal
 
 pub loop-entry-init : goal.loop-entry-init

@@ -1,7 +1,6 @@
 use Rattle.std.proofs.Common.{map, take}
 use Rattle.bus_captures.specs.Values.{entry_value}
-use Rattle.heard_captures.specs.Messages.{message_value}
-use Rattle.heard_captures.proofs.HearingLaws.{HaveHeard}
+use Rattle.heard_captures.{specs.Messages.{message_value}, proofs.HearingLaws.{HaveHeard}}
 use Rattle.heard_captures.proofs.messages.heard_messages.Given as goal
 
 abbrev pub invariant-loop-entry : goal.invariant-loop-entry

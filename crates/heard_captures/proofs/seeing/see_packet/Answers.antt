@@ -1,8 +1,6 @@
 use Rattle.std.proofs.Common.{List, ℕ, subst, refl}
-use Rattle.mctp_transport.specs.PacketValues.{Spelled}
-use Rattle.mctp_transport.specs.Packets.{packet_value_of}
-use Rattle.heard_captures.specs.Seen.{IsNoPacketFor}
-use Rattle.heard_captures.proofs.SeenLaws.{no_packet_for}
+use Rattle.mctp_transport.{specs.PacketValues.{Spelled}, specs.Packets.{packet_value_of}}
+use Rattle.heard_captures.{specs.Seen.{IsNoPacketFor}, proofs.SeenLaws.{no_packet_for}}
 use Rattle.heard_captures.proofs.seeing.see_packet.Goals as goal
 
 pub returns-in_ok-heard-in-Ok : goal.returns-in_ok-heard-in-Ok

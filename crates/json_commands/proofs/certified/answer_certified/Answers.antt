@@ -1,7 +1,6 @@
 use Rattle.std.proofs.Common.{sym, subst}
 use Rattle.serde_json.specs.View.{view}
-use Rattle.command_answers.specs.declared.status.Status.{Status}
-use Rattle.command_answers.specs.Answers.{stream}
+use Rattle.command_answers.{specs.declared.status.Status.{Status}, specs.Answers.{stream}}
 use Rattle.json_commands.specs.Certified.{AreSourcesSaid}
 use Rattle.json_commands.proofs.certified.answer_certified.Goals as goal
 

@@ -1,9 +1,8 @@
 use Rattle.std.proofs.Common.{rules, ◌≡◌, ℕ, is_some, true, false, sym, subst}
 use Rattle.mctp_transport.specs.declared.address.Eid.{Eid}
 use Rattle.command_questions.specs.declared.certified.CertifiedJson.{CertifiedJson}
-use Rattle.json_commands.specs.Certified.{IsNamedIn}
+use Rattle.json_commands.{specs.Certified.{IsNamedIn}, proofs.Named.{was_found, was_not_found}}
 use Rattle.command_answers.specs.Naming.{IsDestination, NameTheEnds, IsFirstNamed}
-use Rattle.json_commands.proofs.Named.{was_found, was_not_found}
 use Rattle.json_commands.proofs.certified.is_named_in.Goals as goal
 
 pub returns-in-Trace-clause-yes : goal.returns-in-Trace-clause-yes

@@ -1,10 +1,8 @@
 use Rattle.std.proofs.Common.{rules, List, ℕ, inl, inr, sym, ap, subst}
 use Rattle.serde_json.specs.View.{view}
-use Rattle.plan_values.specs.declared.certificate.Certificate.{Certificate}
-use Rattle.plan_values.specs.declared.plan.Plan.{Plan}
+use Rattle.plan_values.{specs.declared.certificate.Certificate.{Certificate}, specs.declared.plan.Plan.{Plan}}
 use Rattle.command_questions.specs.declared.form.Form.{Form}
-use Rattle.json_commands.specs.Certified.{AreCheckedSaid, IsNamedIn, command_of}
-use Rattle.json_commands.specs.Unread.{IsUnknownSaid}
+use Rattle.json_commands.{specs.Certified.{AreCheckedSaid, IsNamedIn, command_of}, specs.Unread.{IsUnknownSaid}}
 use Rattle.json_commands.proofs.certified.said_of_both.Goals as goal
 
 pub said_of_checked-requires : goal.said_of_checked-requires

@@ -1,9 +1,7 @@
 use Rattle.std.proofs.Common.{inr}
 use Rattle.serde_json.specs.View.{view}
-use Rattle.command_answers.specs.Answers.{stream}
-use Rattle.command_answers.proofs.GivenTexts.{gave_plan}
-use Rattle.json_commands.proofs.UnreadSaid.{plan_said}
-use Rattle.json_commands.proofs.Sources.{of_plan}
+use Rattle.command_answers.{specs.Answers.{stream}, proofs.GivenTexts.{gave_plan}}
+use Rattle.json_commands.{proofs.UnreadSaid.{plan_said}, proofs.Sources.{of_plan}}
 use Rattle.json_commands.proofs.certified.said_of_sources.Goals as goal
 
 pub returns-in-Ok-clause-says : goal.returns-in-Ok-clause-says

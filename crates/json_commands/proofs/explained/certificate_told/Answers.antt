@@ -1,11 +1,8 @@
 use Rattle.std.proofs.Common.{◌∙◌, List, ℕ, ap, sym, subst}
-use Rattle.serde_json.specs.Data.{Data}
-use Rattle.serde_json.specs.View.{view}
+use Rattle.serde_json.{specs.Data.{Data}, specs.View.{view}}
+use Rattle.explanation_texts.{specs.CertificateSubjects.{certificate_subjects}, specs.Pieces.{Tells}}
+use Rattle.json_commands.{specs.Explained.{explained_data}, specs.Notes.{lines_data}}
 use Rattle.command_answers.specs.declared.status.Status.TheVariants as status
-use Rattle.explanation_texts.specs.CertificateSubjects.{certificate_subjects}
-use Rattle.explanation_texts.specs.Pieces.{Tells}
-use Rattle.json_commands.specs.Explained.{explained_data}
-use Rattle.json_commands.specs.Notes.{lines_data}
 use Rattle.json_commands.proofs.explained.certificate_told.Goals as goal
 
 pub returns : goal.returns

@@ -1,8 +1,7 @@
 use Rattle.std.proofs.Common.{◌≡◌, List, subst}
 use Rattle.serde_json.specs.View.{view}
 use Rattle.net_explained.specs.declared.trial.Tried.{Tried}
-use Rattle.json_commands.specs.Edits.{edit_data}
-use Rattle.json_commands.specs.Lists.{IsListTold}
+use Rattle.json_commands.{specs.Edits.{edit_data}, specs.Lists.{IsListTold}}
 use Rattle.json_commands.proofs.explained.edits_of.Goals as goal
 
 pub returns : goal.returns

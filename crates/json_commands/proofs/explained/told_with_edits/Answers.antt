@@ -1,8 +1,7 @@
 use Rattle.std.proofs.Common.{◌∙◌, ap}
 use Rattle.serde_json.specs.View.{view}
+use Rattle.json_commands.{specs.Explained.{explained_data}, specs.Notes.{lines_data}}
 use Rattle.command_answers.specs.declared.status.Status.TheVariants as status
-use Rattle.json_commands.specs.Explained.{explained_data}
-use Rattle.json_commands.specs.Notes.{lines_data}
 use Rattle.json_commands.proofs.explained.told_with_edits.Goals as goal
 
 pub returns : goal.returns

@@ -1,10 +1,8 @@
-use Rattle.std.proofs.Common.{inl, inr, subst}
-use Rattle.std.specs.Prelude.{codes}
-use Rattle.serde_json.specs.Data.{Data}
-use Rattle.serde_json.specs.View.{view}
-use Rattle.command_answers.specs.declared.status.Status.TheVariants as status
+use Rattle.std.{proofs.Common.{inl, inr, subst}, specs.Prelude.{codes}}
+use Rattle.serde_json.{specs.Data.{Data}, specs.View.{view}}
 use Rattle.command_answers.proofs.Obstacles.{not_memory}
 use Rattle.json_commands.specs.Reports.{IsReport}
+use Rattle.command_answers.specs.declared.status.Status.TheVariants as status
 use Rattle.json_commands.proofs.faults.obstacle_of_plan.Goals as goal
 
 pub returns-in_ok-report-in-Ok : goal.returns-in_ok-report-in-Ok

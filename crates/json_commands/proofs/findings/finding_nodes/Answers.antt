@@ -1,5 +1,4 @@
-use Rattle.std.proofs.Common.{◌∙◌, List, ℕ, subst}
-use Rattle.std.specs.Prelude.{IfOk}
+use Rattle.std.{proofs.Common.{◌∙◌, List, ℕ, subst}, specs.Prelude.{IfOk}}
 use Rattle.serde_json.specs.View.{view}
 use Rattle.json_commands.specs.Notes.{AreNodesTold}
 use Rattle.json_commands.proofs.findings.finding_nodes.Goals as goal

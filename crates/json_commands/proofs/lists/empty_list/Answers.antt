@@ -1,7 +1,5 @@
 use Rattle.std.proofs.Common.{ap, ◌∙◌}
-use Rattle.serde_json.specs.Data.{array}
-use Rattle.serde_json.specs.View.{items_view}
-use Rattle.serde_json.proofs.Views.{view-Array}
+use Rattle.serde_json.{specs.Data.{array}, specs.View.{items_view}, proofs.Views.{view-Array}}
 use Rattle.json_commands.proofs.lists.empty_list.Goals as goal
 
 pub returns : goal.returns

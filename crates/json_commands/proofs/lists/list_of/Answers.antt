@@ -1,10 +1,6 @@
-use Rattle.std.proofs.Common.{rules, ◌≡◌, ◌+◌, ◌++◌, [], ◌∷◌, List, map, take, take_all, ap, sym, subst, ◌∙◌}
-use Rattle.std.proofs.lemmas.List.{take_more, map-append}
-use Rattle.serde_json.specs.Data.{Data}
-use Rattle.serde_json.specs.View.{view}
-use Rattle.serde_json.proofs.Views.{view-Array}
-use Rattle.json_commands.specs.Lists.{AreTold}
-use Rattle.json_commands.proofs.OneMore.{one_more}
+use Rattle.std.{proofs.Common.{rules, ◌≡◌, ◌+◌, ◌++◌, [], ◌∷◌, List, map, take, take_all, ap, sym, subst, ◌∙◌}, proofs.lemmas.List.{take_more, map-append}}
+use Rattle.serde_json.{specs.Data.{Data}, specs.View.{view}, proofs.Views.{view-Array}}
+use Rattle.json_commands.{specs.Lists.{AreTold}, proofs.OneMore.{one_more}}
 use Rattle.json_commands.proofs.lists.list_of.Goals as goal
 
 pub loop-item-init : goal.loop-item-init

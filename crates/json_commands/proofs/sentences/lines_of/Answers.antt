@@ -1,5 +1,4 @@
-use Rattle.std.proofs.lemmas.Iterator.Consumers.{map_from_collect}
-use Rattle.std.proofs.lemmas.Iterator.Splits.{YieldsList-from_lines}
+use Rattle.std.{proofs.lemmas.Iterator.Consumers.{map_from_collect}, proofs.lemmas.Iterator.Splits.{YieldsList-from_lines}}
 use Rattle.json_commands.proofs.sentences.lines_of.Goals as goal
 
 pub returns : goal.returns

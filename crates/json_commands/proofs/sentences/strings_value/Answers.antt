@@ -1,7 +1,5 @@
 use Rattle.std.proofs.Common.{rules, ◌≡◌, map, take, take_all, ap, ◌∙◌}
-use Rattle.serde_json.specs.Data.{array, string}
-use Rattle.serde_json.specs.View.{items_of}
-use Rattle.serde_json.proofs.Views.{view-Array}
+use Rattle.serde_json.{specs.Data.{array, string}, specs.View.{items_of}, proofs.Views.{view-Array}}
 use Rattle.json_commands.proofs.sentences.strings_value.Goals as goal
 
 pub returns : goal.returns

@@ -1,9 +1,7 @@
-use Rattle.std.proofs.Common.{List, refl, subst}
+use Rattle.std.proofs.Common.{List, refl, subst, ◌∙◌, ap}
 use Rattle.serde_json.specs.View.{view}
 use Rattle.net_questions.specs.declared.step.WayStep.{WayStep}
-use Rattle.json_commands.specs.Lists.{IsListTold}
-use Rattle.json_commands.specs.Traced.{IsStepTold, traced_data}
-use Rattle.std.proofs.Common.{◌∙◌, ap}
+use Rattle.json_commands.{specs.Lists.{IsListTold}, specs.Traced.{IsStepTold, traced_data}}
 use Rattle.json_commands.proofs.traced.way_said.Goals as goal
 
 pub returns : goal.returns

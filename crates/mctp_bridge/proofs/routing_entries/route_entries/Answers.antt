@@ -1,6 +1,5 @@
 use Rattle.std.proofs.Common.{◌++◌, length, sym, ap, ◌∙◌}
-use Rattle.mctp_bridge.specs.Entries.{row_entries, table_entries}
-use Rattle.mctp_bridge.proofs.EntryRows.{entries_more, entries_all}
+use Rattle.mctp_bridge.{specs.Entries.{row_entries, table_entries}, proofs.EntryRows.{entries_more, entries_all}}
 use Rattle.mctp_bridge.proofs.routing_entries.route_entries.Goals as goal
 
 pub loop-index-preserved : goal.loop-index-preserved

@@ -1,5 +1,4 @@
-use Rattle.std.proofs.Common.{◌≡◌, take, map}
-use Rattle.std.specs.List.{flat_map, zip}
+use Rattle.std.{proofs.Common.{◌≡◌, take, map}, specs.List.{flat_map, zip}}
 use Rattle.mctp_control.specs.RouteEntries.{entry_value}
 use Rattle.mctp_bridge.specs.Entries.{row_entries}
 use Rattle.mctp_bridge.proofs.routing_entries.route_entries.Given as goal

@@ -1,7 +1,5 @@
-use Rattle.std.proofs.Common.{◌≡◌, length, take}
-use Rattle.std.specs.List.{AllByRecursion}
-use Rattle.mctp_control.specs.RouteEntries.{IsEntry}
-use Rattle.mctp_control.specs.EntryLists.{entries_bytes, values_of}
+use Rattle.std.{proofs.Common.{◌≡◌, length, take}, specs.List.{AllByRecursion}}
+use Rattle.mctp_control.{specs.RouteEntries.{IsEntry}, specs.EntryLists.{entries_bytes, values_of}}
 use Rattle.mctp_control.proofs.entries.byte_count.Given as goal
 
 abbrev pub invariant-loop-entry : goal.invariant-loop-entry

@@ -1,8 +1,5 @@
 use Rattle.std.proofs.Common.{arith, ap, ◌∙◌, length-append, length, take, ◌≡◌, ◌+◌}
-use Rattle.mctp_control.specs.RouteEntries.{entry_value, entry_bytes}
-use Rattle.mctp_control.specs.EntryLists.{entries_bytes, values_of}
-use Rattle.mctp_control.proofs.EntryTaking.{bytes_more}
-use Rattle.mctp_control.proofs.EntryFitting.{is_most, few_fit}
+use Rattle.mctp_control.{specs.RouteEntries.{entry_value, entry_bytes}, specs.EntryLists.{entries_bytes, values_of}, proofs.EntryTaking.{bytes_more}, proofs.EntryFitting.{is_most, few_fit}}
 use Rattle.mctp_control.proofs.replies.fitting.Goals as goal
 
 pub returns-then-bytes-gt-MAX_ENTRY_BYTES-clause-most : goal.returns-then-bytes-gt-MAX_ENTRY_BYTES-clause-most

@@ -1,8 +1,5 @@
-use Rattle.std.proofs.Common.{inl, inr, arith, drop}
-use Rattle.std.proofs.lemmas.List.{take-map}
-use Rattle.mctp_control.specs.EntryLists.{values_of}
-use Rattle.mctp_control.specs.Replies.{IsMost}
-use Rattle.mctp_control.proofs.EntryFitting.{rest_of, is_told}
+use Rattle.std.{proofs.Common.{inl, inr, arith, drop}, proofs.lemmas.List.{take-map}}
+use Rattle.mctp_control.{specs.EntryLists.{values_of}, specs.Replies.{IsMost}, proofs.EntryFitting.{rest_of, is_told}}
 use Rattle.mctp_control.proofs.replies.tell_entries.Goals as goal
 
 -- the count is the most that fit of the entries from the handle on

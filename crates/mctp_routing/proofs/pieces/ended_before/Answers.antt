@@ -1,8 +1,5 @@
-use Rattle.std.proofs.Common.{ℕ, ◌+◌, Bool, get_or, rules}
-use Rattle.std.proofs.Math.Dec.{leb}
-use Rattle.std.proofs.lemmas.List.Sorted.{IsPartitionedBy-leb, IsPartitionPoint-from_clause}
-use Rattle.mctp_routing.specs.declared.row.TableRow.{TableRow}
-use Rattle.mctp_routing.proofs.PieceSteps.{ends_ascend, ended_by, not_ended_by}
+use Rattle.std.{proofs.Common.{ℕ, ◌+◌, Bool, get_or, rules}, proofs.Math.Dec.{leb}, proofs.lemmas.List.Sorted.{IsPartitionedBy-leb, IsPartitionPoint-from_clause}}
+use Rattle.mctp_routing.{specs.declared.row.TableRow.{TableRow}, proofs.PieceSteps.{ends_ascend, ended_by, not_ended_by}}
 use Rattle.mctp_routing.proofs.pieces.ended_before.Goals as goal
 
 pub returns-clause-ended : goal.returns-clause-ended

@@ -1,8 +1,5 @@
-use Rattle.std.proofs.Common.{ℕ, Bool, get_or, rules}
-use Rattle.std.proofs.Math.Dec.{leb}
-use Rattle.std.proofs.lemmas.List.Sorted.{IsPartitionedBy-leb, IsPartitionPoint-from_clause}
-use Rattle.mctp_routing.specs.declared.row.TableRow.{TableRow}
-use Rattle.mctp_routing.proofs.Halving.{rows_ascend, begins_by, begins_past}
+use Rattle.std.{proofs.Common.{ℕ, Bool, get_or, rules}, proofs.Math.Dec.{leb}, proofs.lemmas.List.Sorted.{IsPartitionedBy-leb, IsPartitionPoint-from_clause}}
+use Rattle.mctp_routing.{specs.declared.row.TableRow.{TableRow}, proofs.Halving.{rows_ascend, begins_by, begins_past}}
 use Rattle.mctp_routing.proofs.range_table.begun_by.Goals as goal
 
 pub returns-clause-begun : goal.returns-clause-begun

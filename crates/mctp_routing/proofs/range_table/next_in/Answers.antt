@@ -1,6 +1,5 @@
 use Rattle.std.proofs.Common.{◌-◌, ◌<◌, length, refl, arith}
-use Rattle.mctp_routing.proofs.Fronts.{refuted}
-use Rattle.mctp_routing.proofs.Halving.{no_row, not_the_last, begins_low, row_routes}
+use Rattle.mctp_routing.{proofs.Fronts.{refuted}, proofs.Halving.{no_row, not_the_last, begins_low, row_routes}}
 use Rattle.mctp_routing.proofs.range_table.next_in.Goals as goal
 
 pub returns-then-begun-eq0 : goal.returns-then-begun-eq0

@@ -1,8 +1,5 @@
-use Rattle.std.proofs.Common.{ℕ, rules}
-use Rattle.std.specs.List.Sorted.{IsPermutation}
-use Rattle.std.proofs.lemmas.List.Sorted.{IsNonDecreasingBy-from_sort_by_key}
-use Rattle.mctp_routing.specs.declared.row.TableRow.{TableRow}
-use Rattle.mctp_routing.proofs.Apart.{table_of, routes_moved}
+use Rattle.std.{proofs.Common.{ℕ, rules}, specs.List.Sorted.{IsPermutation}, proofs.lemmas.List.Sorted.{IsNonDecreasingBy-from_sort_by_key}}
+use Rattle.mctp_routing.{specs.declared.row.TableRow.{TableRow}, proofs.Apart.{table_of, routes_moved}}
 use Rattle.mctp_routing.proofs.range_table.sorted.Goals as goal
 
 pub returns-clause-ordered : goal.returns-clause-ordered

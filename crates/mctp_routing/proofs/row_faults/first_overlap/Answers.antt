@@ -1,8 +1,5 @@
-use Rattle.std.proofs.Common.{refl, subst, sym}
-use Rattle.std.proofs.lemmas.List.{take_all}
-use Rattle.std.proofs.lemmas.List.Elements.{All-more, All-same}
-use Rattle.mctp_routing.specs.Rows.{AreApart}
-use Rattle.mctp_routing.proofs.Fronts.{refuted, stands}
+use Rattle.std.{proofs.Common.{refl, subst, sym}, proofs.lemmas.List.{take_all}, proofs.lemmas.List.Elements.{All-more, All-same}}
+use Rattle.mctp_routing.{specs.Rows.{AreApart}, proofs.Fronts.{refuted, stands}}
 use Rattle.mctp_routing.proofs.row_faults.first_overlap.Goals as goal
 
 pub returns-then-not-is_apart_from : goal.returns-then-not-is_apart_from

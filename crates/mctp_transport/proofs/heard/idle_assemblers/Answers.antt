@@ -1,8 +1,5 @@
-use Rattle.std.proofs.Common.{◌+◌, All, List, length, sym, ◌∙◌, ap, subst}
-use Rattle.std.proofs.lemmas.List.{length_push}
-use Rattle.std.proofs.lemmas.List.Elements.{All-push}
-use Rattle.mctp_transport.specs.declared.assembler.Assembler.{Assembler}
-use Rattle.mctp_transport.specs.Heard.{IsIdle}
+use Rattle.std.{proofs.Common.{◌+◌, All, List, length, sym, ◌∙◌, ap, subst}, proofs.lemmas.List.{length_push}, proofs.lemmas.List.Elements.{All-push}}
+use Rattle.mctp_transport.{specs.declared.assembler.Assembler.{Assembler}, specs.Heard.{IsIdle}}
 use Rattle.mctp_transport.proofs.heard.idle_assemblers.Goals as goal
 
 pub loop-preserved : goal.loop-preserved

@@ -1,5 +1,4 @@
-use Rattle.net_runs.specs.States.{unit_of}
-use Rattle.net_runs.proofs.WalkedExact.{walked_runs_as_sent}
+use Rattle.net_runs.{specs.States.{unit_of}, proofs.WalkedExact.{walked_runs_as_sent}}
 use Rattle.net_tables.specs.TwoPlans.{one_plan}
 use Rattle.net_check.proofs.Whole.{accepted_headline, accepted_delivers, accepted_walks, accepted_walked_headline, accepted_walked_delivers}
 use Rattle.net_check.proofs.checked.check.Goals as goal

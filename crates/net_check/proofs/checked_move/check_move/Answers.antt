@@ -1,7 +1,5 @@
-use Rattle.net_runs.proofs.WalkedExact.{walked_runs_as_sent}
-use Rattle.net_runs.specs.States.{unit_of}
+use Rattle.net_runs.{proofs.WalkedExact.{walked_runs_as_sent}, specs.States.{unit_of}, proofs.Exact.{sent_by}}
 use Rattle.net_tables.specs.TwoPlans.{moving}
-use Rattle.net_runs.proofs.Exact.{sent_by}
 use Rattle.net_check.proofs.Whole.{accepted_headline, accepted_delivers, accepted_walks, accepted_walked_headline, accepted_walked_delivers}
 use Rattle.net_check.proofs.checked_move.check_move.Goals as goal
 

@@ -1,5 +1,4 @@
-use Rattle.net_check.proofs.OneObstacle.{one_obstacle}
-use Rattle.net_check.proofs.OneMoveObstacle.{one_move_obstacle}
+use Rattle.net_check.{proofs.OneObstacle.{one_obstacle}, proofs.OneMoveObstacle.{one_move_obstacle}}
 use Rattle.net_check.proofs.laws.one_obstacle.Goals as goal
 
 pub returns : goal.returns

@@ -1,9 +1,6 @@
-use Rattle.std.proofs.Common.{length, sym, arith, ◌-◌}
-use Rattle.std.proofs.lemmas.List.{length_push, length-map}
-use Rattle.net_rules.specs.Circles.{MovesBy}
-use Rattle.net_rules.proofs.Circling.{one_place_more, under_way_within, stands_there, ended_not_back, back_again}
-use Rattle.net_explained.specs.Followers.{record_of_handle, followers}
-use Rattle.net_explained.proofs.FollowersOf.{circles_alike, loop_alike}
+use Rattle.std.{proofs.Common.{length, sym, arith, ◌-◌}, proofs.lemmas.List.{length_push, length-map}}
+use Rattle.net_rules.{specs.Circles.{MovesBy}, proofs.Circling.{one_place_more, under_way_within, stands_there, ended_not_back, back_again}}
+use Rattle.net_explained.{specs.Followers.{record_of_handle, followers}, proofs.FollowersOf.{circles_alike, loop_alike}}
 use Rattle.net_explained.proofs.circle.circle_from.Goals as goal
 
 pub loop-next-smaller : goal.loop-next-smaller

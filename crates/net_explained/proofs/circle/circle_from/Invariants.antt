@@ -1,6 +1,5 @@
 use Rattle.std.proofs.Common.{◌-◌, ◌+◌, length}
-use Rattle.net_rules.specs.Circles.{MovesBy}
-use Rattle.net_rules.proofs.Circling.{IsUnderWay}
+use Rattle.net_rules.{specs.Circles.{MovesBy}, proofs.Circling.{IsUnderWay}}
 use Rattle.net_explained.specs.Followers.{followers}
 use Rattle.net_explained.proofs.circle.circle_from.Given as goal
 

@@ -1,7 +1,5 @@
-use Rattle.std.proofs.Common.{◌∙◌, ap, sym}
-use Rattle.std.specs.Prelude.{option_and_then}
-use Rattle.net_explained.specs.Followers.{record_of_handle}
-use Rattle.net_explained.proofs.FollowersOf.{follower_at}
+use Rattle.std.{proofs.Common.{◌∙◌, ap, sym}, specs.Prelude.{option_and_then}}
+use Rattle.net_explained.{specs.Followers.{record_of_handle}, proofs.FollowersOf.{follower_at}}
 use Rattle.net_explained.proofs.circle.follower_of.Goals as goal
 
 pub returns-in-Some : goal.returns-in-Some

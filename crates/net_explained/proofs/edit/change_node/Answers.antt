@@ -1,5 +1,4 @@
-use Rattle.std.proofs.Common.{map, ap, ◌∙◌}
-use Rattle.std.proofs.lemmas.List.{map-set}
+use Rattle.std.{proofs.Common.{map, ap, ◌∙◌}, proofs.lemmas.List.{map-set}}
 use Rattle.plan_values.specs.NodeValues.{node_value, row_value}
 use Rattle.net_explained.proofs.Editing.{map_remove}
 use Rattle.net_explained.proofs.edit.change_node.Goals as goal

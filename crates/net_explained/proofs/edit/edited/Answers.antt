@@ -1,8 +1,6 @@
-use Rattle.std.proofs.Common.{◌≡◌, ◌<◌, length, refl, rules}
-use Rattle.std.specs.Vec.{with_item}
+use Rattle.std.{proofs.Common.{◌≡◌, ◌<◌, length, refl, rules}, specs.Vec.{with_item}}
 use Rattle.plan_values.specs.NodeValues.{node_value}
-use Rattle.net_explained.specs.Edits.{changed}
-use Rattle.net_explained.proofs.Editing.{edited_so, item_there}
+use Rattle.net_explained.{specs.Edits.{changed}, proofs.Editing.{edited_so, item_there}}
 use Rattle.net_explained.proofs.edit.edited.Goals as goal
 
 pub returns : goal.returns

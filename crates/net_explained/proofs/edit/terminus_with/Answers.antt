@@ -1,7 +1,6 @@
 use Rattle.std.proofs.Common.{◌<◌, length, ap, rules}
 use Rattle.plan_values.specs.NodeValues.{record_value, terminus_value}
-use Rattle.net_explained.specs.Edits.{changed_record}
-use Rattle.net_explained.proofs.Editing.{item_changed, item_there}
+use Rattle.net_explained.{specs.Edits.{changed_record}, proofs.Editing.{item_changed, item_there}}
 use Rattle.net_explained.proofs.edit.terminus_with.Goals as goal
 
 pub returns : goal.returns

@@ -1,10 +1,7 @@
-use Rattle.std.proofs.Common.{◌≡◌, ◌≢◌, ◌⊎◌, ◌≤◌, ◌++◌, ◌∷◌, [], List, inl, inr, Bool, true, false, not, Option, Some, None, is_some, refl, length, subst, sym, rules}
-use Rattle.std.proofs.lemmas.List.Elements.{All-push}
-use Rattle.std.specs.List.{All}
+use Rattle.std.{proofs.Common.{◌≡◌, ◌≢◌, ◌⊎◌, ◌≤◌, ◌++◌, ◌∷◌, [], List, inl, inr, Bool, true, false, not, Option, Some, None, is_some, refl, length, subst, sym, rules}, proofs.lemmas.List.Elements.{All-push}, specs.List.{All}}
 use Rattle.plan_values.specs.PlanValues.{plan_value}
 use Rattle.net_rules.specs.declared.certify_error.CertifyError.{CertifyError}
-use Rattle.net_explained.specs.Obstacles.{IsTried}
-use Rattle.net_explained.specs.declared.trial.Tried.{Tried}
+use Rattle.net_explained.{specs.Obstacles.{IsTried}, specs.declared.trial.Tried.{Tried}}
 use Rattle.net_explained.proofs.trial.tried_edits.Goals as goal
 
 none_left : (o : Option CertifyError) (b : Bool) → is_some o ≡ not b → b ≡ true → o ≡ None

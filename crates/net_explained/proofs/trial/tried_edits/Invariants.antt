@@ -1,8 +1,6 @@
-use Rattle.std.proofs.Common.{◌≡◌, ◌≢◌, ◌≤◌, None, length}
-use Rattle.std.specs.List.{All}
+use Rattle.std.{proofs.Common.{◌≡◌, ◌≢◌, ◌≤◌, None, length}, specs.List.{All}}
 use Rattle.plan_values.specs.PlanValues.{plan_value}
-use Rattle.net_explained.specs.Obstacles.{IsTried}
-use Rattle.net_explained.specs.declared.trial.Tried.{Tried}
+use Rattle.net_explained.{specs.Obstacles.{IsTried}, specs.declared.trial.Tried.{Tried}}
 use Rattle.net_explained.proofs.trial.tried_edits.Given as goal
 
 abbrev pub invariant-loop-edit : goal.invariant-loop-edit

@@ -1,9 +1,6 @@
 use Rattle.std.proofs.Common.{Some, rules}
 use Rattle.plan_values.specs.PlanValues.{plan_value}
-use Rattle.net_explained.specs.Edits.{IsEdited}
-use Rattle.net_explained.specs.Obstacles.{IsLater}
-use Rattle.net_explained.proofs.Later.{later_known, tried_so}
-use Rattle.net_explained.proofs.SamePlan.{same_plan}
+use Rattle.net_explained.{specs.Edits.{IsEdited}, specs.Obstacles.{IsLater}, proofs.Later.{later_known, tried_so}, proofs.SamePlan.{same_plan}}
 use Rattle.net_explained.proofs.trial.try_edit.Goals as goal
 
 pub returns-in-Ok-certify : goal.returns-in-Ok-certify

@@ -1,7 +1,5 @@
 use Rattle.std.proofs.Common.{rules, ◌≡◌, map, take, take_all, ap, ◌∙◌}
-use Rattle.serde_json.specs.Data.{array}
-use Rattle.serde_json.specs.View.{items_of}
-use Rattle.serde_json.proofs.Views.{view-Array}
+use Rattle.serde_json.{specs.Data.{array}, specs.View.{items_of}, proofs.Views.{view-Array}}
 use Rattle.net_plan.proofs.WrittenJson.{map_map}
 use Rattle.net_plan.proofs.certificate_json.list_value.Goals as goal
 

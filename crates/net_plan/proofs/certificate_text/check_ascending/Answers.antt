@@ -1,9 +1,6 @@
 use Rattle.std.proofs.Common.{ap, sym, ◌∙◌}
-use Rattle.net_plan.specs.CertificateReading.{ascends}
-use Rattle.plan_values.specs.CertificateValues.{node_ranks_value}
-use Rattle.net_plan.specs.Json.{demand}
-use Rattle.net_plan.specs.declared.error.ValueFault.TheVariants.{Doubled}
-use Rattle.plan_values.proofs.Placed.{list_all_mapped}
+use Rattle.net_plan.{specs.CertificateReading.{ascends}, specs.Json.{demand}, specs.declared.error.ValueFault.TheVariants.{Doubled}}
+use Rattle.plan_values.{specs.CertificateValues.{node_ranks_value}, proofs.Placed.{list_all_mapped}}
 use Rattle.net_plan.proofs.certificate_text.check_ascending.Goals as goal
 
 pub returns : goal.returns

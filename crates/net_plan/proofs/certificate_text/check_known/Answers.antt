@@ -1,8 +1,6 @@
 use Rattle.std.proofs.Common.{◌≡◌, nat_lt, sym, ap, ◌∙◌}
-use Rattle.plan_values.specs.CertificateValues.{are_known, level_value, places_value, node_ranks_value, certificate_value}
-use Rattle.net_plan.specs.Json.{demand}
-use Rattle.net_plan.specs.declared.error.ValueFault.TheVariants.{UnknownName}
-use Rattle.plan_values.proofs.Placed.{list_all_mapped}
+use Rattle.plan_values.{specs.CertificateValues.{are_known, level_value, places_value, node_ranks_value, certificate_value}, proofs.Placed.{list_all_mapped}}
+use Rattle.net_plan.{specs.Json.{demand}, specs.declared.error.ValueFault.TheVariants.{UnknownName}}
 use Rattle.net_plan.proofs.certificate_text.check_known.Goals as goal
 
 pub returns : goal.returns

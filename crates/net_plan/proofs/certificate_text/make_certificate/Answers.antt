@@ -1,9 +1,6 @@
 use Rattle.std.proofs.Common.{◌≡◌, IfOk, ap, ◌∙◌, subst}
-use Rattle.net_plan.specs.Trees.{view}
+use Rattle.net_plan.{specs.Trees.{view}, specs.Names.{index_among}, specs.NameIndexes.{find_in}, proofs.BusNames.{node_names_of, certificate_found}}
 use Rattle.plan_values.specs.CertificateValues.{certificate_value}
-use Rattle.net_plan.specs.Names.{index_among}
-use Rattle.net_plan.specs.NameIndexes.{find_in}
-use Rattle.net_plan.proofs.BusNames.{node_names_of, certificate_found}
 use Rattle.net_plan.proofs.certificate_text.make_certificate.Goals as goal
 
 pub returns : goal.returns

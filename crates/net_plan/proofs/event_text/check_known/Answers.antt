@@ -1,11 +1,6 @@
-use Rattle.std.proofs.Common.{◌≡◌, length, map, ap, sym, ◌∙◌}
-use Rattle.std.proofs.lemmas.List.{length-map}
-use Rattle.std.specs.List.{list_all}
-use Rattle.plan_values.specs.EventValues.{event_entry, is_known_event}
-use Rattle.net_plan.specs.Json.{demand}
-use Rattle.plan_values.specs.PlanValues.{node_value, node_names}
-use Rattle.net_plan.specs.declared.error.ValueFault.TheVariants.{UnknownName}
-use Rattle.plan_values.proofs.Placed.{list_all_mapped}
+use Rattle.std.{proofs.Common.{◌≡◌, length, map, ap, sym, ◌∙◌}, proofs.lemmas.List.{length-map}, specs.List.{list_all}}
+use Rattle.plan_values.{specs.EventValues.{event_entry, is_known_event}, specs.PlanValues.{node_value, node_names}, proofs.Placed.{list_all_mapped}}
+use Rattle.net_plan.{specs.Json.{demand}, specs.declared.error.ValueFault.TheVariants.{UnknownName}}
 use Rattle.net_plan.proofs.event_text.check_known.Goals as goal
 
 pub returns : goal.returns

@@ -1,9 +1,6 @@
 use Rattle.std.proofs.Common.{◌≡◌, ap, ◌∙◌, map, subst, IfOk}
-use Rattle.net_plan.specs.Trees.{view}
+use Rattle.net_plan.{specs.Trees.{view}, specs.Names.{index_among}, specs.NameIndexes.{find_in}, proofs.BusNames.{node_names_of, events_found}}
 use Rattle.plan_values.specs.EventValues.{event_entry}
-use Rattle.net_plan.specs.Names.{index_among}
-use Rattle.net_plan.specs.NameIndexes.{find_in}
-use Rattle.net_plan.proofs.BusNames.{node_names_of, events_found}
 use Rattle.net_plan.proofs.event_text.make_events.Goals as goal
 
 pub returns-clause-made : goal.returns-clause-made

@@ -1,12 +1,6 @@
-use Rattle.std.proofs.Common.{◌≡◌, List, map, Ok, ap, ◌∙◌}
-use Rattle.std.proofs.lemmas.Result.{err_from_is_err_and}
-use Rattle.net_plan.specs.EventReading.{events_format}
-use Rattle.net_plan.specs.Grammar.{grammar}
-use Rattle.net_plan.specs.Tables.{events_in}
-use Rattle.net_plan.specs.Trees.{view}
-use Rattle.plan_values.specs.EventValues.{EventEntry, event_entry}
-use Rattle.plan_values.specs.PlanValues.{node_value, node_names}
-use Rattle.net_plan.proofs.EventLaw.{wrong_value, unknown_events, known_events}
+use Rattle.std.{proofs.Common.{◌≡◌, List, map, Ok, ap, ◌∙◌}, proofs.lemmas.Result.{err_from_is_err_and}}
+use Rattle.net_plan.{specs.EventReading.{events_format}, specs.Grammar.{grammar}, specs.Tables.{events_in}, specs.Trees.{view}, proofs.EventLaw.{wrong_value, unknown_events, known_events}}
+use Rattle.plan_values.{specs.EventValues.{EventEntry, event_entry}, specs.PlanValues.{node_value, node_names}}
 use Rattle.net_plan.proofs.event_text.read_events_among.Goals as goal
 
 pub returns-in_err-check_shape-clause-read : goal.returns-in_err-check_shape-clause-read

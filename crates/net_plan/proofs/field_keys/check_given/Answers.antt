@@ -1,13 +1,6 @@
-use Rattle.std.proofs.Common.{rules, ◌≡◌, true, false, not, is_some, refl, sym, ap, ◌∙◌}
-use Rattle.std.specs.List.{list_any}
-use Rattle.serde_json.specs.Data.{object}
-use Rattle.serde_json.specs.Find.{get}
-use Rattle.net_plan.specs.Json.{lacks_key}
-use Rattle.net_plan.specs.Trees.{view, members_view}
-use Rattle.net_plan.proofs.Trees.{view-Object}
-use Rattle.net_plan.specs.Grammar.{keys_of, fields_view}
-use Rattle.net_plan.specs.declared.shape.Field.{out-Field}
-use Rattle.net_plan.proofs.FieldKeys.{lacked_seen}
+use Rattle.std.{proofs.Common.{rules, ◌≡◌, true, false, not, is_some, refl, sym, ap, ◌∙◌}, specs.List.{list_any}}
+use Rattle.serde_json.{specs.Data.{object}, specs.Find.{get}}
+use Rattle.net_plan.{specs.Json.{lacks_key}, specs.Trees.{view, members_view}, proofs.Trees.{view-Object}, specs.Grammar.{keys_of, fields_view}, specs.declared.shape.Field.{out-Field}, proofs.FieldKeys.{lacked_seen}}
 use Rattle.net_plan.proofs.field_keys.check_given.Goals as goal
 
 pub returns-then-is_lacking : goal.returns-then-is_lacking

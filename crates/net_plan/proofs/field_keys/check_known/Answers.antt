@@ -1,10 +1,6 @@
 use Rattle.std.proofs.Common.{rules, ◌≡◌, true, false, refl, sym, ap, ◌∙◌}
 use Rattle.serde_json.specs.Data.{object}
-use Rattle.net_plan.specs.Json.{has_unknown_key}
-use Rattle.net_plan.specs.Trees.{view, members_view}
-use Rattle.net_plan.proofs.Trees.{view-Object}
-use Rattle.net_plan.specs.Grammar.{keys_of, fields_view}
-use Rattle.net_plan.proofs.FieldKeys.{unknown_seen}
+use Rattle.net_plan.{specs.Json.{has_unknown_key}, specs.Trees.{view, members_view}, proofs.Trees.{view-Object}, specs.Grammar.{keys_of, fields_view}, proofs.FieldKeys.{unknown_seen}}
 use Rattle.net_plan.proofs.field_keys.check_known.Goals as goal
 
 pub returns-then-has_unknown_key : goal.returns-then-has_unknown_key

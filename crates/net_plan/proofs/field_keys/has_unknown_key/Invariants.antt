@@ -1,7 +1,5 @@
 -- The members that are left decide.
-use Rattle.std.proofs.Common.{◌≡◌, not, drop}
-use Rattle.std.specs.List.{list_any}
-use Rattle.std.specs.Str.{bytes_eq}
+use Rattle.std.{proofs.Common.{◌≡◌, not, drop}, specs.List.{list_any}, specs.Str.{bytes_eq}}
 use Rattle.net_plan.specs.declared.shape.Field.{out-Field}
 use Rattle.net_plan.proofs.field_keys.has_unknown_key.Given as goal
 

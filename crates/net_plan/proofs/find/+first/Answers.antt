@@ -1,8 +1,5 @@
 use Rattle.std.proofs.Common.{◌≡◌, IfOk, option_map, sym, ap, ◌∙◌, subst}
-use Rattle.net_plan.specs.Trees.{view}
-use Rattle.net_plan.specs.Finding.{inside, located}
-use Rattle.net_plan.specs.Grammar.{grammar, known_seen}
-use Rattle.net_plan.proofs.FieldKeys.{seen_list}
+use Rattle.net_plan.{specs.Trees.{view}, specs.Finding.{inside, located}, specs.Grammar.{grammar, known_seen}, proofs.FieldKeys.{seen_list}}
 use Rattle.net_plan.proofs.find.+first.Goals as goal
 
 pub fault_inside-returns-in-List : goal.fault_inside-returns-in-List

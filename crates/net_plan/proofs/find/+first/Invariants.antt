@@ -1,8 +1,6 @@
 -- What is left decides.
 use Rattle.std.proofs.Common.{◌≡◌, drop}
-use Rattle.net_plan.specs.Trees.{view, items_view}
-use Rattle.net_plan.specs.Finding.{first_fault, in_items, in_fields, in_choices}
-use Rattle.net_plan.specs.Grammar.{grammar, fields_view, known_seen}
+use Rattle.net_plan.{specs.Trees.{view, items_view}, specs.Finding.{first_fault, in_items, in_fields, in_choices}, specs.Grammar.{grammar, fields_view, known_seen}}
 use Rattle.net_plan.proofs.find.+first.Given as goal
 
 abbrev pub invariant-fault_in_fields-loop-field : goal.invariant-fault_in_fields-loop-field

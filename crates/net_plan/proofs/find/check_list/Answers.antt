@@ -1,9 +1,6 @@
 use Rattle.std.proofs.Common.{rules, ◌≡◌, length, true, false, refl, ap, ◌∙◌}
 use Rattle.serde_json.specs.Data.{array}
-use Rattle.net_plan.specs.Trees.{view, items_view}
-use Rattle.net_plan.proofs.Trees.{view-Array}
-use Rattle.net_plan.proofs.Items.{items_count_of_view}
-use Rattle.net_plan.specs.Finding.{is_within}
+use Rattle.net_plan.{specs.Trees.{view, items_view}, proofs.Trees.{view-Array}, proofs.Items.{items_count_of_view}, specs.Finding.{is_within}}
 use Rattle.net_plan.proofs.find.check_list.Goals as goal
 
 pub returns-then-not-is_within : goal.returns-then-not-is_within

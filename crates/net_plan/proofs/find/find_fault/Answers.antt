@@ -1,6 +1,4 @@
-use Rattle.net_plan.specs.Grammar.{grammar, known_seen}
-use Rattle.net_plan.specs.Trees.{view}
-use Rattle.net_plan.proofs.Fitting.{searched}
+use Rattle.net_plan.{specs.Grammar.{grammar, known_seen}, specs.Trees.{view}, proofs.Fitting.{searched}}
 use Rattle.net_plan.proofs.find.find_fault.Goals as goal
 
 pub returns-clause-fits : goal.returns-clause-fits

@@ -1,9 +1,6 @@
 use Rattle.std.proofs.Common.{◌≡◌, ◌-◌, [], ◌∷◌, ◌++◌, length, Some, ap, ◌∙◌, sym, subst, refl, rules, arith}
-use Rattle.json.specs.Json.{no_items, array, items, value, parse_map, after_end_array}
-use Rattle.json.proofs.Grammar.{value-begin_array, items_more, items_end}
-use Rattle.json.proofs.Trees.{none_before}
-use Rattle.net_plan.specs.Gathered.{EachIs}
-use Rattle.net_plan.proofs.Gathered.{items_joined, items_joined_none, item_last, one_more_item, each_last}
+use Rattle.json.{specs.Json.{no_items, array, items, value, parse_map, after_end_array}, proofs.Grammar.{value-begin_array, items_more, items_end}, proofs.Trees.{none_before}}
+use Rattle.net_plan.{specs.Gathered.{EachIs}, proofs.Gathered.{items_joined, items_joined_none, item_last, one_more_item, each_last}}
 use Rattle.plain_json.proofs.Tokens.{value_shorter, no_end_array}
 use Rattle.net_plan.proofs.gather.next_list.Goals as goal
 

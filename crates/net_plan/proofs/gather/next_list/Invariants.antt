@@ -1,8 +1,7 @@
 -- The items that were passed stand before those that are left.
 use Rattle.std.proofs.Common.{◌≡◌, ℕ, ◌-◌, ◌≤◌, length}
 use Rattle.json.specs.Json.{Items, items, value, parse_map}
-use Rattle.net_plan.specs.Gathered.{EachIs}
-use Rattle.net_plan.proofs.Gathered.{items_joined}
+use Rattle.net_plan.{specs.Gathered.{EachIs}, proofs.Gathered.{items_joined}}
 use Rattle.net_plan.proofs.gather.next_list.Given as goal
 
 abbrev pub invariant-items : goal.invariant-items

@@ -1,9 +1,6 @@
 use Rattle.std.proofs.Common.{◌≡◌, ◌-◌, length, Some, None, ap, ◌∙◌, refl, arith}
-use Rattle.json.specs.Json.{no_members, members, value, parse_map, read_key}
-use Rattle.json.proofs.Grammar.{members_more, members_end, read_key-shorter}
-use Rattle.json.proofs.Trees.{none_before}
-use Rattle.net_plan.specs.Gathered.{with_last}
-use Rattle.net_plan.proofs.Gathered.{joined, joined_none, one_more}
+use Rattle.json.{specs.Json.{no_members, members, value, parse_map, read_key}, proofs.Grammar.{members_more, members_end, read_key-shorter}, proofs.Trees.{none_before}}
+use Rattle.net_plan.{specs.Gathered.{with_last}, proofs.Gathered.{joined, joined_none, one_more}}
 use Rattle.plain_json.proofs.Tokens.{value_shorter}
 use Rattle.net_plan.proofs.gather.read_members.Goals as goal
 

@@ -1,6 +1,5 @@
 use Rattle.std.proofs.Common.{ap, ◌∙◌, arith}
-use Rattle.json.specs.Json.{object, value, parse_map}
-use Rattle.json.proofs.Grammar.{value-begin_object}
+use Rattle.json.{specs.Json.{object, value, parse_map}, proofs.Grammar.{value-begin_object}}
 use Rattle.net_plan.proofs.Gathered.{if_some}
 use Rattle.net_plan.proofs.gather.read_object.Goals as goal
 

@@ -1,6 +1,5 @@
 use Rattle.std.proofs.Common.{◌≡◌, [], Some, ap, sym, ◌∙◌, rules}
-use Rattle.json.specs.Json.{object, value}
-use Rattle.json.specs.Lex.{tokens}
+use Rattle.json.{specs.Json.{object, value}, specs.Lex.{tokens}}
 use Rattle.serde_json.specs.Read.{max_depth}
 use Rattle.net_plan.proofs.gather.read_text.Goals as goal
 

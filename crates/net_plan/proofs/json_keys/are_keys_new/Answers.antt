@@ -1,10 +1,5 @@
-use Rattle.std.proofs.Common.{◌≡◌, ◌+◌, ℕ, List, map, take, drop, true, false, Bor, sym, ap, ◌∙◌}
-use Rattle.std.specs.Str.{bytes_eq}
-use Rattle.net_plan.specs.Json.{is_among}
-use Rattle.net_plan.specs.Names.{are_new}
-use Rattle.net_plan.specs.Trees.{Tree}
-use Rattle.net_plan.proofs.Keys.{list_any-map}
-use Rattle.net_plan.proofs.Names.{not_new, one_new, names_take, names_drop}
+use Rattle.std.{proofs.Common.{◌≡◌, ◌+◌, ℕ, List, map, take, drop, true, false, Bor, sym, ap, ◌∙◌}, specs.Str.{bytes_eq}}
+use Rattle.net_plan.{specs.Json.{is_among}, specs.Names.{are_new}, specs.Trees.{Tree}, proofs.Keys.{list_any-map}, proofs.Names.{not_new, one_new, names_take, names_drop}}
 use Rattle.net_plan.proofs.json_keys.are_keys_new.Goals as goal
 
 abbrev key : Bor (List ℕ) × Tree → List ℕ

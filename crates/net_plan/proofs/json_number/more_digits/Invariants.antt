@@ -1,6 +1,5 @@
 -- What was gone over are digits, and the number goes on with the rest.
-use Rattle.std.proofs.Common.{◌≡◌, ◌-◌, ◌≤◌, length, drop}
-use Rattle.std.specs.Str.Parse.{AllDigits, digits_value_after, digits_value}
+use Rattle.std.{proofs.Common.{◌≡◌, ◌-◌, ◌≤◌, length, drop}, specs.Str.Parse.{AllDigits, digits_value_after, digits_value}}
 use Rattle.net_plan.proofs.json_number.more_digits.Given as goal
 
 abbrev pub invariant-digits : goal.invariant-digits

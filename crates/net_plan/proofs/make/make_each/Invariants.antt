@@ -1,7 +1,6 @@
 -- What is left gives the rest of the list.
 use Rattle.std.proofs.Common.{◌≡◌, ◌++◌, length, drop, map}
-use Rattle.net_plan.specs.Trees.{items_view}
-use Rattle.net_plan.specs.Made.{each_made}
+use Rattle.net_plan.{specs.Trees.{items_view}, specs.Made.{each_made}}
 use Rattle.net_plan.proofs.make.make_each.Given as goal
 
 abbrev pub invariant-loop-value : goal.invariant-loop-value

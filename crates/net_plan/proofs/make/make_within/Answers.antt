@@ -1,8 +1,6 @@
 use Rattle.std.proofs.Common.{rules, ◌≡◌, length, nat_le, true, false, map, sym, ap, ◌∙◌, subst, IfOk}
 use Rattle.serde_json.specs.Data.{array}
-use Rattle.net_plan.specs.Trees.{view, items_view}
-use Rattle.net_plan.proofs.Trees.{view-Array}
-use Rattle.net_plan.proofs.Items.{few_made, many_made}
+use Rattle.net_plan.{specs.Trees.{view, items_view}, proofs.Trees.{view-Array}, proofs.Items.{few_made, many_made}}
 use Rattle.net_plan.proofs.make.make_within.Goals as goal
 
 pub returns-then-len-most-clause-made : goal.returns-then-len-most-clause-made

@@ -1,10 +1,5 @@
-use Rattle.std.proofs.Common.{rules, ◌≡◌, ◌+◌, map, take, drop, is_some, true, false, sym, ap, ◌∙◌, Some, None, if◌then◌else◌}
-use Rattle.std.specs.Option.{option_or}
-use Rattle.std.specs.Str.{bytes_eq}
-use Rattle.net_plan.specs.Json.{is_among}
-use Rattle.net_plan.specs.Names.{are_new}
-use Rattle.net_plan.specs.NameIndexes.{noted}
-use Rattle.net_plan.proofs.Names.{index_of-take, index_of-among, was_there, was_new, not_new, one_new, names_take, names_drop}
+use Rattle.std.{proofs.Common.{rules, ◌≡◌, ◌+◌, map, take, drop, is_some, true, false, sym, ap, ◌∙◌, Some, None, if◌then◌else◌}, specs.Option.{option_or}, specs.Str.{bytes_eq}}
+use Rattle.net_plan.{specs.Json.{is_among}, specs.Names.{are_new}, specs.NameIndexes.{noted}, proofs.Names.{index_of-take, index_of-among, was_there, was_new, not_new, one_new, names_take, names_drop}}
 use Rattle.net_plan.proofs.name_index.names_differ.Goals as goal
 
 pub returns-then-not-is_new : goal.returns-then-not-is_new

@@ -1,7 +1,6 @@
 -- The names that were passed have their index, and those that are left decide.
 use Rattle.std.proofs.Common.{◌≡◌, ℕ, List, map, take, drop}
-use Rattle.net_plan.specs.NameIndexes.{noted}
-use Rattle.net_plan.specs.Names.{index_of, are_new, names_differ}
+use Rattle.net_plan.{specs.NameIndexes.{noted}, specs.Names.{index_of, are_new, names_differ}}
 use Rattle.net_plan.proofs.name_index.names_differ.Given as goal
 
 abbrev pub invariant-loop-index : goal.invariant-loop-index

@@ -1,5 +1,4 @@
-use Rattle.std.proofs.Common.{◌≡◌, ◌==◌, take, false, sym, ap, ◌∙◌, rules, arith}
-use Rattle.std.specs.List.{list_any}
+use Rattle.std.{proofs.Common.{◌≡◌, ◌==◌, take, false, sym, ap, ◌∙◌, rules, arith}, specs.List.{list_any}}
 use Rattle.net_plan.proofs.PlainCertificate.{apart_more}
 use Rattle.net_plan.proofs.one_each.nodes_differ.Goals as goal
 

@@ -1,7 +1,5 @@
 use Rattle.std.proofs.Common.{sym, subst}
-use Rattle.net_plan.specs.EventText.{IsFormat}
-use Rattle.net_plan.specs.Trees.{data_of}
-use Rattle.net_plan.proofs.EventLaw.{format_found}
+use Rattle.net_plan.{specs.EventText.{IsFormat}, specs.Trees.{data_of}, proofs.EventLaw.{format_found}}
 use Rattle.net_plan.proofs.plain_events.next_format.Goals as goal
 
 pub returns : goal.returns

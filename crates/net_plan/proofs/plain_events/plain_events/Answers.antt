@@ -1,11 +1,7 @@
 use Rattle.std.proofs.Common.{◌≡◌, ℕ, List, map, ap, ◌∙◌}
 use Rattle.json.specs.Json.{object}
-use Rattle.net_plan.specs.Names.{index_of}
-use Rattle.net_plan.specs.NameIndexes.{noted}
+use Rattle.net_plan.{specs.Names.{index_of}, specs.NameIndexes.{noted}, specs.declared.name_index.NameIndex.{NameIndex}, proofs.BusNames.{node_names_of}, proofs.Gathered.{if_some}}
 use Rattle.plan_values.specs.PlanValues.{plan_value, node_value, node_names, name_bytes}
-use Rattle.net_plan.specs.declared.name_index.NameIndex.{NameIndex}
-use Rattle.net_plan.proofs.BusNames.{node_names_of}
-use Rattle.net_plan.proofs.Gathered.{if_some}
 use Rattle.net_plan.proofs.plain_events.plain_events.Goals as goal
 
 pub returns : goal.returns

@@ -1,13 +1,7 @@
 use Rattle.std.proofs.Common.{rules, ◌≡◌, length, nat_le, true, false, map, codes, sym, ap, ◌∙◌, subst, IfOk}
 use Rattle.serde_json.specs.Data.{array}
-use Rattle.net_plan.specs.Trees.{view, items_view}
-use Rattle.net_plan.proofs.Trees.{view-Array}
-use Rattle.net_plan.specs.Made.{node_made}
-use Rattle.net_plan.specs.Names.{index_among, text_at, texts_at}
-use Rattle.net_plan.specs.NameIndexes.{find_in}
+use Rattle.net_plan.{specs.Trees.{view, items_view}, proofs.Trees.{view-Array}, specs.Made.{node_made}, specs.Names.{index_among, text_at, texts_at}, specs.NameIndexes.{find_in}, proofs.BusNames.{bus_names_of, texts_of, nodes_found}, proofs.Items.{few_made, many_made}}
 use Rattle.plan_values.specs.PlanValues.{bus_value, bus_names, node_value}
-use Rattle.net_plan.proofs.BusNames.{bus_names_of, texts_of, nodes_found}
-use Rattle.net_plan.proofs.Items.{few_made, many_made}
 use Rattle.net_plan.proofs.plan_text.make_nodes_of.Goals as goal
 
 pub returns-then-len-gt-MOST_NODES-clause-made : goal.returns-then-len-gt-MOST_NODES-clause-made

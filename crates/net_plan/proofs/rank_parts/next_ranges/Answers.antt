@@ -1,6 +1,5 @@
-use Rattle.net_plan.specs.CertificateText.{IsRangeOf}
+use Rattle.net_plan.{specs.CertificateText.{IsRangeOf}, proofs.Gathered.{any_list_there}}
 use Rattle.plan_values.specs.CertificateValues.{range_value}
-use Rattle.net_plan.proofs.Gathered.{any_list_there}
 use Rattle.net_plan.proofs.rank_parts.next_ranges.Goals as goal
 
 pub returns : goal.returns

@@ -1,12 +1,6 @@
-use Rattle.std.proofs.Common.{◌≡◌, ◌∙◌, length, map, ap, sym, subst}
-use Rattle.std.proofs.lemmas.List.{length-map}
-use Rattle.plan_values.specs.CertificateValues.{are_known, certificate_value}
-use Rattle.net_plan.specs.CertificateText.{IsCertificateOf}
-use Rattle.net_plan.specs.Gathered.{IsPlainText}
-use Rattle.plan_values.specs.PlanValues.{node_value, node_names, plan_value}
-use Rattle.net_plan.specs.Trees.{data_of}
-use Rattle.net_plan.proofs.CertificateLaw.{certificate_tells, read_known}
-use Rattle.net_plan.proofs.Gathered.{if_some, stands_for_plain}
+use Rattle.std.{proofs.Common.{◌≡◌, ◌∙◌, length, map, ap, sym, subst}, proofs.lemmas.List.{length-map}}
+use Rattle.plan_values.{specs.CertificateValues.{are_known, certificate_value}, specs.PlanValues.{node_value, node_names, plan_value}}
+use Rattle.net_plan.{specs.CertificateText.{IsCertificateOf}, specs.Gathered.{IsPlainText}, specs.Trees.{data_of}, proofs.CertificateLaw.{certificate_tells, read_known}, proofs.Gathered.{if_some, stands_for_plain}}
 use Rattle.net_plan.proofs.reading.certificate_at_once.Goals as goal
 
 pub returns-clause-told : goal.returns-clause-told

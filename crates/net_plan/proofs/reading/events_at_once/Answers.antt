@@ -1,13 +1,6 @@
-use Rattle.std.proofs.Common.{◌≡◌, ◌≤◌, ◌∙◌, length, map, ap, sym, subst}
-use Rattle.std.proofs.lemmas.List.{length-map}
-use Rattle.std.specs.List.{list_all}
-use Rattle.net_plan.specs.EventText.{AreEventsOf}
-use Rattle.plan_values.specs.EventValues.{event_entry, is_known_event}
-use Rattle.net_plan.specs.Gathered.{IsPlainText}
-use Rattle.plan_values.specs.PlanValues.{node_value, node_names, plan_value}
-use Rattle.net_plan.specs.Trees.{data_of}
-use Rattle.net_plan.proofs.EventLaw.{events_tells, events_known}
-use Rattle.net_plan.proofs.Gathered.{if_some, stands_for_plain}
+use Rattle.std.{proofs.Common.{◌≡◌, ◌≤◌, ◌∙◌, length, map, ap, sym, subst}, proofs.lemmas.List.{length-map}, specs.List.{list_all}}
+use Rattle.net_plan.{specs.EventText.{AreEventsOf}, specs.Gathered.{IsPlainText}, specs.Trees.{data_of}, proofs.EventLaw.{events_tells, events_known}, proofs.Gathered.{if_some, stands_for_plain}}
+use Rattle.plan_values.{specs.EventValues.{event_entry, is_known_event}, specs.PlanValues.{node_value, node_names, plan_value}}
 use Rattle.net_plan.proofs.reading.events_at_once.Goals as goal
 
 pub returns-clause-told : goal.returns-clause-told

@@ -1,8 +1,6 @@
 use Rattle.std.proofs.Common.{subst}
-use Rattle.net_plan.specs.Gathered.{IsPlainText}
-use Rattle.net_plan.specs.PlanText.{IsPlanOf}
+use Rattle.net_plan.{specs.Gathered.{IsPlainText}, specs.PlanText.{IsPlanOf}, proofs.Gathered.{if_some, stands_for_plain}}
 use Rattle.plan_values.specs.PlanValues.{plan_value}
-use Rattle.net_plan.proofs.Gathered.{if_some, stands_for_plain}
 use Rattle.net_plan.proofs.reading.plan_at_once.Goals as goal
 
 pub returns-clause-told : goal.returns-clause-told

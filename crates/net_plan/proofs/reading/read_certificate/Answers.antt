@@ -1,7 +1,5 @@
-use Rattle.net_plan.specs.CertificateReading.{certificate}
-use Rattle.net_plan.specs.CertificateText.{IsCertificateOf}
+use Rattle.net_plan.{specs.CertificateReading.{certificate}, specs.CertificateText.{IsCertificateOf}, proofs.Refusing.{answer_given}}
 use Rattle.plan_values.specs.PlanValues.{node_names, plan_value}
-use Rattle.net_plan.proofs.Refusing.{answer_given}
 use Rattle.net_plan.proofs.reading.read_certificate.Goals as goal
 
 pub returns-clause-refused : goal.returns-clause-refused

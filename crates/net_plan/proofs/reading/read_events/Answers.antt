@@ -1,7 +1,5 @@
-use Rattle.net_plan.specs.EventReading.{events}
-use Rattle.net_plan.specs.EventText.{AreEventsOf}
+use Rattle.net_plan.{specs.EventReading.{events}, specs.EventText.{AreEventsOf}, proofs.Refusing.{answer_given}}
 use Rattle.plan_values.specs.PlanValues.{node_names, plan_value}
-use Rattle.net_plan.proofs.Refusing.{answer_given}
 use Rattle.net_plan.proofs.reading.read_events.Goals as goal
 
 pub returns-clause-refused : goal.returns-clause-refused

@@ -1,10 +1,6 @@
 use Rattle.std.proofs.Common.{◌≡◌, ◌++◌, [], map, drop, drop_of_length-le, sym, ap, ◌∙◌, append-nil, rules}
-use Rattle.net_plan.specs.NameIndexes.{find_in}
+use Rattle.net_plan.{specs.NameIndexes.{find_in}, specs.RowParts.{named_row}, specs.Skeleton.{found_row}, specs.declared.row_parts.NamedRow.{NamedRow}, proofs.StandIns.{map_twice}}
 use Rattle.plan_values.specs.NodeValues.{RowValue, row_value}
-use Rattle.net_plan.specs.RowParts.{named_row}
-use Rattle.net_plan.specs.Skeleton.{found_row}
-use Rattle.net_plan.specs.declared.row_parts.NamedRow.{NamedRow}
-use Rattle.net_plan.proofs.StandIns.{map_twice}
 use Rattle.net_plan.proofs.skeleton.found_rows.Goals as goal
 
 pub returns : goal.returns

@@ -1,10 +1,7 @@
 -- What was made stands before what is left.
-use Rattle.std.proofs.Common.{◌≡◌, ◌++◌, map, drop}
-use Rattle.std.specs.Prelude.{IfSome}
-use Rattle.net_plan.specs.NameIndexes.{find_in}
+use Rattle.std.{proofs.Common.{◌≡◌, ◌++◌, map, drop}, specs.Prelude.{IfSome}}
+use Rattle.net_plan.{specs.NameIndexes.{find_in}, specs.RowParts.{named_row}, specs.Skeleton.{found_row}}
 use Rattle.plan_values.specs.NodeValues.{row_value}
-use Rattle.net_plan.specs.RowParts.{named_row}
-use Rattle.net_plan.specs.Skeleton.{found_row}
 use Rattle.net_plan.proofs.skeleton.found_rows.Given as goal
 
 abbrev pub invariant-loop-row : goal.invariant-loop-row

@@ -1,6 +1,5 @@
 -- What was taken stands before what is left.
-use Rattle.std.proofs.Common.{◌≡◌, ◌++◌, map, length}
-use Rattle.std.specs.Vec.Iter.{into_iter_items, into_iter_len}
+use Rattle.std.{proofs.Common.{◌≡◌, ◌++◌, map, length}, specs.Vec.Iter.{into_iter_items, into_iter_len}}
 use Rattle.net_plan.proofs.skeleton.parted.Given as goal
 
 abbrev pub invariant-nodes : goal.invariant-nodes

@@ -1,14 +1,6 @@
-use Rattle.std.proofs.Common.{◌≡◌, ◌+◌, ◌++◌, [], ◌∷◌, List, map, length, option_map, sym, ap, ◌∙◌, append-nil, arith, rules}
-use Rattle.std.proofs.lemmas.List.{nil_from_length}
-use Rattle.std.specs.Vec.Iter.{into_iter_items, into_iter_len}
-use Rattle.net_plan.specs.NameIndexes.{find_in}
+use Rattle.std.{proofs.Common.{◌≡◌, ◌+◌, ◌++◌, [], ◌∷◌, List, map, length, option_map, sym, ap, ◌∙◌, append-nil, arith, rules}, proofs.lemmas.List.{nil_from_length}, specs.Vec.Iter.{into_iter_items, into_iter_len}}
+use Rattle.net_plan.{specs.NameIndexes.{find_in}, specs.declared.skeleton.CutParts.{CutParts}, specs.declared.skeleton.PlacedParts.{PlacedParts}, specs.RowParts.{named_row}, specs.declared.row_parts.NamedRow.{NamedRow}, specs.Skeleton.{PlacedValue, found_row, found_value, cut_value, placed_value}, proofs.StandIns.{made_moved, map_twice}}
 use Rattle.plan_values.specs.NodeValues.{RowValue, terminus_value}
-use Rattle.net_plan.specs.declared.skeleton.CutParts.{CutParts}
-use Rattle.net_plan.specs.declared.skeleton.PlacedParts.{PlacedParts}
-use Rattle.net_plan.specs.RowParts.{named_row}
-use Rattle.net_plan.specs.declared.row_parts.NamedRow.{NamedRow}
-use Rattle.net_plan.specs.Skeleton.{PlacedValue, found_row, found_value, cut_value, placed_value}
-use Rattle.net_plan.proofs.StandIns.{made_moved, map_twice}
 use Rattle.net_plan.proofs.skeleton.placed.Goals as goal
 
 pub parts-preserved : goal.parts-preserved

@@ -1,8 +1,6 @@
 -- What was made stands before what is left.
-use Rattle.std.proofs.Common.{◌≡◌, ◌++◌, map, length}
-use Rattle.std.specs.Vec.Iter.{into_iter_items, into_iter_len}
-use Rattle.net_plan.specs.NameIndexes.{find_in}
-use Rattle.net_plan.specs.Skeleton.{found_value, cut_value, placed_value}
+use Rattle.std.{proofs.Common.{◌≡◌, ◌++◌, map, length}, specs.Vec.Iter.{into_iter_items, into_iter_len}}
+use Rattle.net_plan.{specs.NameIndexes.{find_in}, specs.Skeleton.{found_value, cut_value, placed_value}}
 use Rattle.net_plan.proofs.skeleton.placed.Given as goal
 
 abbrev pub invariant-parts : goal.invariant-parts

@@ -1,18 +1,7 @@
 use Rattle.std.proofs.Common.{◌≡◌, ℕ, List, Ok, map, true, refl, sym, subst, ap, ◌∙◌, vec_len}
 use Rattle.json.specs.Json.{object}
-use Rattle.net_plan.specs.Names.{index_among}
-use Rattle.plan_values.specs.Placed.{are_placed}
-use Rattle.net_plan.specs.NameIndexes.{find_in}
-use Rattle.net_plan.specs.PlanReading.{plan}
-use Rattle.net_plan.specs.PlanText.{IsPlanOf}
-use Rattle.plan_values.specs.PlanValues.{plan_value, bus_value, node_value, node_names, name_bytes}
-use Rattle.net_plan.specs.SingleKeys.{single}
-use Rattle.net_plan.specs.Skeleton.{cut_value, found_value, with_parts}
-use Rattle.net_plan.specs.Trees.{view, data_of}
-use Rattle.net_plan.proofs.BusNames.{node_names_of}
-use Rattle.net_plan.proofs.Gathered.{if_some}
-use Rattle.net_plan.proofs.PlanLaw.{plan_tells}
-use Rattle.net_plan.proofs.StandIns.{all_filled, plan_full, plan_plain}
+use Rattle.net_plan.{specs.Names.{index_among}, specs.NameIndexes.{find_in}, specs.PlanReading.{plan}, specs.PlanText.{IsPlanOf}, specs.SingleKeys.{single}, specs.Skeleton.{cut_value, found_value, with_parts}, specs.Trees.{view, data_of}, proofs.BusNames.{node_names_of}, proofs.Gathered.{if_some}, proofs.PlanLaw.{plan_tells}, proofs.StandIns.{all_filled, plan_full, plan_plain}}
+use Rattle.plan_values.{specs.Placed.{are_placed}, specs.PlanValues.{plan_value, bus_value, node_value, node_names, name_bytes}}
 use Rattle.net_plan.proofs.skeleton.plain_plan.Goals as goal
 
 pub returns : goal.returns

@@ -1,9 +1,6 @@
 use Rattle.std.proofs.Common.{◌≡◌, Some, codes, map, option_map, sym, subst, ap, ◌∙◌, true, rules}
-use Rattle.json.specs.Json.{object}
-use Rattle.json.specs.Value.{members_view}
-use Rattle.json.proofs.Trees.{view-Object}
-use Rattle.net_plan.specs.Skeleton.{AreStandIns, IsCutNodes, cut_value}
-use Rattle.net_plan.specs.Trees.{fits}
+use Rattle.json.{specs.Json.{object}, specs.Value.{members_view}, proofs.Trees.{view-Object}}
+use Rattle.net_plan.{specs.Skeleton.{AreStandIns, IsCutNodes, cut_value}, specs.Trees.{fits}}
 use Rattle.net_plan.proofs.skeleton.skeleton_of.Goals as goal
 
 pub returns : goal.returns

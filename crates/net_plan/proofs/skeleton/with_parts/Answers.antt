@@ -1,9 +1,6 @@
-use Rattle.std.proofs.Common.{◌≡◌, ◌+◌, ◌++◌, length, arith, [], ◌∷◌, map, sym, ap, ◌∙◌, append-nil, rules}
-use Rattle.std.proofs.lemmas.List.{nil_from_length}
-use Rattle.std.specs.Vec.Iter.{into_iter_items, into_iter_len}
+use Rattle.std.{proofs.Common.{◌≡◌, ◌+◌, ◌++◌, length, arith, [], ◌∷◌, map, sym, ap, ◌∙◌, append-nil, rules}, proofs.lemmas.List.{nil_from_length}, specs.Vec.Iter.{into_iter_items, into_iter_len}}
 use Rattle.plan_values.specs.NodeValues.{node_value}
-use Rattle.net_plan.specs.Skeleton.{placed_value, with_parts}
-use Rattle.net_plan.proofs.StandIns.{node_moved}
+use Rattle.net_plan.{specs.Skeleton.{placed_value, with_parts}, proofs.StandIns.{node_moved}}
 use Rattle.net_plan.proofs.skeleton.with_parts.Goals as goal
 
 pub nodes-preserved : goal.nodes-preserved

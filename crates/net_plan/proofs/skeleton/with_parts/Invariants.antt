@@ -1,6 +1,5 @@
 -- The nodes that were filled stand before what is left to fill.
-use Rattle.std.proofs.Common.{◌≡◌, ◌++◌, map, length}
-use Rattle.std.specs.Vec.Iter.{into_iter_items, into_iter_len}
+use Rattle.std.{proofs.Common.{◌≡◌, ◌++◌, map, length}, specs.Vec.Iter.{into_iter_items, into_iter_len}}
 use Rattle.plan_values.specs.NodeValues.{node_value}
 use Rattle.net_plan.specs.Skeleton.{placed_value, with_parts}
 use Rattle.net_plan.proofs.skeleton.with_parts.Given as goal

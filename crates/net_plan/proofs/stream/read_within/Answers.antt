@@ -1,7 +1,4 @@
-use Rattle.std.proofs.Common.{rules, ◌≡◌, ℕ, ◌+◌, ◌≤◌, List, Option, ◌++◌, length, take, drop, sym, ap, subst, ◌∙◌, take-add, length-take-le}
-use Rattle.std.proofs.lemmas.List.{places}
-use Rattle.std.specs.Io.KnownBytes.{Consumes}
-use Rattle.std.proofs.KnownBytes.{Consumes-trans}
+use Rattle.std.{proofs.Common.{rules, ◌≡◌, ℕ, ◌+◌, ◌≤◌, List, Option, ◌++◌, length, take, drop, sym, ap, subst, ◌∙◌, take-add, length-take-le}, proofs.lemmas.List.{places}, specs.Io.KnownBytes.{Consumes}, proofs.KnownBytes.{Consumes-trans}}
 use Rattle.net_plan.proofs.stream.read_within.Goals as goal
 
 -- what was filled up to f has n bytes more

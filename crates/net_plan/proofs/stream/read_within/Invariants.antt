@@ -1,6 +1,5 @@
 -- Each turn takes bytes and keeps them in order.
-use Rattle.std.proofs.Common.{◌≡◌, ◌-◌, ◌≤◌, length, take}
-use Rattle.std.specs.Io.KnownBytes.{Consumes}
+use Rattle.std.{proofs.Common.{◌≡◌, ◌-◌, ◌≤◌, length, take}, specs.Io.KnownBytes.{Consumes}}
 use Rattle.net_plan.proofs.stream.read_within.Given as goal
 
 abbrev pub invariant-pieces : goal.invariant-pieces

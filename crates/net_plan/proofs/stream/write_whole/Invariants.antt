@@ -1,6 +1,5 @@
 -- What stands before `at` was given.
-use Rattle.std.proofs.Common.{◌≡◌, ◌-◌, ◌≤◌, length, take}
-use Rattle.std.specs.Io.KnownBytes.{Appends}
+use Rattle.std.{proofs.Common.{◌≡◌, ◌-◌, ◌≤◌, length, take}, specs.Io.KnownBytes.{Appends}}
 use Rattle.net_plan.proofs.stream.write_whole.Given as goal
 
 abbrev pub invariant-loop-at : goal.invariant-loop-at

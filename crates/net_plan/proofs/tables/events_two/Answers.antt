@@ -1,6 +1,5 @@
 use Rattle.std.proofs.Common.{rules, refl}
-use Rattle.net_plan.specs.declared.shape.Shape.{the_lemmas}
-use Rattle.net_plan.proofs.FieldKeys.{object_shows, list_shows, choice_shows, one_more_shows, none_show}
+use Rattle.net_plan.{specs.declared.shape.Shape.{the_lemmas}, proofs.FieldKeys.{object_shows, list_shows, choice_shows, one_more_shows, none_show}}
 use Rattle.net_plan.proofs.tables.events_two.Goals as goal
 
 pub returns : goal.returns

@@ -1,7 +1,5 @@
 use Rattle.std.proofs.Common.{◌∷◌, ap, ◌∙◌, refl}
-use Rattle.json.specs.Token.{Token}
-use Rattle.json.specs.Json.{null, object, value}
-use Rattle.json.proofs.Grammar.{value_is}
+use Rattle.json.{specs.Token.{Token}, specs.Json.{null, object, value}, proofs.Grammar.{value_is}}
 use Rattle.net_plan.proofs.terminus_parts.next_terminus.Goals as goal
 
 pub returns-in_ok-next_null-in-110 : goal.returns-in_ok-next_null-in-110

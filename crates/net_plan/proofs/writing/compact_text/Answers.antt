@@ -1,16 +1,8 @@
 use Rattle.std.proofs.Common.{◌≡◌, ◌≤◌, map, false, Some, string_bytes, ap, sym, ◌∙◌, subst}
 use Rattle.json.specs.Strict.{HasUniqueKeys}
-use Rattle.serde_json.specs.Data.{depth}
-use Rattle.serde_json.specs.Read.{read}
-use Rattle.serde_json.specs.View.{view}
-use Rattle.serde_json.specs.Written.{compact_text, has_float, outline, IsInOrder}
-use Rattle.net_plan.specs.CertificateJson.{certificate_data}
-use Rattle.plan_values.specs.CertificateValues.{certificate_value}
-use Rattle.plan_values.specs.PlanValues.{node_value, node_names}
-use Rattle.net_plan.specs.Texts.{HasSingleKeys}
-use Rattle.serde_json.proofs.Texts.{tokens_from_order}
-use Rattle.net_plan.proofs.SingleKeys.{single_written}
-use Rattle.net_plan.proofs.WrittenJson.{if_ok, if_both, no_float, few_deep, unique_keys}
+use Rattle.serde_json.{specs.Data.{depth}, specs.Read.{read}, specs.View.{view}, specs.Written.{compact_text, has_float, outline, IsInOrder}, proofs.Texts.{tokens_from_order}}
+use Rattle.net_plan.{specs.CertificateJson.{certificate_data}, specs.Texts.{HasSingleKeys}, proofs.SingleKeys.{single_written}, proofs.WrittenJson.{if_ok, if_both, no_float, few_deep, unique_keys}}
+use Rattle.plan_values.{specs.CertificateValues.{certificate_value}, specs.PlanValues.{node_value, node_names}}
 use Rattle.net_plan.proofs.writing.compact_text.Goals as goal
 
 pub returns-clause-text : goal.returns-clause-text

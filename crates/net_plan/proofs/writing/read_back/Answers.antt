@@ -1,14 +1,7 @@
 use Rattle.std.proofs.Common.{◌≡◌, ◌≤◌, ◌⊎◌, length, List, ℕ, Result, Ok, Err, IfOk, IfErr, MatchResult, string_bytes, sym, ◌∙◌, subst}
-use Rattle.net_plan.specs.CertificateReading.{certificate}
-use Rattle.net_plan.specs.CertificateText.{IsCertificateOf}
-use Rattle.plan_values.specs.CertificateValues.{CertificateValue, certificate_value}
-use Rattle.plan_values.specs.PlanValues.{PlanValue, node_names, plan_value}
-use Rattle.net_plan.specs.Refusals.{IsRefused}
-use Rattle.net_plan.specs.Texts.{IsJsonTextOf}
-use Rattle.plan_values.specs.declared.certificate.Certificate.{Certificate}
-use Rattle.net_plan.specs.declared.error.PlanError.{PlanError}
+use Rattle.net_plan.{specs.CertificateReading.{certificate}, specs.CertificateText.{IsCertificateOf}, specs.Refusals.{IsRefused}, specs.Texts.{IsJsonTextOf}, specs.declared.error.PlanError.{PlanError}, proofs.ReadsBack.{one_certificate, not_refused, only_memory}}
+use Rattle.plan_values.{specs.CertificateValues.{CertificateValue, certificate_value}, specs.PlanValues.{PlanValue, node_names, plan_value}, specs.declared.certificate.Certificate.{Certificate}}
 use Rattle.net_plan.specs.declared.error.PlanError.TheVariants as errors
-use Rattle.net_plan.proofs.ReadsBack.{one_certificate, not_refused, only_memory}
 use Rattle.net_plan.proofs.writing.read_back.Goals as goal
 
 back : (p : PlanValue) (bytes : List ℕ) (v : CertificateValue) → IsJsonTextOf (IsCertificateOf p) bytes v → (r : Result Certificate PlanError)

@@ -1,13 +1,7 @@
-use Rattle.std.proofs.Common.{◌≡◌, ◌≤◌, ◌++◌, [], ◌∷◌, length, Some, string_bytes, sym, ap, ◌∙◌, subst}
-use Rattle.std.proofs.lemmas.Str.{IsUtf8-string_bytes}
+use Rattle.std.{proofs.Common.{◌≡◌, ◌≤◌, ◌++◌, [], ◌∷◌, length, Some, string_bytes, sym, ap, ◌∙◌, subst}, proofs.lemmas.Str.{IsUtf8-string_bytes}}
 use Rattle.serde_json.specs.Read.{read}
-use Rattle.net_plan.specs.CertificateJson.{certificate_data, certificate_text}
-use Rattle.plan_values.specs.CertificateValues.{certificate_value}
-use Rattle.plan_values.specs.PlanValues.{node_names, plan_value}
-use Rattle.net_plan.specs.Texts.{HasSingleKeys}
-use Rattle.net_plan.proofs.LineEnd.{read_line, single_line}
-use Rattle.net_plan.proofs.ReadsBack.{stands_written}
-use Rattle.net_plan.proofs.ShortText.{short_text}
+use Rattle.net_plan.{specs.CertificateJson.{certificate_data, certificate_text}, specs.Texts.{HasSingleKeys}, proofs.LineEnd.{read_line, single_line}, proofs.ReadsBack.{stands_written}, proofs.ShortText.{short_text}}
+use Rattle.plan_values.{specs.CertificateValues.{certificate_value}, specs.PlanValues.{node_names, plan_value}}
 use Rattle.net_plan.proofs.writing.text_of_certificate.Goals as goal
 
 pub returns-clause-reads_back : goal.returns-clause-reads_back

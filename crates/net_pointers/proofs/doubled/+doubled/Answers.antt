@@ -1,13 +1,7 @@
-use Rattle.std.proofs.Common.{rules, ◌≡◌, ◌+◌, get_or, Some, true, sym, ap, ◌∙◌, subst, arith}
-use Rattle.std.proofs.lemmas.Grind.{common_steps}
-use Rattle.json.specs.Json.{array, object}
-use Rattle.json.proofs.Trees.{view-Object}
-use Rattle.json.specs.Strict.{keys}
-use Rattle.json.specs.Value.{value_view, items_view, members_view}
-use Rattle.net_plan.specs.Names.{names_differ}
-use Rattle.net_plan.specs.SingleKeys.{single}
-use Rattle.net_pointers.specs.Doubles.{IsFirstDoubled, part_at, NoneBefore, IsFirstDoubledKey}
-use Rattle.net_pointers.proofs.Doubling.{item_of_view, member_of_view, Passed, passed_more, part_first, no_object, keys_once, none_before_whole}
+use Rattle.std.{proofs.Common.{rules, ◌≡◌, ◌+◌, get_or, Some, true, sym, ap, ◌∙◌, subst, arith}, proofs.lemmas.Grind.{common_steps}}
+use Rattle.json.{specs.Json.{array, object}, proofs.Trees.{view-Object}, specs.Strict.{keys}, specs.Value.{value_view, items_view, members_view}}
+use Rattle.net_plan.{specs.Names.{names_differ}, specs.SingleKeys.{single}}
+use Rattle.net_pointers.{specs.Doubles.{IsFirstDoubled, part_at, NoneBefore, IsFirstDoubledKey}, proofs.Doubling.{item_of_view, member_of_view, Passed, passed_more, part_first, no_object, keys_once, none_before_whole}}
 use Rattle.net_pointers.proofs.doubled.+doubled.Goals as goal
 
 pub doubled_in_items-returns-in-Some : goal.doubled_in_items-returns-in-Some

@@ -1,7 +1,6 @@
 -- What is left decides.
 use Rattle.std.proofs.Common.{◌≡◌, drop}
-use Rattle.json.specs.Json.{array, object}
-use Rattle.json.specs.Value.{items_view, members_view}
+use Rattle.json.{specs.Json.{array, object}, specs.Value.{items_view, members_view}}
 use Rattle.net_plan.specs.SingleKeys.{items_single, members_single}
 use Rattle.net_pointers.proofs.Doubling.{Passed}
 use Rattle.net_pointers.proofs.doubled.+doubled.Given as goal

@@ -1,8 +1,4 @@
-use Rattle.std.proofs.Common.{sym}
-use Rattle.std.specs.BTreeMap.{get_by}
-use Rattle.std.specs.Cmp.Lexicographic.{slice_cmp}
-use Rattle.std.specs.Ordering.{nat_cmp}
-use Rattle.std.proofs.lemmas.Map.Text.{btree_map_updates_str}
+use Rattle.std.{proofs.Common.{sym}, specs.BTreeMap.{get_by}, specs.Cmp.Lexicographic.{slice_cmp}, specs.Ordering.{nat_cmp}, proofs.lemmas.Map.Text.{btree_map_updates_str}}
 use Rattle.net_pointers.proofs.Doubling.{noted_twice, noted_once}
 use Rattle.net_pointers.proofs.doubled.first_doubled.Goals as goal
 

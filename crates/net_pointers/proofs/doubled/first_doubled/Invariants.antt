@@ -1,8 +1,5 @@
 -- No name that was passed stands twice, and each has its index.
-use Rattle.std.proofs.Common.{◌≡◌, map, take, true}
-use Rattle.std.specs.BTreeMap.{get_by}
-use Rattle.std.specs.Cmp.Lexicographic.{slice_cmp}
-use Rattle.std.specs.Ordering.{nat_cmp}
+use Rattle.std.{proofs.Common.{◌≡◌, map, take, true}, specs.BTreeMap.{get_by}, specs.Cmp.Lexicographic.{slice_cmp}, specs.Ordering.{nat_cmp}}
 use Rattle.net_plan.specs.Names.{names_differ}
 use Rattle.net_pointers.proofs.Doubling.{AreNoted}
 use Rattle.net_pointers.proofs.doubled.first_doubled.Given as goal

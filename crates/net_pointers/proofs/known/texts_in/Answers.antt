@@ -1,7 +1,6 @@
 use Rattle.std.proofs.Common.{◌≡◌, ◌∙◌, IfOk, map, sym, ap, subst}
 use Rattle.serde_json.specs.Data.{array}
-use Rattle.net_plan.specs.Trees.{view, items_view}
-use Rattle.net_plan.proofs.Trees.{view-Array}
+use Rattle.net_plan.{specs.Trees.{view, items_view}, proofs.Trees.{view-Array}}
 use Rattle.net_pointers.proofs.NamesTold.{names_seen}
 use Rattle.net_pointers.proofs.known.texts_in.Goals as goal
 

@@ -1,7 +1,6 @@
 -- The texts that were passed.
 use Rattle.std.proofs.Common.{◌≡◌, map, take}
-use Rattle.net_plan.specs.Names.{text_at}
-use Rattle.net_plan.specs.Trees.{view}
+use Rattle.net_plan.{specs.Names.{text_at}, specs.Trees.{view}}
 use Rattle.net_pointers.proofs.known.texts_of.Given as goal
 
 abbrev pub invariant-loop-item : goal.invariant-loop-item

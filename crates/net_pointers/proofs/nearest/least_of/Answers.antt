@@ -1,7 +1,6 @@
 use Rattle.std.proofs.Common.{rules, ◌<◌, ◌≤◌, get_or, arith}
-use Rattle.net_pointers.proofs.Least.{one_more, first_more}
+use Rattle.net_pointers.{proofs.Least.{one_more, first_more}, proofs.nearest.least_of.Goals.{then-count-counts, else-count-counts}}
 use Rattle.net_pointers.proofs.nearest.least_of.Goals as goal
-use Rattle.net_pointers.proofs.nearest.least_of.Goals.{then-count-counts, else-count-counts}
 
 pub loop-index-preserved : goal.loop-index-preserved
 loop-index-preserved c =

@@ -1,8 +1,6 @@
-use Rattle.std.proofs.Common.{rules, ◌≡◌, ◌-◌, ◌∷◌, length, drop, ap, subst, ◌∙◌, arith}
-use Rattle.std.specs.Prelude.{IsSomeAnd}
+use Rattle.std.{proofs.Common.{rules, ◌≡◌, ◌-◌, ◌∷◌, length, drop, ap, subst, ◌∙◌, arith}, specs.Prelude.{IsSomeAnd}}
 use Rattle.json.specs.Lex.{tokens}
-use Rattle.net_pointers.specs.Offsets.{AreTokensFrom}
-use Rattle.net_pointers.proofs.Ends.{end_is}
+use Rattle.net_pointers.{specs.Offsets.{AreTokensFrom}, proofs.Ends.{end_is}}
 use Rattle.net_pointers.proofs.offset.offset_before.Goals as goal
 
 pub returns : goal.returns

@@ -1,6 +1,5 @@
 use Rattle.std.proofs.Common.{rules, Some, None}
-use Rattle.net_pointers.proofs.Beginnings.{key_found, no_key_within}
-use Rattle.net_pointers.proofs.Offsets.{found_key_leads}
+use Rattle.net_pointers.{proofs.Beginnings.{key_found, no_key_within}, proofs.Offsets.{found_key_leads}}
 use Rattle.net_pointers.proofs.offset.offset_of_key.Goals as goal
 
 pub returns-in-Some-clause-leads : goal.returns-in-Some-clause-leads

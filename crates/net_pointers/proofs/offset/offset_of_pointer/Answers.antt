@@ -1,8 +1,7 @@
 use Rattle.std.proofs.Common.{rules, map, Some, None}
 use Rattle.json.specs.Value.{value_view}
 use Rattle.net_plan.specs.Finding.{step_value}
-use Rattle.net_pointers.proofs.Offsets.{found_pointer_leads}
-use Rattle.net_pointers.proofs.Paths.{leads_nowhere}
+use Rattle.net_pointers.{proofs.Offsets.{found_pointer_leads}, proofs.Paths.{leads_nowhere}}
 use Rattle.net_pointers.proofs.offset.offset_of_pointer.Goals as goal
 
 pub returns-in-Some : goal.returns-in-Some

@@ -1,9 +1,7 @@
 -- What is left decides.
 use Rattle.std.proofs.Common.{drop}
 use Rattle.net_plan.specs.Trees.{view}
-use Rattle.net_pointers.specs.Asks.{DoDiffer, IsDoubledIn}
-use Rattle.net_pointers.specs.declared.doubled.TwoIndices.{TwoIndices}
-use Rattle.net_pointers.specs.declared.order.NameList.{NameList}
+use Rattle.net_pointers.{specs.Asks.{DoDiffer, IsDoubledIn}, specs.declared.doubled.TwoIndices.{TwoIndices}, specs.declared.order.NameList.{NameList}}
 use Rattle.net_pointers.proofs.order.doubled_name.Given as goal
 
 abbrev pub invariant-loop-list : goal.invariant-loop-list

@@ -1,13 +1,7 @@
 use Rattle.std.proofs.Common.{rules, ◌≡◌, None, Some}
 use Rattle.json.specs.Value.{value_view}
-use Rattle.net_plan.specs.Finding.{first_fault, located}
-use Rattle.net_plan.specs.Grammar.{grammar}
-use Rattle.net_plan.specs.Trees.{view}
-use Rattle.net_plan.proofs.Fitting.{none_fits}
-use Rattle.net_pointers.specs.Asks.{asks}
-use Rattle.net_pointers.specs.OrderOfTests.{AreKeysSingle}
-use Rattle.net_pointers.proofs.Leads.{leads}
-use Rattle.net_pointers.proofs.Unknown.{unknown_left}
+use Rattle.net_plan.{specs.Finding.{first_fault, located}, specs.Grammar.{grammar}, specs.Trees.{view}, proofs.Fitting.{none_fits}}
+use Rattle.net_pointers.{specs.Asks.{asks}, specs.OrderOfTests.{AreKeysSingle}, proofs.Leads.{leads}, proofs.Unknown.{unknown_left}}
 use Rattle.net_pointers.proofs.order.first_trouble.Goals as goal
 
 pub returns-in-Some : goal.returns-in-Some

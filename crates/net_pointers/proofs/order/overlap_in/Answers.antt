@@ -1,8 +1,7 @@
-use Rattle.net_pointers.specs.Ascending.{ranks_ascend, AreFirst, DoOverlap}
+use Rattle.net_pointers.{specs.Ascending.{ranks_ascend, AreFirst, DoOverlap}, proofs.Ordered.{overlap_told}}
 use Rattle.net_plan.specs.Trees.{view}
 use Rattle.serde_json.specs.Find.{get}
 use Rattle.std.proofs.Common.{codes}
-use Rattle.net_pointers.proofs.Ordered.{overlap_told}
 use Rattle.net_pointers.proofs.order.overlap_in.Goals as goal
 
 pub returns-then-ascending : goal.returns-then-ascending

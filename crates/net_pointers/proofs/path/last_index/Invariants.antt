@@ -1,6 +1,5 @@
 -- The last stands in what is left, or where it was seen.
-use Rattle.std.proofs.Common.{◌≡◌, ◌+◌, drop, option_map}
-use Rattle.std.specs.Option.{option_or}
+use Rattle.std.{proofs.Common.{◌≡◌, ◌+◌, drop, option_map}, specs.Option.{option_or}}
 use Rattle.json.specs.Value.{members_view}
 use Rattle.net_pointers.specs.Paths.{last_index}
 use Rattle.net_pointers.proofs.path.last_index.Given as goal

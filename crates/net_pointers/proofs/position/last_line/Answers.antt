@@ -1,8 +1,6 @@
 use Rattle.std.proofs.Common.{rules, suc, ◌≡◌, ◌∷◌, ◌+◌, drop, drop-cons, slice_index_or, true, false, ap, sym, ◌∙◌, arith}
-use Rattle.net_pointers.specs.Positions.{is_line_feed, last_line}
-use Rattle.net_pointers.proofs.Lines.{last_of, whole_left, line_feed, other_byte}
+use Rattle.net_pointers.{specs.Positions.{is_line_feed, last_line}, proofs.Lines.{last_of, whole_left, line_feed, other_byte}, proofs.position.last_line.Goals.{then-byte-eq10, else-byte-eq10}}
 use Rattle.net_pointers.proofs.position.last_line.Goals as goal
-use Rattle.net_pointers.proofs.position.last_line.Goals.{then-byte-eq10, else-byte-eq10}
 
 pub loop-index-init : goal.loop-index-init
 loop-index-init c = (search rules, whole_left c.args.bytes.now)

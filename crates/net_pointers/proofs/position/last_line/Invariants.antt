@@ -1,6 +1,5 @@
 -- The last line begins in what is left, or where it was seen to begin.
-use Rattle.std.proofs.Common.{◌≡◌, ◌≤◌, drop, if◌then◌else◌}
-use Rattle.std.specs.List.{list_any}
+use Rattle.std.{proofs.Common.{◌≡◌, ◌≤◌, drop, if◌then◌else◌}, specs.List.{list_any}}
 use Rattle.net_pointers.specs.Positions.{is_line_feed, last_line}
 use Rattle.net_pointers.proofs.position.last_line.Given as goal
 

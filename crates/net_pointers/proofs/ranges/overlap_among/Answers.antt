@@ -1,9 +1,7 @@
-use Rattle.std.proofs.Common.{◌≡◌, codes, true, arith, refl, rules}
-use Rattle.std.proofs.lemmas.Grind.{common_steps}
+use Rattle.std.{proofs.Common.{◌≡◌, codes, true, arith, refl, rules}, proofs.lemmas.Grind.{common_steps}}
 use Rattle.serde_json.specs.Find.{get}
 use Rattle.net_plan.specs.Trees.{view}
-use Rattle.net_pointers.specs.Ascending.{list_ascends}
-use Rattle.net_pointers.proofs.Overlaps.{among_more, first_among}
+use Rattle.net_pointers.{specs.Ascending.{list_ascends}, proofs.Overlaps.{among_more, first_among}}
 use Rattle.net_pointers.proofs.ranges.overlap_among.Goals as goal
 
 pub loop-entry-preserved : goal.loop-entry-preserved

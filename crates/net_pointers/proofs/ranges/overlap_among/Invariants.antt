@@ -1,8 +1,7 @@
 -- What is left decides, and none before has such.
 use Rattle.std.proofs.Common.{◌≡◌, drop}
 use Rattle.net_plan.specs.Trees.{items_view}
-use Rattle.net_pointers.specs.Ascending.{entries_ascend}
-use Rattle.net_pointers.proofs.Overlaps.{NoneAmong}
+use Rattle.net_pointers.{specs.Ascending.{entries_ascend}, proofs.Overlaps.{NoneAmong}}
 use Rattle.net_pointers.proofs.ranges.overlap_among.Given as goal
 
 abbrev pub invariant-loop-entry : goal.invariant-loop-entry

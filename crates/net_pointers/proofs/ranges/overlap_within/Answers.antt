@@ -1,5 +1,4 @@
-use Rattle.std.proofs.Common.{◌≤◌, ◌<◌, arith, subst}
-use Rattle.std.proofs.lemmas.Grind.{common_steps}
+use Rattle.std.{proofs.Common.{◌≤◌, ◌<◌, arith, subst}, proofs.lemmas.Grind.{common_steps}}
 use Rattle.net_pointers.proofs.Overlaps.{first_here, none_more}
 use Rattle.net_pointers.proofs.ranges.overlap_within.Goals as goal
 

@@ -1,8 +1,7 @@
 -- What is left decides. The end is that of the range before, and none before that one ends after the next one begins.
 use Rattle.std.proofs.Common.{◌≡◌, ◌+◌, ℕ, drop, get_or}
 use Rattle.net_plan.specs.Trees.{Tree, view, items_view}
-use Rattle.net_pointers.specs.Ascending.{ranges_ascend, end_in}
-use Rattle.net_pointers.proofs.Overlaps.{NoneBefore}
+use Rattle.net_pointers.{specs.Ascending.{ranges_ascend, end_in}, proofs.Overlaps.{NoneBefore}}
 use Rattle.net_pointers.proofs.ranges.overlap_within.Given as goal
 
 abbrev pub invariant-loop-index : goal.invariant-loop-index

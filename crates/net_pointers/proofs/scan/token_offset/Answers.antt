@@ -1,10 +1,7 @@
-use Rattle.std.proofs.Common.{rules, ◌≡◌, ◌+◌, drop, slice_index_or, true, false, ap, subst, ◌∙◌, arith}
-use Rattle.std.proofs.Math.ListN.{drop_of_length-le}
+use Rattle.std.{proofs.Common.{rules, ◌≡◌, ◌+◌, drop, slice_index_or, true, false, ap, subst, ◌∙◌, arith}, proofs.Math.ListN.{drop_of_length-le}}
 use Rattle.json.specs.Lex.{tokens}
-use Rattle.net_pointers.specs.Scans.{begins_token, mode_after, lexed}
-use Rattle.net_pointers.proofs.ScanLaws.{IsPassed, nothing_passed, passed_over, passed_token, no_mark, found, not_there}
+use Rattle.net_pointers.{specs.Scans.{begins_token, mode_after, lexed}, proofs.ScanLaws.{IsPassed, nothing_passed, passed_over, passed_token, no_mark, found, not_there}, proofs.scan.token_offset.Goals.{then-begins_token+else-left-eq0, else-begins_token}}
 use Rattle.net_pointers.proofs.scan.token_offset.Goals as goal
-use Rattle.net_pointers.proofs.scan.token_offset.Goals.{then-begins_token+else-left-eq0, else-begins_token}
 
 pub loop-offset-init : goal.loop-offset-init
 loop-offset-init c = (0, grind arith, nothing_passed c.args.text.now)

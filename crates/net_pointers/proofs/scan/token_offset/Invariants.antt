@@ -1,7 +1,6 @@
 -- So many tokens begin before the offset.
 use Rattle.std.proofs.Common.{◌≡◌, ◌+◌, ℕ}
-use Rattle.net_pointers.specs.Scans.{lexed}
-use Rattle.net_pointers.proofs.ScanLaws.{IsPassed}
+use Rattle.net_pointers.{specs.Scans.{lexed}, proofs.ScanLaws.{IsPassed}}
 use Rattle.net_pointers.proofs.scan.token_offset.Given as goal
 
 abbrev pub invariant-loop-offset : goal.invariant-loop-offset

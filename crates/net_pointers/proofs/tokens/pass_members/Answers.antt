@@ -1,7 +1,6 @@
 use Rattle.std.proofs.Common.{◌≡◌, ◌∙◌, Some, arith}
 use Rattle.json.specs.Json.{skip_value}
-use Rattle.net_pointers.specs.PartTokens.{past_key}
-use Rattle.net_pointers.proofs.PartTokens.{member_passed}
+use Rattle.net_pointers.{specs.PartTokens.{past_key}, proofs.PartTokens.{member_passed}}
 use Rattle.net_pointers.proofs.tokens.pass_members.Goals as goal
 
 pub loop-preserved : goal.loop-preserved

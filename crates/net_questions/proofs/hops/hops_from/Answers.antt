@@ -1,6 +1,5 @@
 use Rattle.std.proofs.Common.{rules, ◌≡◌, None, sym, arith, add-one, suc}
-use Rattle.net_rules.specs.Circles.{MovesBy, next_in}
-use Rattle.net_rules.proofs.Circling.{short_way, one_more}
+use Rattle.net_rules.{specs.Circles.{MovesBy, next_in}, proofs.Circling.{short_way, one_more}}
 use Rattle.net_questions.proofs.Tables.{no_circle, leads_by_rows, way_is_over, reached, stranded}
 use Rattle.net_questions.proofs.hops.hops_from.Goals as goal
 

@@ -1,6 +1,5 @@
 use Rattle.std.proofs.Common.{◌-◌, length}
-use Rattle.net_rules.specs.Moves.{Leads}
-use Rattle.net_rules.specs.Circles.{MovesBy}
+use Rattle.net_rules.{specs.Moves.{Leads}, specs.Circles.{MovesBy}}
 use Rattle.net_questions.proofs.hops.hops_from.Given as goal
 
 abbrev pub invariant-loop-next : goal.invariant-loop-next

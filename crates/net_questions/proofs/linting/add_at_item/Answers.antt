@@ -1,7 +1,5 @@
 use Rattle.std.proofs.Common.{◌≡◌, [], ◌∷◌, subst, arith}
-use Rattle.net_questions.specs.Findings.{Adds, order_of, others_of}
-use Rattle.net_questions.proofs.Ascending.{Below, start, more, all}
-use Rattle.net_questions.proofs.Bounds.{end_of_others}
+use Rattle.net_questions.{specs.Findings.{Adds, order_of, others_of}, proofs.Ascending.{Below, start, more, all}, proofs.Bounds.{end_of_others}}
 use Rattle.net_questions.proofs.linting.add_at_item.Goals as goal
 
 pub loop-other-init : goal.loop-other-init

@@ -1,6 +1,5 @@
 use Rattle.std.proofs.Common.{[], ◌∷◌}
-use Rattle.net_questions.specs.Findings.{Adds, order_of}
-use Rattle.net_questions.proofs.Ascending.{Below}
+use Rattle.net_questions.{specs.Findings.{Adds, order_of}, proofs.Ascending.{Below}}
 use Rattle.net_questions.proofs.linting.add_at_site.Given as goal
 
 abbrev pub invariant-loop-item : goal.invariant-loop-item

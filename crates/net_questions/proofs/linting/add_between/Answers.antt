@@ -1,7 +1,5 @@
 use Rattle.std.proofs.Common.{◌≡◌, [], ◌∷◌, subst, arith}
-use Rattle.net_questions.specs.Findings.{Adds, order_of, other_items_of}
-use Rattle.net_questions.proofs.Ascending.{Below, start, more, all}
-use Rattle.net_questions.proofs.Bounds.{end_of_other_items}
+use Rattle.net_questions.{specs.Findings.{Adds, order_of, other_items_of}, proofs.Ascending.{Below, start, more, all}, proofs.Bounds.{end_of_other_items}}
 use Rattle.net_questions.proofs.linting.add_between.Goals as goal
 
 pub loop-other_item-init : goal.loop-other_item-init

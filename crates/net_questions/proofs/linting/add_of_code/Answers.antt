@@ -1,7 +1,5 @@
 use Rattle.std.proofs.Common.{◌≡◌, [], ◌∷◌, subst, arith}
-use Rattle.net_questions.specs.Findings.{Adds, order_of, sites_of}
-use Rattle.net_questions.proofs.Ascending.{Below, start, more, all}
-use Rattle.net_questions.proofs.Bounds.{end_of_sites}
+use Rattle.net_questions.{specs.Findings.{Adds, order_of, sites_of}, proofs.Ascending.{Below, start, more, all}, proofs.Bounds.{end_of_sites}}
 use Rattle.net_questions.proofs.linting.add_of_code.Goals as goal
 
 pub loop-site-init : goal.loop-site-init

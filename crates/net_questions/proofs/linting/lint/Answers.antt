@@ -1,7 +1,5 @@
 use Rattle.std.proofs.Common.{◌≡◌, [], subst, arith, rules}
-use Rattle.net_questions.specs.Findings.{Adds}
-use Rattle.net_questions.proofs.Ascending.{Below, more}
-use Rattle.net_questions.proofs.Bounds.{order_at, are_findings, start_empty}
+use Rattle.net_questions.{specs.Findings.{Adds}, proofs.Ascending.{Below, more}, proofs.Bounds.{order_at, are_findings, start_empty}}
 use Rattle.net_questions.proofs.linting.lint.Goals as goal
 
 pub loop-code-init : goal.loop-code-init

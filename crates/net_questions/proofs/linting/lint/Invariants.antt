@@ -1,6 +1,5 @@
 use Rattle.std.proofs.Common.{[]}
-use Rattle.net_questions.specs.Findings.{Adds}
-use Rattle.net_questions.proofs.Ascending.{Below}
+use Rattle.net_questions.{specs.Findings.{Adds}, proofs.Ascending.{Below}}
 use Rattle.net_questions.proofs.linting.lint.Given as goal
 
 abbrev pub invariant-loop-code : goal.invariant-loop-code

@@ -1,5 +1,4 @@
-use Rattle.net_tables.specs.Routing.{rows_of}
-use Rattle.net_tables.proofs.TableLaws.{named}
+use Rattle.net_tables.{specs.Routing.{rows_of}, proofs.TableLaws.{named}}
 use Rattle.net_questions.proofs.WayLaws.{hop_of}
 use Rattle.net_questions.proofs.lookup.hop_at.Goals as goal
 

@@ -1,7 +1,6 @@
 use Rattle.std.proofs.Common.{arith}
 use Rattle.plan_values.specs.declared.nodes.Row.{Row}
-use Rattle.net_tables.specs.Routing.{Covers}
-use Rattle.net_tables.proofs.RowSearches.{of_one_more, of_all_items, no_row_for}
+use Rattle.net_tables.{specs.Routing.{Covers}, proofs.RowSearches.{of_one_more, of_all_items, no_row_for}}
 use Rattle.net_questions.proofs.FirstRows.{first_row}
 use Rattle.net_questions.proofs.lookup.row_for.Goals as goal
 

@@ -1,6 +1,5 @@
 use Rattle.std.proofs.Common.{◌++◌, ◌∙◌, ap}
-use Rattle.net_questions.specs.Reaching.{hops_in, pair_between}
-use Rattle.net_questions.proofs.Listing.{flat_map_range_more}
+use Rattle.net_questions.{specs.Reaching.{hops_in, pair_between}, proofs.Listing.{flat_map_range_more}}
 use Rattle.net_questions.proofs.reaching.add_pairs.Goals as goal
 
 pub loop-to-preserved : goal.loop-to-preserved

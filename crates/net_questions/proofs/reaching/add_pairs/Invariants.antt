@@ -1,5 +1,4 @@
-use Rattle.std.proofs.Common.{◌≡◌, ◌++◌}
-use Rattle.std.specs.List.{flat_map, range_with_len}
+use Rattle.std.{proofs.Common.{◌≡◌, ◌++◌}, specs.List.{flat_map, range_with_len}}
 use Rattle.net_questions.specs.Reaching.{hops_in, pair_between}
 use Rattle.net_questions.proofs.reaching.add_pairs.Given as goal
 

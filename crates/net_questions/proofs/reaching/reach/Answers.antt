@@ -1,8 +1,6 @@
 use Rattle.std.proofs.Common.{◌≡◌, ◌++◌, ◌∙◌, [], length, ap, subst, sym, arith}
 use Rattle.plan_values.specs.declared.plan.Plan.{Plan}
-use Rattle.net_questions.specs.Reaching.{NeverCircles, AreHopsToEach, hops_in, pairs_from}
-use Rattle.net_questions.proofs.Listing.{flat_map_range_more}
-use Rattle.net_questions.proofs.Tables.{never_circles, are_pairs}
+use Rattle.net_questions.{specs.Reaching.{NeverCircles, AreHopsToEach, hops_in, pairs_from}, proofs.Listing.{flat_map_range_more}, proofs.Tables.{never_circles, are_pairs}}
 use Rattle.net_questions.proofs.reaching.reach.Goals as goal
 
 pub hops_to_each-requires : goal.hops_to_each-requires

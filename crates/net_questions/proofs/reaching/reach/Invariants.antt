@@ -1,5 +1,4 @@
-use Rattle.std.proofs.Common.{◌≡◌, length}
-use Rattle.std.specs.List.{flat_map, range_with_len}
+use Rattle.std.{proofs.Common.{◌≡◌, length}, specs.List.{flat_map, range_with_len}}
 use Rattle.net_questions.specs.Reaching.{hops_in, pairs_from}
 use Rattle.net_questions.proofs.reaching.reach.Given as goal
 

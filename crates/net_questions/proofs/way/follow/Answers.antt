@@ -1,8 +1,6 @@
-use Rattle.std.proofs.Common.{ap, arith, length, subst, ◌∙◌}
-use Rattle.std.proofs.lemmas.List.{length_push}
+use Rattle.std.{proofs.Common.{ap, arith, length, subst, ◌∙◌}, proofs.lemmas.List.{length_push}}
 use Rattle.mctp_routing.specs.declared.decision.Decision.TheVariants.{Drop, Forward}
-use Rattle.net_questions.specs.Ways.{DoesAfter}
-use Rattle.net_questions.proofs.WayLaws.{one_step_more, steps_within}
+use Rattle.net_questions.{specs.Ways.{DoesAfter}, proofs.WayLaws.{one_step_more, steps_within}}
 use Rattle.net_questions.proofs.way.follow.Goals as goal
 
 pub loop-hop-smaller : goal.loop-hop-smaller

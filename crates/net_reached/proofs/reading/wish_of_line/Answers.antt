@@ -1,6 +1,5 @@
 use Rattle.std.proofs.Common.{arith, sym, subst}
-use Rattle.net_reached.specs.Reading.{IsRemark}
-use Rattle.net_reached.proofs.Saying.{says_nothing}
+use Rattle.net_reached.{specs.Reading.{IsRemark}, proofs.Saying.{says_nothing}}
 use Rattle.net_reached.proofs.reading.wish_of_line.Goals as goal
 
 pub returns-clause-none : goal.returns-clause-none

@@ -1,5 +1,4 @@
-use Rattle.std.proofs.Common.{rules, ◌≡◌, ℕ, List, map, Bor}
-use Rattle.std.specs.Str.Lines.{lines}
+use Rattle.std.{proofs.Common.{rules, ◌≡◌, ℕ, List, map, Bor}, specs.Str.Lines.{lines}}
 use Rattle.net_reached.proofs.Saying.{line_at, said_before, take_one_more}
 use Rattle.net_reached.proofs.reading.wishes_of_text.Goals as goal
 

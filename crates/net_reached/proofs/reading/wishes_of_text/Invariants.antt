@@ -1,5 +1,4 @@
-use Rattle.std.proofs.Common.{take}
-use Rattle.std.specs.Str.Lines.{lines}
+use Rattle.std.{proofs.Common.{take}, specs.Str.Lines.{lines}}
 use Rattle.net_reached.specs.Reading.{SayEach}
 use Rattle.net_reached.proofs.reading.wishes_of_text.Given as goal
 

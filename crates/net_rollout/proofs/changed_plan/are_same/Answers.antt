@@ -1,9 +1,7 @@
-use Rattle.std.proofs.Common.{refl, arith}
-use Rattle.std.proofs.lemmas.Bool.{false≢true}
-use Rattle.plan_values.specs.NodeValues.{row_value}
+use Rattle.std.{proofs.Common.{refl, arith}, proofs.lemmas.Bool.{false≢true}}
+use Rattle.plan_values.{specs.NodeValues.{row_value}, proofs.SameItems.{others_here}}
 use Rattle.net_rollout.proofs.Items.{same_more, same_all}
 use Rattle.net_rollout.proofs.changed_plan.are_same.Goals as goal
-use Rattle.plan_values.proofs.SameItems.{others_here}
 
 pub returns-then-not-is_same : goal.returns-then-not-is_same
 returns-then-not-is_same c = (

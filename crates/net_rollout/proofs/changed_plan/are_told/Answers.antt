@@ -1,10 +1,7 @@
-use Rattle.std.proofs.Common.{◌≡◌, Some, length, arith, subst, inl, inr}
-use Rattle.std.specs.Prelude.{slice_get}
-use Rattle.std.proofs.lemmas.Bool.{cases_lt}
-use Rattle.std.proofs.lemmas.Option.{slice_get_read, slice_get_within}
+use Rattle.std.{proofs.Common.{◌≡◌, Some, length, arith, subst, inl, inr}, specs.Prelude.{slice_get}, proofs.lemmas.Bool.{cases_lt}, proofs.lemmas.Option.{slice_get_read, slice_get_within}}
 use Rattle.net_rollout.specs.Steps.{IsPartTold}
-use Rattle.net_rollout.proofs.changed_plan.are_told.Goals as goal
 use Rattle.mctp_transport.proofs.FirstIndexes.{same_element}
+use Rattle.net_rollout.proofs.changed_plan.are_told.Goals as goal
 
 pub loop-part-preserved : goal.loop-part-preserved
 loop-part-preserved c i part lt there =

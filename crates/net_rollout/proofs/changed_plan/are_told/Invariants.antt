@@ -1,7 +1,5 @@
-use Rattle.std.proofs.Common.{◌≡◌, ◌<◌, ℕ, Some}
-use Rattle.std.specs.Prelude.{slice_get}
-use Rattle.net_rollout.specs.declared.change.Part.{Part}
-use Rattle.net_rollout.specs.Steps.{IsPartTold}
+use Rattle.std.{proofs.Common.{◌≡◌, ◌<◌, ℕ, Some}, specs.Prelude.{slice_get}}
+use Rattle.net_rollout.{specs.declared.change.Part.{Part}, specs.Steps.{IsPartTold}}
 use Rattle.net_rollout.proofs.changed_plan.are_told.Given as goal
 
 abbrev pub invariant-loop-part : goal.invariant-loop-part

@@ -1,7 +1,5 @@
 use Rattle.std.proofs.Common.{◌≡◌, ◌≢◌, ◌+◌, ◌++◌, ◌∷◌, [], List, ℕ, arith, subst, sym, rules}
-use Rattle.net_rollout.specs.Steps.{row_values}
-use Rattle.net_rollout.proofs.Made.{AreChangedBefore, none_more, one_changed, all_changed}
-use Rattle.net_rollout.proofs.changed_plan.changed_nodes.Goals.{then-not-are_same+in_ok-push, else-not-are_same}
+use Rattle.net_rollout.{specs.Steps.{row_values}, proofs.Made.{AreChangedBefore, none_more, one_changed, all_changed}, proofs.changed_plan.changed_nodes.Goals.{then-not-are_same+in_ok-push, else-not-are_same}}
 use Rattle.net_rollout.proofs.changed_plan.changed_nodes.Goals as goal
 
 pub loop-node-preserved : goal.loop-node-preserved

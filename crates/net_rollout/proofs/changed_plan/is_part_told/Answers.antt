@@ -1,5 +1,4 @@
-use Rattle.std.proofs.Common.{◌≡◌, ◌↔◌, List, ℕ, Some, arith, subst, inl, inr}
-use Rattle.std.proofs.lemmas.Bool.{cases_lt}
+use Rattle.std.{proofs.Common.{◌≡◌, ◌↔◌, List, ℕ, Some, arith, subst, inl, inr}, proofs.lemmas.Bool.{cases_lt}}
 use Rattle.plan_values.specs.declared.nodes.Row.{Row}
 use Rattle.net_tables.specs.Routing.{NamesFor, rows_of}
 use Rattle.net_rollout.proofs.changed_plan.is_part_told.Goals as goal

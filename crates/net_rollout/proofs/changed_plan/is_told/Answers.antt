@@ -1,6 +1,5 @@
 use Rattle.std.proofs.Common.{subst}
-use Rattle.net_rollout.specs.Steps.{AreTold}
-use Rattle.net_rollout.proofs.Made.{parts_told}
+use Rattle.net_rollout.{specs.Steps.{AreTold}, proofs.Made.{parts_told}}
 use Rattle.net_rollout.proofs.changed_plan.is_told.Goals as goal
 
 pub returns-in-Parts : goal.returns-in-Parts

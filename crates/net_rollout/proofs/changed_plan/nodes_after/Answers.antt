@@ -1,9 +1,6 @@
-use Rattle.std.proofs.Common.{◌≡◌, ◌+◌, ◌++◌, ◌∷◌, [], Some, length, arith, subst, sym, rules}
-use Rattle.std.specs.Prelude.{slice_get}
-use Rattle.std.proofs.lemmas.Option.{slice_get_read}
+use Rattle.std.{proofs.Common.{◌≡◌, ◌+◌, ◌++◌, ◌∷◌, [], Some, length, arith, subst, sym, rules}, specs.Prelude.{slice_get}, proofs.lemmas.Option.{slice_get_read}}
 use Rattle.plan_values.specs.NodeValues.{but_rows}
-use Rattle.net_rollout.specs.Steps.{AreNodesAfter, IsNodeAfter}
-use Rattle.net_rollout.proofs.Made.{node_more, node_so}
+use Rattle.net_rollout.{specs.Steps.{AreNodesAfter, IsNodeAfter}, proofs.Made.{node_more, node_so}}
 use Rattle.net_rollout.proofs.changed_plan.nodes_after.Goals as goal
 
 pub loop-index-preserved : goal.loop-index-preserved

@@ -1,7 +1,6 @@
 use Rattle.std.proofs.Common.{◌≡◌, length, map, arith, rules}
 use Rattle.plan_values.specs.NodeValues.{bus_value}
-use Rattle.net_rollout.specs.Steps.{AreNodesAfter, IsTold}
-use Rattle.net_rollout.proofs.Made.{made_plan}
+use Rattle.net_rollout.{specs.Steps.{AreNodesAfter, IsTold}, proofs.Made.{made_plan}}
 use Rattle.net_rollout.proofs.changed_plan.plan_after.Goals as goal
 
 pub returns : goal.returns

@@ -1,11 +1,7 @@
-use Rattle.std.proofs.Common.{◌≡◌, ◌≢◌, ◌+◌, ◌≤◌, List, Some, length, arith, subst, sym, rules}
-use Rattle.std.specs.Prelude.{slice_get}
-use Rattle.std.proofs.lemmas.Option.{slice_get_read}
+use Rattle.std.{proofs.Common.{◌≡◌, ◌≢◌, ◌+◌, ◌≤◌, List, Some, length, arith, subst, sym, rules}, specs.Prelude.{slice_get}, proofs.lemmas.Option.{slice_get_read}}
 use Rattle.plan_values.specs.declared.nodes.Row.{Row}
 use Rattle.net_tables.specs.Routing.{rows_of}
-use Rattle.net_rollout.specs.Steps.{SendAs}
-use Rattle.net_rollout.proofs.Made.{IsTakenBefore, none_taken, other_node, its_part, all_taken}
-use Rattle.net_rollout.proofs.changed_plan.rows_by_parts.Goals.{then-part-node+in_ok-rows-2, else-part-node}
+use Rattle.net_rollout.{specs.Steps.{SendAs}, proofs.Made.{IsTakenBefore, none_taken, other_node, its_part, all_taken}, proofs.changed_plan.rows_by_parts.Goals.{then-part-node+in_ok-rows-2, else-part-node}}
 use Rattle.net_rollout.proofs.changed_plan.rows_by_parts.Goals as goal
 
 pub loop-part-init : goal.loop-part-init

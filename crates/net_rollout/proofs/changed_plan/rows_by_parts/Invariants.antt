@@ -1,6 +1,5 @@
 use Rattle.net_tables.specs.Routing.{rows_of}
-use Rattle.net_rollout.specs.Steps.{SendAs}
-use Rattle.net_rollout.proofs.Made.{IsTakenBefore}
+use Rattle.net_rollout.{specs.Steps.{SendAs}, proofs.Made.{IsTakenBefore}}
 use Rattle.net_rollout.proofs.changed_plan.rows_by_parts.Given as goal
 
 abbrev pub invariant-loop-part : goal.invariant-loop-part

@@ -1,7 +1,6 @@
 use Rattle.std.proofs.Common.{◌≡◌, ◌↔◌, ◌⊎◌, ◌++◌, ◌∷◌, [], List, ℕ, subst, sym, rules}
 use Rattle.plan_values.specs.declared.nodes.Row.{Row}
-use Rattle.net_rollout.specs.Steps.{IsPieceOf, SendsBy}
-use Rattle.net_rollout.proofs.Sending.{none_added, one_added}
+use Rattle.net_rollout.{specs.Steps.{IsPieceOf, SendsBy}, proofs.Sending.{none_added, one_added}}
 use Rattle.net_rollout.proofs.row_pieces.add_piece.Goals as goal
 
 pub returns-in_ok-push-in-Some : goal.returns-in_ok-push-in-Some

@@ -1,6 +1,4 @@
-use Rattle.std.proofs.Common.{◌≡◌, ◌≤◌, Some, length, arith}
-use Rattle.std.specs.Prelude.{slice_get}
-use Rattle.std.proofs.lemmas.Option.{slice_get_read}
+use Rattle.std.{proofs.Common.{◌≡◌, ◌≤◌, Some, length, arith}, specs.Prelude.{slice_get}, proofs.lemmas.Option.{slice_get_read}}
 use Rattle.net_rollout.proofs.Sending.{all_pieces, no_pieces, one_row_more}
 use Rattle.net_rollout.proofs.row_pieces.add_pieces.Goals as goal
 

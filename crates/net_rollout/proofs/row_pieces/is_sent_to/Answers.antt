@@ -1,8 +1,5 @@
-use Rattle.std.proofs.Common.{◌≡◌, ◌≤◌, ◌+◌, Bool, Some, length, arith, subst, sym, rules}
-use Rattle.std.specs.Prelude.{slice_get}
-use Rattle.std.proofs.lemmas.Option.{slice_get_read}
-use Rattle.net_rollout.proofs.Sending.{IsSentBefore, none_yet, one_sends, one_passes, sent_to_it, sent_nowhere}
-use Rattle.net_rollout.proofs.row_pieces.is_sent_to.Goals.{then-covers+else-not-is_next, else-covers}
+use Rattle.std.{proofs.Common.{◌≡◌, ◌≤◌, ◌+◌, Bool, Some, length, arith, subst, sym, rules}, specs.Prelude.{slice_get}, proofs.lemmas.Option.{slice_get_read}}
+use Rattle.net_rollout.{proofs.Sending.{IsSentBefore, none_yet, one_sends, one_passes, sent_to_it, sent_nowhere}, proofs.row_pieces.is_sent_to.Goals.{then-covers+else-not-is_next, else-covers}}
 use Rattle.net_rollout.proofs.row_pieces.is_sent_to.Goals as goal
 
 pub loop-row-init : goal.loop-row-init

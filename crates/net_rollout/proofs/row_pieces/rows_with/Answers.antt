@@ -1,7 +1,6 @@
 use Rattle.std.proofs.Common.{◌≡◌, ◌+◌, [], List, ℕ, ◌↔◌, ◌⊎◌, ◌≤◌, ◌<◌, arith, subst}
 use Rattle.plan_values.specs.declared.nodes.Row.{Row}
-use Rattle.net_rollout.specs.Steps.{SendsBy}
-use Rattle.net_rollout.proofs.Sending.{three_runs}
+use Rattle.net_rollout.{specs.Steps.{SendsBy}, proofs.Sending.{three_runs}}
 use Rattle.net_rollout.proofs.row_pieces.rows_with.Goals as goal
 
 pub returns : goal.returns

@@ -1,5 +1,4 @@
-use Rattle.std.proofs.Common.{◌≡◌, ◌-◌, Some, length, rules}
-use Rattle.std.specs.Prelude.{slice_get}
+use Rattle.std.{proofs.Common.{◌≡◌, ◌-◌, Some, length, rules}, specs.Prelude.{slice_get}}
 use Rattle.net_rollout.proofs.Chains.{last_of}
 use Rattle.net_rollout.proofs.steps.plan_so_far.Goals as goal
 

@@ -1,6 +1,5 @@
 use Rattle.std.proofs.Common.{◌≡◌, ◌∙◌, ap}
-use Rattle.net_rollout.specs.Steps.{IsCertified, last_plan}
-use Rattle.net_rollout.proofs.Made.{ends_so}
+use Rattle.net_rollout.{specs.Steps.{IsCertified, last_plan}, proofs.Made.{ends_so}}
 use Rattle.net_rollout.proofs.steps.to_the_end.Goals as goal
 
 pub returns-in_ok-nodes-in-Ok : goal.returns-in_ok-nodes-in-Ok

@@ -1,8 +1,5 @@
 use Rattle.std.proofs.Common.{List, [], ◌∷◌, ◌++◌, subst, sym}
-use Rattle.net_rules.specs.declared.fault_run.FaultRun.{FaultRun}
-use Rattle.net_rules.specs.Faults.{order_of, order_of_number}
-use Rattle.net_rules.specs.FaultLists.{AreFaultsBefore}
-use Rattle.net_rules.proofs.FaultRuns.{alone_passed, alone_pushed}
+use Rattle.net_rules.{specs.declared.fault_run.FaultRun.{FaultRun}, specs.Faults.{order_of, order_of_number}, specs.FaultLists.{AreFaultsBefore}, proofs.FaultRuns.{alone_passed, alone_pushed}}
 use Rattle.net_rules.proofs.all_faults.add_alone.Goals as goal
 
 pub returns-then-is_met_alone : goal.returns-then-is_met_alone

@@ -1,9 +1,5 @@
-use Rattle.std.proofs.Common.{ℕ, List, [], ◌∷◌, ◌++◌, ◌+◌, Some, subst, sym, arith, inl, inr}
-use Rattle.std.proofs.lemmas.Bool.{cases_lt}
-use Rattle.net_rules.specs.declared.fault_run.FaultRun.{FaultRun}
-use Rattle.net_rules.specs.Faults.{order_of, order_of_number}
-use Rattle.net_rules.specs.FaultLists.{AreFaultsBefore}
-use Rattle.net_rules.proofs.FaultRuns.{both_demands, eids_passed, eids_pushed, eids_left}
+use Rattle.std.{proofs.Common.{ℕ, List, [], ◌∷◌, ◌++◌, ◌+◌, Some, subst, sym, arith, inl, inr}, proofs.lemmas.Bool.{cases_lt}}
+use Rattle.net_rules.{specs.declared.fault_run.FaultRun.{FaultRun}, specs.Faults.{order_of, order_of_number}, specs.FaultLists.{AreFaultsBefore}, proofs.FaultRuns.{both_demands, eids_passed, eids_pushed, eids_left}}
 use Rattle.net_rules.proofs.all_faults.add_at_eids.Goals as goal
 
 pub loop-first-init : goal.loop-first-init

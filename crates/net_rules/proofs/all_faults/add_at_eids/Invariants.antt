@@ -1,6 +1,5 @@
 use Rattle.std.proofs.Common.{[], ◌∷◌, ◌+◌, ◌-◌, ◌≤◌}
-use Rattle.net_rules.specs.Faults.{order_of, order_of_number}
-use Rattle.net_rules.specs.FaultLists.{AreFaultsBefore}
+use Rattle.net_rules.{specs.Faults.{order_of, order_of_number}, specs.FaultLists.{AreFaultsBefore}}
 use Rattle.net_rules.proofs.all_faults.add_at_eids.Given as goal
 
 abbrev pub invariant-loop-first : goal.invariant-loop-first

@@ -1,7 +1,5 @@
 use Rattle.std.proofs.Common.{◌≡◌, ℕ, [], ◌∷◌, ◌+◌, suc, subst, arith}
-use Rattle.net_rules.specs.Faults.{order_of}
-use Rattle.net_rules.specs.FaultLists.{AreFaultsBefore}
-use Rattle.net_rules.proofs.FaultRuns.{entered, left, met_at, beyond_entries}
+use Rattle.net_rules.{specs.Faults.{order_of}, specs.FaultLists.{AreFaultsBefore}, proofs.FaultRuns.{entered, left, met_at, beyond_entries}}
 use Rattle.net_rules.proofs.all_faults.add_at_entries.Goals as goal
 
 pub add_at_entry-requires-clause-before : goal.add_at_entry-requires-clause-before

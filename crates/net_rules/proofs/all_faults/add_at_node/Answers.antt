@@ -1,6 +1,5 @@
 use Rattle.std.proofs.Common.{[], ◌∷◌, ◌+◌, arith}
-use Rattle.net_rules.specs.Faults.{order_of}
-use Rattle.net_rules.proofs.FaultRuns.{passed, met_at}
+use Rattle.net_rules.{specs.Faults.{order_of}, proofs.FaultRuns.{passed, met_at}}
 use Rattle.net_rules.proofs.all_faults.add_at_node.Goals as goal
 
 pub returns-then-is_met : goal.returns-then-is_met

@@ -1,6 +1,5 @@
 use Rattle.std.proofs.Common.{[], ◌∷◌, arith}
-use Rattle.net_rules.specs.Faults.{order_of}
-use Rattle.net_rules.proofs.FaultRuns.{entered, left, beyond_nodes}
+use Rattle.net_rules.{specs.Faults.{order_of}, proofs.FaultRuns.{entered, left, beyond_nodes}}
 use Rattle.net_rules.proofs.all_faults.add_of_rule.Goals as goal
 
 pub loop-node-init : goal.loop-node-init

@@ -1,6 +1,5 @@
 use Rattle.std.proofs.Common.{[], ◌∷◌}
-use Rattle.net_rules.specs.Faults.{order_of}
-use Rattle.net_rules.specs.FaultLists.{AreFaultsBefore}
+use Rattle.net_rules.{specs.Faults.{order_of}, specs.FaultLists.{AreFaultsBefore}}
 use Rattle.net_rules.proofs.all_faults.add_of_rule.Given as goal
 
 abbrev pub invariant-loop-node : goal.invariant-loop-node

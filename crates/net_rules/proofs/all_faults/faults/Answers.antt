@@ -1,11 +1,6 @@
-use Rattle.std.proofs.Common.{ℕ, List, [], ◌∷◌, sym, subst, arith, rules}
-use Rattle.std.specs.Prelude.{Option}
-use Rattle.plan_values.specs.declared.certificate.Certificate.{Certificate}
-use Rattle.plan_values.specs.declared.plan.Plan.{Plan}
-use Rattle.net_rules.specs.declared.fault_run.FaultRun.{FaultRun}
-use Rattle.net_rules.specs.FaultLists.{AreFaults, AreFaultsBefore}
-use Rattle.net_rules.proofs.FaultRuns.{none_yet, all_faults}
-use Rattle.net_rules.proofs.RuleOrder.{order_at}
+use Rattle.std.{proofs.Common.{ℕ, List, [], ◌∷◌, sym, subst, arith, rules}, specs.Prelude.{Option}}
+use Rattle.plan_values.{specs.declared.certificate.Certificate.{Certificate}, specs.declared.plan.Plan.{Plan}}
+use Rattle.net_rules.{specs.declared.fault_run.FaultRun.{FaultRun}, specs.FaultLists.{AreFaults, AreFaultsBefore}, proofs.FaultRuns.{none_yet, all_faults}, proofs.RuleOrder.{order_at}}
 use Rattle.net_rules.proofs.all_faults.faults.Goals as goal
 
 pub loop-rule-init : goal.loop-rule-init

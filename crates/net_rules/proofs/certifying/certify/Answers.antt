@@ -1,9 +1,5 @@
 use Rattle.std.proofs.Common.{◌≡◌, ℕ, ◌+◌, subst, arith, rules}
-use Rattle.net_rules.specs.Certificates.{IsMadeBefore, NamesObstacle, RulesOutCertificates}
-use Rattle.net_rules.specs.RoutingLoops.{IsRank}
-use Rattle.net_rules.proofs.RuleOrder.{order_at}
-use Rattle.net_rules.proofs.Obstacles.{ruled_out, if_err}
-use Rattle.net_rules.proofs.ExactCertificates.{made_exact, made_meets, exact_well_formed}
+use Rattle.net_rules.{specs.Certificates.{IsMadeBefore, NamesObstacle, RulesOutCertificates}, specs.RoutingLoops.{IsRank}, proofs.RuleOrder.{order_at}, proofs.Obstacles.{ruled_out, if_err}, proofs.ExactCertificates.{made_exact, made_meets, exact_well_formed}}
 use Rattle.net_rules.proofs.certifying.certify.Goals as goal
 
 pub returns-clause-well_formed : goal.returns-clause-well_formed

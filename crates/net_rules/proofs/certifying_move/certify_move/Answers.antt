@@ -1,12 +1,6 @@
 use Rattle.std.proofs.Common.{◌≡◌, rules, refl, sym, Err}
 use Rattle.plan_values.specs.declared.certificate.Certificate.{Certificate}
-use Rattle.net_rules.specs.MoveObstacles.{obstacle_of_error}
-use Rattle.net_rules.specs.MoveRanks.{IsMoveRank}
-use Rattle.net_rules.proofs.ExactCertificates.{exact_only_by, exact_well_formed, exact_few}
-use Rattle.net_rules.proofs.MoveCertificates.{plan_meets, plan_rows_apart, plan_rows_in_range, rows_lie_apart, rows_lie_in_range, with_ranks, difference_named, mixed_loop_named, fault_judged, ruled_out_move}
-use Rattle.net_rules.proofs.MoveOrder.{as_many_nodes}
-use Rattle.net_rules.proofs.MoveRankLaws.{move_rank_only}
-use Rattle.net_rules.proofs.SameHolders.{hold_the_same}
+use Rattle.net_rules.{specs.MoveObstacles.{obstacle_of_error}, specs.MoveRanks.{IsMoveRank}, proofs.ExactCertificates.{exact_only_by, exact_well_formed, exact_few}, proofs.MoveCertificates.{plan_meets, plan_rows_apart, plan_rows_in_range, rows_lie_apart, rows_lie_in_range, with_ranks, difference_named, mixed_loop_named, fault_judged, ruled_out_move}, proofs.MoveOrder.{as_many_nodes}, proofs.MoveRankLaws.{move_rank_only}, proofs.SameHolders.{hold_the_same}}
 use Rattle.net_rules.proofs.certifying_move.certify_move.Goals as goal
 
 pub returns-in_err-meet_frames-clause-none : goal.returns-in_err-meet_frames-clause-none

@@ -1,11 +1,5 @@
-use Rattle.std.proofs.Common.{◌≤◌, Some, sym, ◌∙◌, arith, inl, inr}
-use Rattle.std.proofs.lemmas.Bool.{cases_lt, false≢true}
-use Rattle.net_rules.specs.declared.rule.Rule.TheVariants.{C10}
-use Rattle.net_rules.specs.Faults.{order_of}
-use Rattle.net_rules.specs.MoveRules.{DemandsAfter}
-use Rattle.net_rules.specs.MoveSearch.{IsFirstByRules}
-use Rattle.net_rules.proofs.MoveCertificates.{row_fault_named}
-use Rattle.net_rules.proofs.certifying_move.meet_new_rows.Goals.{In-Some}
+use Rattle.std.{proofs.Common.{◌≤◌, Some, sym, ◌∙◌, arith, inl, inr}, proofs.lemmas.Bool.{cases_lt, false≢true}}
+use Rattle.net_rules.{specs.declared.rule.Rule.TheVariants.{C10}, specs.Faults.{order_of}, specs.MoveRules.{DemandsAfter}, specs.MoveSearch.{IsFirstByRules}, proofs.MoveCertificates.{row_fault_named}, proofs.certifying_move.meet_new_rows.Goals.{In-Some}}
 use Rattle.net_rules.proofs.certifying_move.meet_new_rows.Goals as goal
 
 found_first : (c : In-Some) → IsFirstByRules (DemandsAfter c.args.after.now c.args.made.now) (Some c.in-Some.fault)

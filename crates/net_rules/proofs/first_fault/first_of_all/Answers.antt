@@ -1,8 +1,4 @@
-use Rattle.net_rules.specs.declared.asked.Asked.TheVariants.{Alone}
-use Rattle.net_rules.specs.Asked.{DemandsAsked}
-use Rattle.net_rules.specs.Search.{IsFirstOfAll}
-use Rattle.net_rules.specs.MoveSearch.{IsFirstByRules}
-use Rattle.net_rules.proofs.MoveSearches.{of_all, if_ok}
+use Rattle.net_rules.{specs.declared.asked.Asked.TheVariants.{Alone}, specs.Asked.{DemandsAsked}, specs.Search.{IsFirstOfAll}, specs.MoveSearch.{IsFirstByRules}, proofs.MoveSearches.{of_all, if_ok}}
 use Rattle.net_rules.proofs.first_fault.first_of_all.Goals as goal
 
 pub returns : goal.returns

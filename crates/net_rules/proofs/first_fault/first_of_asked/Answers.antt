@@ -1,7 +1,5 @@
 use Rattle.std.proofs.Common.{ℕ, Option, arith}
-use Rattle.net_rules.specs.declared.rule.Rule.{Rule}
-use Rattle.net_rules.specs.Asked.{DemandsAsked}
-use Rattle.net_rules.proofs.RuleOrder.{all_below, more_hold, first_by_rules}
+use Rattle.net_rules.{specs.declared.rule.Rule.{Rule}, specs.Asked.{DemandsAsked}, proofs.RuleOrder.{all_below, more_hold, first_by_rules}}
 use Rattle.net_rules.proofs.first_fault.first_of_asked.Goals as goal
 
 pub loop-rule-preserved : goal.loop-rule-preserved

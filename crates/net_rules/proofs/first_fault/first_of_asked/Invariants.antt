@@ -1,7 +1,5 @@
 use Rattle.std.proofs.Common.{ℕ, ◌<◌, Option}
-use Rattle.net_rules.specs.declared.rule.Rule.{Rule}
-use Rattle.net_rules.specs.Asked.{DemandsAsked}
-use Rattle.net_rules.specs.Faults.{order_of}
+use Rattle.net_rules.{specs.declared.rule.Rule.{Rule}, specs.Asked.{DemandsAsked}, specs.Faults.{order_of}}
 use Rattle.net_rules.proofs.first_fault.first_of_asked.Given as goal
 
 abbrev pub invariant-loop-rule : goal.invariant-loop-rule

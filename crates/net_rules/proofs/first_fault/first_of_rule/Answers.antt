@@ -1,9 +1,6 @@
-use Rattle.std.proofs.Common.{ℕ, Option, length, arith, inl, inr}
-use Rattle.std.proofs.lemmas.Bool.{cases_lt}
+use Rattle.std.{proofs.Common.{ℕ, Option, length, arith, inl, inr}, proofs.lemmas.Bool.{cases_lt}}
 use borrow.Author.Count.{below_more}
-use Rattle.net_rules.specs.Rules.{Demands}
-use Rattle.net_rules.proofs.Beyond.{beyond}
-use Rattle.net_rules.proofs.MoveSearches.{first_at_node}
+use Rattle.net_rules.{specs.Rules.{Demands}, proofs.Beyond.{beyond}, proofs.MoveSearches.{first_at_node}}
 use Rattle.net_rules.proofs.first_fault.first_of_rule.Goals as goal
 
 pub loop-node-preserved : goal.loop-node-preserved

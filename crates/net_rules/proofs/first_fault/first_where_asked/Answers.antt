@@ -1,8 +1,5 @@
 use Rattle.std.proofs.Common.{sym, ◌∙◌}
-use Rattle.net_rules.specs.Rules.{Demands}
-use Rattle.net_rules.specs.Asked.{DemandsAsked}
-use Rattle.net_rules.specs.MoveSearch.{IsFirstByRule}
-use Rattle.net_rules.proofs.MoveSearches.{found_asked, if_ok}
+use Rattle.net_rules.{specs.Rules.{Demands}, specs.Asked.{DemandsAsked}, specs.MoveSearch.{IsFirstByRule}, proofs.MoveSearches.{found_asked, if_ok}}
 use Rattle.net_rules.proofs.first_fault.first_where_asked.Goals as goal
 
 pub returns-then-asks : goal.returns-then-asks

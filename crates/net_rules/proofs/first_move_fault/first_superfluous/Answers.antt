@@ -1,11 +1,8 @@
-use Rattle.std.proofs.Common.{◌≡◌, ℕ, Option, length, ap, arith, inl, inr}
+use Rattle.std.{proofs.Common.{◌≡◌, ℕ, Option, length, ap, arith, inl, inr}, proofs.lemmas.Bool.{cases_lt}}
 use Rattle.plan_values.specs.declared.plan.Plan.{Plan}
-use Rattle.std.proofs.lemmas.Bool.{cases_lt}
 use borrow.Author.Count.{below_more}
-use Rattle.net_rules.specs.declared.move_fault.MoveRule.TheVariants.{M03}
+use Rattle.net_rules.{specs.declared.move_fault.MoveRule.TheVariants.{M03}, proofs.MoveOrder.{NeedsWhatIsGiven}, proofs.MoveSearches.{first_by_node, given_beyond}}
 use Rattle.net_tables.specs.TwoPlans.{moving}
-use Rattle.net_rules.proofs.MoveOrder.{NeedsWhatIsGiven}
-use Rattle.net_rules.proofs.MoveSearches.{first_by_node, given_beyond}
 use Rattle.net_rules.proofs.first_move_fault.first_superfluous.Goals as goal
 
 pub loop-node-preserved : goal.loop-node-preserved

@@ -1,7 +1,6 @@
 use Rattle.std.proofs.Common.{ℕ, ◌<◌, Option}
 use Rattle.net_tables.specs.TwoPlans.{moving}
-use Rattle.net_rules.specs.Rules.{AtNodeOrEid}
-use Rattle.net_rules.specs.Superfluous.{NeedsWhatItIsGiven, NeedsItsRank}
+use Rattle.net_rules.{specs.Rules.{AtNodeOrEid}, specs.Superfluous.{NeedsWhatItIsGiven, NeedsItsRank}}
 use Rattle.net_rules.proofs.first_move_fault.first_superfluous.Given as goal
 
 abbrev pub invariant-loop-node : goal.invariant-loop-node

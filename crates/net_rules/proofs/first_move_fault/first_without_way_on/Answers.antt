@@ -1,12 +1,7 @@
-use Rattle.std.proofs.Common.{ℕ, Option, length, arith, inl, inr}
-use Rattle.std.proofs.lemmas.Bool.{cases_lt}
+use Rattle.std.{proofs.Common.{ℕ, Option, length, arith, inl, inr}, proofs.lemmas.Bool.{cases_lt}}
 use borrow.Author.Count.{below_more}
-use Rattle.net_rules.specs.declared.move_fault.MoveRule.TheVariants.{M02}
+use Rattle.net_rules.{specs.declared.move_fault.MoveRule.TheVariants.{M02}, specs.HeldEids.{IsLedOn}, proofs.Beyond.{at_row_eid}, proofs.MoveOrder.{LeadsOn}, proofs.MoveSearches.{first_by_node}}
 use Rattle.net_tables.specs.TwoPlans.{moving}
-use Rattle.net_rules.specs.HeldEids.{IsLedOn}
-use Rattle.net_rules.proofs.Beyond.{at_row_eid}
-use Rattle.net_rules.proofs.MoveOrder.{LeadsOn}
-use Rattle.net_rules.proofs.MoveSearches.{first_by_node}
 use Rattle.net_rules.proofs.first_move_fault.first_without_way_on.Goals as goal
 
 pub loop-node-preserved : goal.loop-node-preserved

@@ -1,7 +1,6 @@
 use Rattle.std.proofs.Common.{ℕ, ◌<◌, Option}
 use Rattle.net_tables.specs.TwoPlans.{moving}
-use Rattle.net_rules.specs.Rules.{AtRowEid}
-use Rattle.net_rules.specs.HeldEids.{IsLedOn}
+use Rattle.net_rules.{specs.Rules.{AtRowEid}, specs.HeldEids.{IsLedOn}}
 use Rattle.net_rules.proofs.first_move_fault.first_without_way_on.Given as goal
 
 abbrev pub invariant-loop-node : goal.invariant-loop-node

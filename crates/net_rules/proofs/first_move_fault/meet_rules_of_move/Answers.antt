@@ -1,14 +1,7 @@
-use Rattle.net_rules.proofs.MoveOrder.{frames_hold, old_breaks, old_holds, new_breaks, new_holds, old_way_breaks, old_ways_hold, new_way_breaks, new_ways_hold, given_breaks, all_hold}
+use Rattle.net_rules.{proofs.MoveOrder.{frames_hold, old_breaks, old_holds, new_breaks, new_holds, old_way_breaks, old_ways_hold, new_way_breaks, new_ways_hold, given_breaks, all_hold}, specs.declared.move_fault.MoveRule.TheVariants.{M02, M03}, specs.declared.move_fault.MoveFault.{MoveFault}, specs.Rules.{AtRowEid, AtNodeOrEid}, specs.HeldEids.{IsLedOn}, specs.Superfluous.{NeedsWhatItIsGiven, NeedsItsRank}, specs.MoveSearch.{IsFirstByNode}}
 use Rattle.std.proofs.Common.{◌≡◌, Option, subst}
-use Rattle.plan_values.specs.declared.plan.Plan.{Plan}
-use Rattle.plan_values.specs.declared.certificate.Certificate.{Certificate}
+use Rattle.plan_values.{specs.declared.plan.Plan.{Plan}, specs.declared.certificate.Certificate.{Certificate}}
 use Rattle.net_tables.specs.TwoPlans.{moving}
-use Rattle.net_rules.specs.declared.move_fault.MoveRule.TheVariants.{M02, M03}
-use Rattle.net_rules.specs.declared.move_fault.MoveFault.{MoveFault}
-use Rattle.net_rules.specs.Rules.{AtRowEid, AtNodeOrEid}
-use Rattle.net_rules.specs.HeldEids.{IsLedOn}
-use Rattle.net_rules.specs.Superfluous.{NeedsWhatItIsGiven, NeedsItsRank}
-use Rattle.net_rules.specs.MoveSearch.{IsFirstByNode}
 use Rattle.net_rules.proofs.first_move_fault.meet_rules_of_move.Goals as goal
 
 -- what is first by the plans, by what the indexes say of them

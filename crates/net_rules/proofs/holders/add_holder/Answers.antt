@@ -1,12 +1,7 @@
-use Rattle.std.proofs.Common.{◌≡◌, ◌+◌, List, length, option_map, Some, refl, sym, ap, subst}
-use Rattle.std.specs.Prelude.{slice_get}
-use Rattle.std.proofs.lemmas.Option.{slice_get_read}
+use Rattle.std.{proofs.Common.{◌≡◌, ◌+◌, List, length, option_map, Some, refl, sym, ap, subst}, specs.Prelude.{slice_get}, proofs.lemmas.Option.{slice_get_read}}
 use Rattle.plan_values.specs.declared.nodes.Node.{Node}
-use Rattle.net_rules.specs.declared.holders.Holder.{Holder}
+use Rattle.net_rules.{specs.declared.holders.Holder.{Holder}, specs.Following.{EndedBy}, specs.Holders.{AreFirstHolders}, proofs.HolderLaws.{StandsAt, had, added}}
 use Rattle.net_tables.specs.Routing.{Holds}
-use Rattle.net_rules.specs.Following.{EndedBy}
-use Rattle.net_rules.specs.Holders.{AreFirstHolders}
-use Rattle.net_rules.proofs.HolderLaws.{StandsAt, had, added}
 use Rattle.net_rules.proofs.holders.add_holder.Goals as goal
 
 pub returns-then-stands_at : goal.returns-then-stands_at

@@ -1,8 +1,5 @@
-use Rattle.std.proofs.Common.{ℕ, ◌+◌, ◌≤◌, Bool, arith, rules}
-use Rattle.std.proofs.Math.Dec.{leb}
-use Rattle.std.proofs.lemmas.List.Sorted.{IsPartitionPoint-from_clause}
-use Rattle.net_rules.specs.declared.holders.Holder.{Holder}
-use Rattle.net_rules.proofs.FollowingLaws.{parted, ended_by}
+use Rattle.std.{proofs.Common.{ℕ, ◌+◌, ◌≤◌, Bool, arith, rules}, proofs.Math.Dec.{leb}, proofs.lemmas.List.Sorted.{IsPartitionPoint-from_clause}}
+use Rattle.net_rules.{specs.declared.holders.Holder.{Holder}, proofs.FollowingLaws.{parted, ended_by}}
 use Rattle.net_rules.proofs.holders.index_from.Goals as goal
 
 pub returns : goal.returns

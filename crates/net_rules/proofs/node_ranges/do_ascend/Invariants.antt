@@ -1,5 +1,4 @@
-use Rattle.std.proofs.Common.{◌≡◌, ℕ, ◌<◌, ◌≤◌, Some}
-use Rattle.std.specs.Prelude.{slice_get}
+use Rattle.std.{proofs.Common.{◌≡◌, ℕ, ◌<◌, ◌≤◌, Some}, specs.Prelude.{slice_get}}
 use Rattle.plan_values.specs.declared.certificate.RankRange.{RankRange}
 use Rattle.net_tables.specs.Routing.{OfItem}
 use Rattle.net_rules.specs.RanksByEid.{range_past}

@@ -1,9 +1,6 @@
-use Rattle.std.proofs.Common.{ℕ, ◌≤◌, Bool, arith, rules}
-use Rattle.std.proofs.Math.Dec.{leb}
-use Rattle.std.proofs.lemmas.List.Sorted.{IsPartitionPoint-from_clause}
+use Rattle.std.{proofs.Common.{ℕ, ◌≤◌, Bool, arith, rules}, proofs.Math.Dec.{leb}, proofs.lemmas.List.Sorted.{IsPartitionPoint-from_clause}}
 use Rattle.plan_values.specs.declared.certificate.RankRange.{RankRange}
-use Rattle.net_rules.specs.RanksByEid.{range_past}
-use Rattle.net_rules.proofs.FollowingLaws.{parted, ended_by}
+use Rattle.net_rules.{specs.RanksByEid.{range_past}, proofs.FollowingLaws.{parted, ended_by}}
 use Rattle.net_rules.proofs.node_ranges.place_of.Goals as goal
 
 pub returns : goal.returns

@@ -1,5 +1,4 @@
-use Rattle.std.proofs.Common.{ℕ, rules}
-use Rattle.std.proofs.lemmas.List.Sorted.{IsNonDecreasingBy-from_sort_by_key}
+use Rattle.std.{proofs.Common.{ℕ, rules}, proofs.lemmas.List.Sorted.{IsNonDecreasingBy-from_sort_by_key}}
 use Rattle.plan_values.specs.declared.nodes.Row.{Row}
 use Rattle.net_rules.proofs.node_rows.in_order.Goals as goal
 

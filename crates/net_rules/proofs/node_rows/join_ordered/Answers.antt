@@ -1,7 +1,5 @@
 use Rattle.std.proofs.Common.{Option, subst}
-use Rattle.net_rules.specs.declared.spans.Joined.{Joined}
-use Rattle.net_rules.specs.Spans.{AreJoined}
-use Rattle.net_rules.proofs.SpanLaws.{no_turn}
+use Rattle.net_rules.{specs.declared.spans.Joined.{Joined}, specs.Spans.{AreJoined}, proofs.SpanLaws.{no_turn}}
 use Rattle.net_rules.proofs.node_rows.join_ordered.Goals as goal
 
 pub unreachable-requires : goal.unreachable-requires

@@ -1,9 +1,7 @@
 use Rattle.std.proofs.Common.{ℕ, subst}
 use Rattle.plan_values.specs.declared.plan.Plan.{Plan}
 use Rattle.net_tables.specs.TwoPlans.{one_plan}
-use Rattle.net_rules.specs.HeldEids.{IsLedOn}
-use Rattle.net_rules.specs.Rules.{AtRowEid}
-use Rattle.net_rules.specs.Search.{IsFirstSpot}
+use Rattle.net_rules.{specs.HeldEids.{IsLedOn}, specs.Rules.{AtRowEid}, specs.Search.{IsFirstSpot}}
 use Rattle.net_rules.proofs.plan_fault.first_of_plan_at.Goals as goal
 
 pub returns-in-C12 : goal.returns-in-C12

@@ -1,8 +1,6 @@
-use Rattle.std.proofs.Common.{ℕ, Option, length, arith, inl, inr}
-use Rattle.std.proofs.lemmas.Bool.{cases_lt}
+use Rattle.std.{proofs.Common.{ℕ, Option, length, arith, inl, inr}, proofs.lemmas.Bool.{cases_lt}}
 use borrow.Author.Count.{below_more}
-use Rattle.net_rules.specs.Rules.{PlanDemands}
-use Rattle.net_rules.proofs.Beyond.{plan_beyond}
+use Rattle.net_rules.{specs.Rules.{PlanDemands}, proofs.Beyond.{plan_beyond}}
 use Rattle.net_rules.proofs.plan_fault.first_of_plan_rule.Goals as goal
 
 pub loop-node-preserved : goal.loop-node-preserved

@@ -1,8 +1,7 @@
 use Rattle.std.proofs.Common.{◌≡◌, List, sym, ◌∙◌, ap, subst, arith, rules, inl, inr}
 use Rattle.plan_values.specs.declared.nodes.Row.{Row}
-use Rattle.net_tables.specs.Routing.{rows_of}
+use Rattle.net_tables.{specs.Routing.{rows_of}, proofs.Elements.{in_push}}
 use Rattle.net_rules.specs.RowsByNode.{AreRowsByNode}
-use Rattle.net_tables.proofs.Elements.{in_push}
 use Rattle.net_rules.proofs.plan_index.rows_by_node.Goals as goal
 
 pub loop-node-preserved : goal.loop-node-preserved

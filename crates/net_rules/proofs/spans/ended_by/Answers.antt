@@ -1,8 +1,5 @@
-use Rattle.std.proofs.Common.{ℕ, ◌≤◌, Bool, rules}
-use Rattle.std.proofs.Math.Dec.{leb}
-use Rattle.std.proofs.lemmas.List.Sorted.{IsPartitionPoint-from_clause}
-use Rattle.net_rules.specs.declared.span.Span.{Span}
-use Rattle.net_rules.proofs.FollowingLaws.{parted, ended_by}
+use Rattle.std.{proofs.Common.{ℕ, ◌≤◌, Bool, rules}, proofs.Math.Dec.{leb}, proofs.lemmas.List.Sorted.{IsPartitionPoint-from_clause}}
+use Rattle.net_rules.{specs.declared.span.Span.{Span}, proofs.FollowingLaws.{parted, ended_by}}
 use Rattle.net_rules.proofs.spans.ended_by.Goals as goal
 
 pub returns : goal.returns

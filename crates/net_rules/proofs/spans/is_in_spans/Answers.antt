@@ -1,10 +1,5 @@
-use Rattle.std.proofs.Common.{◌≡◌, ℕ, length, Some, None, refl, subst, arith}
-use Rattle.std.specs.Prelude.{slice_get}
-use Rattle.std.proofs.lemmas.Option.{slice_get_read, slice_get_past}
-use Rattle.net_rules.specs.declared.span.Span.{Span}
-use Rattle.net_rules.specs.Following.{EndedBy}
-use Rattle.std.proofs.lemmas.Bool.Decides.{nat_tests}
-use Rattle.net_rules.proofs.SpanLaws.{has_by_first, has_not}
+use Rattle.std.{proofs.Common.{◌≡◌, ℕ, length, Some, None, refl, subst, arith}, specs.Prelude.{slice_get}, proofs.lemmas.Option.{slice_get_read, slice_get_past}, proofs.lemmas.Bool.Decides.{nat_tests}}
+use Rattle.net_rules.{specs.declared.span.Span.{Span}, specs.Following.{EndedBy}, proofs.SpanLaws.{has_by_first, has_not}}
 use Rattle.net_rules.proofs.spans.is_in_spans.Goals as goal
 
 pub returns-in-Some : goal.returns-in-Some

@@ -1,8 +1,5 @@
-use Rattle.std.proofs.Common.{◌≡◌, List, length, Some, true, refl, sym, subst}
-use Rattle.std.specs.Prelude.{slice_get}
-use Rattle.std.proofs.lemmas.Option.{slice_get_read}
-use Rattle.net_rules.specs.declared.span.Span.{Span}
-use Rattle.net_rules.proofs.SpanLaws.{AreJoinedBefore, none_joined, turn_seen, row_added, all_joined}
+use Rattle.std.{proofs.Common.{◌≡◌, List, length, Some, true, refl, sym, subst}, specs.Prelude.{slice_get}, proofs.lemmas.Option.{slice_get_read}}
+use Rattle.net_rules.{specs.declared.span.Span.{Span}, proofs.SpanLaws.{AreJoinedBefore, none_joined, turn_seen, row_added, all_joined}}
 use Rattle.net_rules.proofs.spans.join.Goals as goal
 
 pub loop-row-init : goal.loop-row-init

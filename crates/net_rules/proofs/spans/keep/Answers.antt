@@ -1,7 +1,5 @@
 use Rattle.std.proofs.Common.{List, sym, subst, arith}
-use Rattle.net_rules.specs.declared.span.Span.{Span}
-use Rattle.net_rules.specs.Spans.{IsKept}
-use Rattle.net_rules.proofs.SpanLaws.{kept_none, kept_one}
+use Rattle.net_rules.{specs.declared.span.Span.{Span}, specs.Spans.{IsKept}, proofs.SpanLaws.{kept_none, kept_one}}
 use Rattle.net_rules.proofs.spans.keep.Goals as goal
 
 pub returns-else-last : goal.returns-else-last

@@ -1,6 +1,4 @@
-use Rattle.std.proofs.Common.{◌≡◌, length, Some, refl}
-use Rattle.std.specs.Prelude.{slice_get}
-use Rattle.std.proofs.lemmas.Option.{slice_get_read}
+use Rattle.std.{proofs.Common.{◌≡◌, length, Some, refl}, specs.Prelude.{slice_get}, proofs.lemmas.Option.{slice_get_read}}
 use Rattle.net_rules.proofs.spans.span_from.Goals as goal
 
 pub returns-in-Some : goal.returns-in-Some

@@ -1,8 +1,5 @@
-use Rattle.std.proofs.Common.{◌++◌, List, map, refl, sym, ap, ◌∙◌}
-use Rattle.std.proofs.lemmas.List.{append-nil}
-use Rattle.std.proofs.lemmas.Option.{slice_get_read}
-use Rattle.net_sim.specs.Assignments.{AssignmentValue, assignment_value}
-use Rattle.net_sim.proofs.AssignSteps.{asked_by}
+use Rattle.std.{proofs.Common.{◌++◌, List, map, refl, sym, ap, ◌∙◌}, proofs.lemmas.List.{append-nil}, proofs.lemmas.Option.{slice_get_read}}
+use Rattle.net_sim.{specs.Assignments.{AssignmentValue, assignment_value}, proofs.AssignSteps.{asked_by}}
 use Rattle.net_sim.proofs.assigning.ask.Goals as goal
 
 pub returns-in-None : goal.returns-in-None

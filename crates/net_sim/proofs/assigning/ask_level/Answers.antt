@@ -1,10 +1,6 @@
 use Rattle.std.proofs.Common.{◌+◌, List, map, sym, ap, ◌∙◌, subst, Vec, Global}
-use Rattle.net_sim.specs.declared.assigning.assignment.Assignment.{Assignment}
-use Rattle.net_sim.specs.Assignments.{AssignmentValue, assignment_value}
-use Rattle.net_sim.specs.AssignmentSteps.{HasAskedUpTo}
-use Rattle.net_sim.proofs.AssignSteps.{asked_here, passed_here}
+use Rattle.net_sim.{specs.declared.assigning.assignment.Assignment.{Assignment}, specs.Assignments.{AssignmentValue, assignment_value}, specs.AssignmentSteps.{HasAskedUpTo}, proofs.AssignSteps.{asked_here, passed_here}, proofs.assigning.ask_level.Goals.{then-level_of-level+in_ok-ask, else-level_of-level}}
 use Rattle.net_sim.proofs.assigning.ask_level.Goals as goal
-use Rattle.net_sim.proofs.assigning.ask_level.Goals.{then-level_of-level+in_ok-ask, else-level_of-level}
 
 abbrev values : Vec Assignment Global → List AssignmentValue
 values list = map assignment_value list.items

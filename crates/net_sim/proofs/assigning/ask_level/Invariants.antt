@@ -1,7 +1,6 @@
 -- The owned nodes of the level before the index are asked.
 use Rattle.std.proofs.Common.{map}
-use Rattle.net_sim.specs.Assignments.{assignment_value}
-use Rattle.net_sim.specs.AssignmentSteps.{HasAskedUpTo}
+use Rattle.net_sim.{specs.Assignments.{assignment_value}, specs.AssignmentSteps.{HasAskedUpTo}}
 use Rattle.net_sim.proofs.assigning.ask_level.Given as goal
 
 abbrev pub invariant-loop-index : goal.invariant-loop-index

@@ -1,11 +1,7 @@
 use Rattle.std.proofs.Common.{◌≡◌, List, map, sym, ap, subst}
-use Rattle.plan_values.specs.declared.plan.Plan.{Plan}
-use Rattle.plan_values.specs.declared.certificate.Certificate.{Certificate}
+use Rattle.plan_values.{specs.declared.plan.Plan.{Plan}, specs.declared.certificate.Certificate.{Certificate}}
 use Rattle.net_rules.specs.Rules.{Accepts}
-use Rattle.net_sim.specs.declared.assigning.assignment.Assignment.{Assignment}
-use Rattle.net_sim.specs.Assignments.{assignment_value, IsAssignmentOf}
-use Rattle.net_sim.proofs.AssignSteps.{none_yet, next_level, all_asked}
-use Rattle.net_sim.proofs.AssignRuns.{can_be_carried_out, accepted_throughout, assigns_all}
+use Rattle.net_sim.{specs.declared.assigning.assignment.Assignment.{Assignment}, specs.Assignments.{assignment_value, IsAssignmentOf}, proofs.AssignSteps.{none_yet, next_level, all_asked}, proofs.AssignRuns.{can_be_carried_out, accepted_throughout, assigns_all}}
 use Rattle.net_sim.proofs.assigning.assign.Goals as goal
 
 -- a fact on what was checked, said of the same plan and certificate by other names

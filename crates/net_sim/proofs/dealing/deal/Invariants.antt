@@ -1,7 +1,5 @@
-use Rattle.std.proofs.Common.{◌≡◌, ◌++◌, map, option_map, drop}
-use Rattle.std.specs.Vec.Iter.{into_iter_items}
-use Rattle.net_sim.specs.TerminusQueues.{queue_state}
-use Rattle.net_sim.specs.Dealing.{resting, dealt}
+use Rattle.std.{proofs.Common.{◌≡◌, ◌++◌, map, option_map, drop}, specs.Vec.Iter.{into_iter_items}}
+use Rattle.net_sim.{specs.TerminusQueues.{queue_state}, specs.Dealing.{resting, dealt}}
 use Rattle.net_sim.proofs.dealing.deal.Given as goal
 
 abbrev pub invariant-loop-node : goal.invariant-loop-node

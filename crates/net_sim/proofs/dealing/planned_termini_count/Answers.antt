@@ -1,5 +1,4 @@
-use Rattle.std.proofs.Common.{List, sym, ◌∙◌, ap}
-use Rattle.std.specs.Prelude.{count_by, is_some}
+use Rattle.std.{proofs.Common.{List, sym, ◌∙◌, ap}, specs.Prelude.{count_by, is_some}}
 use Rattle.plan_values.specs.declared.nodes.Node.{Node}
 use Rattle.net_sim.proofs.Counted.{planned_count}
 use Rattle.net_sim.proofs.dealing.planned_termini_count.Goals as goal

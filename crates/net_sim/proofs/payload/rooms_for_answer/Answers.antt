@@ -1,6 +1,4 @@
-use Rattle.std.proofs.Common.{◌+◌, All, length, sym, ◌∙◌, ap, subst}
-use Rattle.std.proofs.lemmas.List.{length_push}
-use Rattle.std.proofs.lemmas.List.Elements.{All-push}
+use Rattle.std.{proofs.Common.{◌+◌, All, length, sym, ◌∙◌, ap, subst}, proofs.lemmas.List.{length_push}, proofs.lemmas.List.Elements.{All-push}}
 use Rattle.net_sim.specs.Payloads.{IsRoomFor}
 use Rattle.net_sim.proofs.payload.rooms_for_answer.Goals as goal
 

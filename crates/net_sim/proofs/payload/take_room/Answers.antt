@@ -1,6 +1,5 @@
 use Rattle.std.proofs.Common.{◌∷◌, subst, arith}
-use Rattle.net_sim.specs.Payloads.{HaveRooms}
-use Rattle.net_sim.proofs.Rooms.{last_room, rooms_left, no_room, none_left}
+use Rattle.net_sim.{specs.Payloads.{HaveRooms}, proofs.Rooms.{last_room, rooms_left, no_room, none_left}}
 use Rattle.net_sim.proofs.payload.take_room.Goals as goal
 
 pub returns-in-Some-clause-first : goal.returns-in-Some-clause-first

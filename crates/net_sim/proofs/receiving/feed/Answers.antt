@@ -1,10 +1,6 @@
 use Rattle.std.proofs.Common.{◌≡◌, sym, subst, arith}
-use Rattle.mctp_transport.specs.PacketValues.{PacketValue}
-use Rattle.mctp_transport.specs.Histories.{Comes, Arrived, after}
-use Rattle.mctp_transport.specs.Hearing.{IsDropped}
-use Rattle.mctp_transport.specs.Assembly.{assembler_slots, assembler_limit}
-use Rattle.net_sim.specs.KeptPackets.{kept_frame}
-use Rattle.net_sim.proofs.Entering.{comes_ends}
+use Rattle.mctp_transport.{specs.PacketValues.{PacketValue}, specs.Histories.{Comes, Arrived, after}, specs.Hearing.{IsDropped}, specs.Assembly.{assembler_slots, assembler_limit}}
+use Rattle.net_sim.{specs.KeptPackets.{kept_frame}, proofs.Entering.{comes_ends}}
 use Rattle.net_sim.proofs.receiving.feed.Goals as goal
 
 pub returns-in-Whole-clause-hears : goal.returns-in-Whole-clause-hears

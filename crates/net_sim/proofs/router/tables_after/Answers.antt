@@ -1,8 +1,6 @@
-use Rattle.std.proofs.Common.{length}
-use Rattle.std.proofs.lemmas.Result.{IfOk-weaker}
+use Rattle.std.{proofs.Common.{length}, proofs.lemmas.Result.{IfOk-weaker}}
 use Rattle.net_tables.specs.Tables.{AreTabled}
-use Rattle.net_sim.specs.Routers.{AreTabledAfter}
-use Rattle.net_sim.proofs.Tabled.{are_rows_after, tabled_after}
+use Rattle.net_sim.{specs.Routers.{AreTabledAfter}, proofs.Tabled.{are_rows_after, tabled_after}}
 use Rattle.net_sim.proofs.router.tables_after.Goals as goal
 
 pub routing_tables-requires : goal.routing_tables-requires

@@ -1,6 +1,5 @@
 use Rattle.std.proofs.Common.{refl}
-use Rattle.net_sim.specs.TerminusQueues.{waiting_value}
-use Rattle.net_sim.proofs.Settled.{tells_waits}
+use Rattle.net_sim.{specs.TerminusQueues.{waiting_value}, proofs.Settled.{tells_waits}}
 use Rattle.net_sim.proofs.terminus_queue.none_waits_at.Goals as goal
 
 pub returns-in-Some : goal.returns-in-Some

@@ -1,13 +1,8 @@
 //! A walker's request is put in.
 ghost use Rattle.std.specs.Prelude.{◌≡◌, ◌↔◌, ◌<◌, ℕ, length, IsTrue, OnErr, MatchOption};
 ghost use Rattle.net_tables.specs.Routing.{Holds};
-ghost use Rattle.net_runs.specs.States.{NetworkState};
-ghost use Rattle.net_runs.specs.Walkers.{IsOver, AreSettled};
-ghost use Rattle.net_sim.specs.Standing.{HasNetworkState};
-ghost use Rattle.net_sim.specs.Traffics.{traffic_value, traffic_checked, HasNumberAndRoom};
-ghost use Rattle.net_sim.specs.NetworkWalkers.{walker_value};
-ghost use Rattle.net_sim.specs.Requests.{MayAsk, MayNotAsk, PutsRequest};
-ghost use Rattle.net_sim.specs.Outcomes.{walk_refusal_value};
+ghost use Rattle.net_runs.{specs.States.{NetworkState}, specs.Walkers.{IsOver, AreSettled}};
+ghost use Rattle.net_sim.{specs.Standing.{HasNetworkState}, specs.Traffics.{traffic_value, traffic_checked, HasNumberAndRoom}, specs.NetworkWalkers.{walker_value}, specs.Requests.{MayAsk, MayNotAsk, PutsRequest}, specs.Outcomes.{walk_refusal_value}};
 
 use crate::network::Network;
 use crate::network_walker::NetworkWalker;
@@ -20,8 +15,7 @@ use std::alloc::AllocError;
 
 impl<'a, T: Terminus> Network<'a, T> {
     ghost use Rattle.net_runs.specs.Walkers.{Ask};
-    ghost use Rattle.net_sim.specs.Networks.{checked_of, EndsInOutcome};
-    ghost use Rattle.net_sim.specs.LackingRooms.{NetworkLacksRoom};
+    ghost use Rattle.net_sim.{specs.Networks.{checked_of, EndsInOutcome}, specs.LackingRooms.{NetworkLacksRoom}};
 
     /// Puts the request of the walker of this number in at its node: the next one, or once more the outstanding one.
     pub(super) fn ask(&mut self, number: usize) -> Result<Outcome, AllocError>

@@ -15,11 +15,7 @@ const LEAST_COUNT: u16 = 8;
 
 impl<'a, T: Terminus> Network<'a, T> {
     ghost use Rattle.net_runs.specs.Walkers.{WalkedState, BeginWalk};
-    ghost use Rattle.net_sim.specs.Requests.{WhyNot};
-    ghost use Rattle.net_sim.specs.Outcomes.{walk_refusal_value};
-    ghost use Rattle.net_sim.specs.NetworkWalkers.{walker_value, IsAt, StandsAt};
-    ghost use Rattle.net_sim.specs.WalkedStanding.{StandsForWalked};
-    ghost use Rattle.net_sim.specs.Networks.{network_value, checked_of, EndsInOutcome};
+    ghost use Rattle.net_sim.{specs.Requests.{WhyNot}, specs.Outcomes.{walk_refusal_value}, specs.NetworkWalkers.{walker_value, IsAt, StandsAt}, specs.WalkedStanding.{StandsForWalked}, specs.Networks.{network_value, checked_of, EndsInOutcome}};
 
     /// Begins a walk at a node, which asks the terminus at the endpoint ID under the tag for parts of at most `count`
     /// bytes.

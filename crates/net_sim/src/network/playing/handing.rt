@@ -1,8 +1,6 @@
 //! A flight moves, and a message that comes is handed to the walker that it is for.
 ghost use Rattle.std.specs.Prelude.{◌≡◌, ◌<◌, All, length, option_map, IfSome, OnErr, MatchOption};
-ghost use Rattle.net_sim.specs.Effects.{effect_value};
-ghost use Rattle.net_sim.specs.Outcomes.{handed_value};
-ghost use Rattle.net_sim.specs.NetworkWalkers.{walker_value, IsReady, HandsOver};
+ghost use Rattle.net_sim.{specs.Effects.{effect_value}, specs.Outcomes.{handed_value}, specs.NetworkWalkers.{walker_value, IsReady, HandsOver}};
 
 use super::happened;
 use crate::effect::Effect;
@@ -18,12 +16,8 @@ use std::alloc::AllocError;
 
 impl<'a, T: Terminus> Network<'a, T> {
     ghost use Rattle.mctp_transport.specs.Packets.{key_value};
-    ghost use Rattle.net_runs.specs.Events.{Move};
-    ghost use Rattle.net_runs.specs.Walkers.{Happening};
-    ghost use Rattle.net_sim.specs.Moves.{FindsListener};
-    ghost use Rattle.net_sim.specs.NetworkWalkers.{Listens, ListensAt};
-    ghost use Rattle.net_sim.specs.Networks.{checked_of, EndsInOutcome};
-    ghost use Rattle.net_sim.specs.LackingRooms.{NetworkLacksRoom};
+    ghost use Rattle.net_runs.{specs.Events.{Move}, specs.Walkers.{Happening}};
+    ghost use Rattle.net_sim.{specs.Moves.{FindsListener}, specs.NetworkWalkers.{Listens, ListensAt}, specs.Networks.{checked_of, EndsInOutcome}, specs.LackingRooms.{NetworkLacksRoom}};
 
     /// Moves a flight, or a copy of it. A message that comes with it is handed to the walker that it is for, whose room
     /// is made before.

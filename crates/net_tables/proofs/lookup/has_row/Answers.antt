@@ -1,7 +1,6 @@
 use Rattle.std.proofs.Common.{refl, arith}
 use Rattle.plan_values.specs.declared.nodes.Row.{Row}
-use Rattle.net_tables.specs.Routing.{Covers}
-use Rattle.net_tables.proofs.RowSearches.{of_one_more, of_all_items, row_for, no_row_for}
+use Rattle.net_tables.{specs.Routing.{Covers}, proofs.RowSearches.{of_one_more, of_all_items, row_for, no_row_for}}
 use Rattle.net_tables.proofs.lookup.has_row.Goals as goal
 
 pub returns-then-covers : goal.returns-then-covers

@@ -1,7 +1,7 @@
 use Rattle.std.proofs.Common.{List, subst, sym, ◌∙◌}
+use Rattle.net_tables.proofs.TableLaws.{lawful_rows, no_fault}
 use Rattle.mctp_routing.specs.declared.row.TableRow as bridge
 use Rattle.mctp_routing.specs.Rows as rule
-use Rattle.net_tables.proofs.TableLaws.{lawful_rows, no_fault}
 use Rattle.net_tables.proofs.node_tables.routing_table.Goals as goal
 
 pub returns-in-Ok-clause-routes : goal.returns-in-Ok-clause-routes

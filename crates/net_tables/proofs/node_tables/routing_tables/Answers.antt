@@ -1,9 +1,8 @@
 use Rattle.std.proofs.Common.{◌+◌, List, ◌++◌, ◌∷◌, [], map, sym, subst}
-use Rattle.mctp_routing.specs.declared.row.TableRow as bridge
 use Rattle.mctp_routing.specs.Rows.{HasSameRoutes}
 use Rattle.plan_values.specs.declared.nodes.Row.{Row}
-use Rattle.net_tables.specs.Tables.{AreRows, AreTabled, table_row}
-use Rattle.net_tables.proofs.TableLaws.{none_tabled, more_tabled}
+use Rattle.net_tables.{specs.Tables.{AreRows, AreTabled, table_row}, proofs.TableLaws.{none_tabled, more_tabled}}
+use Rattle.mctp_routing.specs.declared.row.TableRow as bridge
 use Rattle.net_tables.proofs.node_tables.routing_tables.Goals as goal
 
 pub loop-node-init : goal.loop-node-init

@@ -1,9 +1,5 @@
-use Rattle.std.proofs.Common.{◌+◌, refl, [], ◌-◌, ap, drop, length, arith, sym, ◌∙◌, get_or, take}
-use Rattle.std.proofs.lemmas.List.{length-take, length-drop}
-use Rattle.pdr_record.specs.declared.field.Field.TheVariants.{U8}
-use Rattle.pdr_record.specs.Fields.{bytes_of, followed}
-use Rattle.pdr_record.specs.Written.{field_of, fields_of}
-use Rattle.pdr_record.proofs.Writing.{room, one_more, one_written, length-parts}
+use Rattle.std.{proofs.Common.{◌+◌, refl, [], ◌-◌, ap, drop, length, arith, sym, ◌∙◌, get_or, take}, proofs.lemmas.List.{length-take, length-drop}}
+use Rattle.pdr_record.{specs.declared.field.Field.TheVariants.{U8}, specs.Fields.{bytes_of, followed}, specs.Written.{field_of, fields_of}, proofs.Writing.{room, one_more, one_written, length-parts}}
 use Rattle.pdr_record.proofs.field.put_fields.Goals as goal
 
 pub put_field-at-requires : goal.put_field-at-requires

@@ -1,6 +1,5 @@
 use Rattle.std.specs.Prelude.{◌≡◌, length, take, drop}
-use Rattle.pdr_record.specs.Fields.{bytes_of, followed}
-use Rattle.pdr_record.specs.Written.{fields_of}
+use Rattle.pdr_record.{specs.Fields.{bytes_of, followed}, specs.Written.{fields_of}}
 use Rattle.pdr_record.proofs.field.put_fields.Given as goal
 
 -- the fields so far are written, and the rest is as it was

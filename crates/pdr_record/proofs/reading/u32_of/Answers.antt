@@ -1,5 +1,4 @@
-use Rattle.std.proofs.Common.{arith}
-use Rattle.std.proofs.lemmas.Nat.{le_bytes_4}
+use Rattle.std.{proofs.Common.{arith}, proofs.lemmas.Nat.{le_bytes_4}}
 use Rattle.pdr_record.proofs.reading.u32_of.Goals as goal
 
 pub returns : goal.returns

@@ -1,5 +1,4 @@
-use Rattle.std.proofs.Common.{length, drop, ◌-◌, refl, arith}
-use Rattle.std.proofs.lemmas.List.{length-drop, length-take-le}
+use Rattle.std.{proofs.Common.{length, drop, ◌-◌, refl, arith}, proofs.lemmas.List.{length-drop, length-take-le}}
 use Rattle.pdr_record.proofs.OtherRecords.{told}
 use Rattle.pdr_record.proofs.record.other_handle.Goals as goal
 

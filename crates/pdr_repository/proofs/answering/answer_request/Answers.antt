@@ -1,6 +1,5 @@
 use Rattle.std.proofs.Common.{[], ◌∷◌, ◌++◌, ap, ◌∙◌}
-use Rattle.pldm_message.specs.Headers.{header_bytes}
-use Rattle.pldm_message.specs.HeaderValues.{header_value}
+use Rattle.pldm_message.{specs.Headers.{header_bytes}, specs.HeaderValues.{header_value}}
 use Rattle.pdr_repository.proofs.CommandLaws.{answered, answered_code}
 use Rattle.pdr_repository.proofs.answering.answer_request.Goals as goal
 

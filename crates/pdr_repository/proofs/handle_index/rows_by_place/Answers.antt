@@ -1,7 +1,5 @@
-use Rattle.std.proofs.Common.{◌∙◌, ◌++◌, ◌∷◌, [], ap, sym, arith}
-use Rattle.std.proofs.lemmas.List.{take_all}
-use Rattle.pdr_repository.specs.Indexes.{rows_of}
-use Rattle.pdr_repository.proofs.Indexing.{rows_more}
+use Rattle.std.{proofs.Common.{◌∙◌, ◌++◌, ◌∷◌, [], ap, sym, arith}, proofs.lemmas.List.{take_all}}
+use Rattle.pdr_repository.{specs.Indexes.{rows_of}, proofs.Indexing.{rows_more}}
 use Rattle.pdr_repository.proofs.handle_index.rows_by_place.Goals as goal
 
 pub loop-place-preserved : goal.loop-place-preserved

@@ -1,7 +1,4 @@
-use Rattle.std.proofs.Common.{◌≡◌, ℕ, List, Vec, Global, Some, length, get_or, true, false, sym, subst, ap, ◌∙◌, arith, inl, inr}
-use Rattle.std.specs.Prelude.{slice_get}
-use Rattle.std.proofs.lemmas.Bool.{cases_lt}
-use Rattle.std.proofs.lemmas.Option.{slice_get_read, get_or_from_slice_get}
+use Rattle.std.{proofs.Common.{◌≡◌, ℕ, List, Vec, Global, Some, length, get_or, true, false, sym, subst, ap, ◌∙◌, arith, inl, inr}, specs.Prelude.{slice_get}, proofs.lemmas.Bool.{cases_lt}, proofs.lemmas.Option.{slice_get_read, get_or_from_slice_get}}
 use Rattle.pdr_repository.specs.Records.{IsRecordOf}
 use Rattle.pdr_repository.proofs.lawful_list.are_records.Goals as goal
 

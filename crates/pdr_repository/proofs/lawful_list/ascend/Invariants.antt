@@ -1,5 +1,4 @@
-use Rattle.std.proofs.Common.{◌≡◌, ℕ, ◌+◌, ◌<◌, ◌∷◌}
-use Rattle.std.specs.Prelude.{slice_index}
+use Rattle.std.{proofs.Common.{◌≡◌, ℕ, ◌+◌, ◌<◌, ◌∷◌}, specs.Prelude.{slice_index}}
 use Rattle.pdr_repository.proofs.lawful_list.ascend.Given as goal
 
 abbrev pub invariant-loop-number : goal.invariant-loop-number

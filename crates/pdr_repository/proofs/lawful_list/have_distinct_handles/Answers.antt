@@ -1,9 +1,6 @@
-use Rattle.std.proofs.Common.{ℕ, List, ◌∷◌, ◌≡◌, length, sym, ap, subst, ◌∙◌}
-use Rattle.std.specs.List.Sorted.{IsStrictlyIncreasing, IsPermutation, IsNonDecreasing}
-use Rattle.std.proofs.lemmas.List.Sorted.{IsNonDecreasingBy-from_sort}
+use Rattle.std.{proofs.Common.{ℕ, List, ◌∷◌, ◌≡◌, length, sym, ap, subst, ◌∙◌}, specs.List.Sorted.{IsStrictlyIncreasing, IsPermutation, IsNonDecreasing}, proofs.lemmas.List.Sorted.{IsNonDecreasingBy-from_sort}}
 use Rattle.arrayvec.proofs.ArrayVecLemmas.{items-with_items}
-use Rattle.pdr_repository.proofs.LawfulLists.{handles_of}
-use Rattle.pdr_repository.proofs.Ascending.{sorted_apart, apart_sorted}
+use Rattle.pdr_repository.{proofs.LawfulLists.{handles_of}, proofs.Ascending.{sorted_apart, apart_sorted}}
 use Rattle.pdr_repository.proofs.lawful_list.have_distinct_handles.Goals as goal
 
 pub returns : goal.returns

@@ -1,8 +1,5 @@
-use Rattle.std.proofs.Common.{arith, length, ◌≤◌, ◌<◌}
-use Rattle.std.proofs.lemmas.Bool.Decides.{nat_tests}
-use Rattle.std.proofs.lemmas.List.{length-map}
-use Rattle.pdr_repository.specs.Records.{entries, entry_of}
-use Rattle.pdr_repository.proofs.LawfulLists.{lawful_list, from_lawful_list}
+use Rattle.std.{proofs.Common.{arith, length, ◌≤◌, ◌<◌}, proofs.lemmas.Bool.Decides.{nat_tests}, proofs.lemmas.List.{length-map}}
+use Rattle.pdr_repository.{specs.Records.{entries, entry_of}, proofs.LawfulLists.{lawful_list, from_lawful_list}}
 use Rattle.pdr_repository.proofs.lawful_list.is_lawful_list.Goals as goal
 
 pub returns : goal.returns

@@ -1,7 +1,5 @@
-use Rattle.std.proofs.Common.{◌≡◌, ◌↔◌, ℕ, List, nat_eq, true, refl, sym, ap, ◌∙◌, arith}
-use Rattle.std.proofs.lemmas.Bool.Decides.{nat_tests}
-use Rattle.pdr_record.specs.Records.{RecordValue, IsOtherRecordOf}
-use Rattle.pdr_record.specs.RecordLaws.{one_record}
+use Rattle.std.{proofs.Common.{◌≡◌, ◌↔◌, ℕ, List, nat_eq, true, refl, sym, ap, ◌∙◌, arith}, proofs.lemmas.Bool.Decides.{nat_tests}}
+use Rattle.pdr_record.{specs.Records.{RecordValue, IsOtherRecordOf}, specs.RecordLaws.{one_record}}
 use Rattle.pdr_repository.specs.Records.{IsRecordOf}
 use Rattle.pdr_repository.proofs.lawful_list.is_record.Goals as goal
 

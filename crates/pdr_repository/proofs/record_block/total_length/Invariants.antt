@@ -1,5 +1,4 @@
-use Rattle.std.proofs.Common.{◌≡◌, ◌*◌, ◌≤◌, ◌^◌, take, length}
-use Rattle.std.specs.Prelude.{sum_by}
+use Rattle.std.{proofs.Common.{◌≡◌, ◌*◌, ◌≤◌, ◌^◌, take, length}, specs.Prelude.{sum_by}}
 use Rattle.pdr_repository.proofs.record_block.total_length.Given as goal
 
 abbrev pub invariant-loop-record : goal.invariant-loop-record

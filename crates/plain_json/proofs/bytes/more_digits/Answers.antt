@@ -1,5 +1,4 @@
-use Rattle.std.proofs.Common.{◌≡◌, ◌+◌, ◌*◌, true, sym, ap, ◌∙◌}
-use Rattle.std.specs.Char.{is_ascii_digit}
+use Rattle.std.{proofs.Common.{◌≡◌, ◌+◌, ◌*◌, true, sym, ap, ◌∙◌}, specs.Char.{is_ascii_digit}}
 use Rattle.plain_json.proofs.Plain.{goes_on_digit}
 use Rattle.plain_json.proofs.bytes.more_digits.Goals as goal
 

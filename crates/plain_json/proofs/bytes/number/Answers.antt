@@ -1,7 +1,5 @@
-use Rattle.std.proofs.Common.{◌≡◌, true, sym, ◌∙◌, subst, rules}
-use Rattle.std.specs.Char.{is_ascii_digit}
-use Rattle.plain_json.specs.Plain.{DigitsFollow}
-use Rattle.plain_json.proofs.Plain.{number_at}
+use Rattle.std.{proofs.Common.{◌≡◌, true, sym, ◌∙◌, subst, rules}, specs.Char.{is_ascii_digit}}
+use Rattle.plain_json.{specs.Plain.{DigitsFollow}, proofs.Plain.{number_at}}
 use Rattle.plain_json.proofs.bytes.number.Goals as goal
 
 pub returns : goal.returns

@@ -1,6 +1,5 @@
 use Rattle.std.proofs.Common.{◌≡◌, ◌∷◌, sym, ap, ◌∙◌}
-use Rattle.json.specs.Token.{number}
-use Rattle.json.specs.Lex.{token, lex, between}
+use Rattle.json.{specs.Token.{number}, specs.Lex.{token, lex, between}}
 use Rattle.plain_json.proofs.Plain.{digits_before, digits_utf8}
 use Rattle.plain_json.proofs.bytes.numeral.Goals as goal
 

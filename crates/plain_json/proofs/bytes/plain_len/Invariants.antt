@@ -1,6 +1,5 @@
 -- What was gone over stands for itself.
-use Rattle.std.proofs.Common.{◌≡◌, ◌-◌, ◌≤◌, length, take, true}
-use Rattle.std.specs.List.{list_all}
+use Rattle.std.{proofs.Common.{◌≡◌, ◌-◌, ◌≤◌, length, take, true}, specs.List.{list_all}}
 use Rattle.plain_json.specs.Plain.{is_plain}
 use Rattle.plain_json.proofs.bytes.plain_len.Given as goal
 

@@ -1,9 +1,6 @@
-use Rattle.std.proofs.Common.{◌≡◌, ◌∷◌, take, drop, true, sym, ap, ◌∙◌}
-use Rattle.std.specs.List.{list_all}
-use Rattle.json.specs.Token.{string}
-use Rattle.json.specs.Lex.{token, lex, between}
-use Rattle.plain_json.specs.Plain.{is_plain}
-use Rattle.plain_json.proofs.Plain.{plain_utf8, string_at}
+use Rattle.std.{proofs.Common.{◌≡◌, ◌∷◌, take, drop, true, sym, ap, ◌∙◌}, specs.List.{list_all}}
+use Rattle.json.{specs.Token.{string}, specs.Lex.{token, lex, between}}
+use Rattle.plain_json.{specs.Plain.{is_plain}, proofs.Plain.{plain_utf8, string_at}}
 use Rattle.plain_json.proofs.bytes.string.Goals as goal
 
 pub from_utf8_unchecked-requires : goal.from_utf8_unchecked-requires

@@ -1,9 +1,5 @@
 use Rattle.std.proofs.Common.{◌≡◌, ◌-◌, [], ◌∷◌, ◌++◌, length, Some, None, Global, sym, ap, ◌∙◌, arith, rules}
-use Rattle.json.specs.Json.{Json, array, object, parse_map, read_key, items, members, value}
-use Rattle.json.specs.Value.{value_view}
-use Rattle.json.specs.declared.value.Value.{String, Number, Null, the_lemmas}
-use Rattle.json.proofs.Grammar.{value_is, value-begin_array, value-begin_object, read_key-shorter, items_end, items_more, members_end, members_more}
-use Rattle.json.proofs.Trees.{items_before, members_before, items_before-no_items, members_before-no_members, one_more_item, one_more_member, view-Array, view-Object}
+use Rattle.json.{specs.Json.{Json, array, object, parse_map, read_key, items, members, value}, specs.Value.{value_view}, specs.declared.value.Value.{String, Number, Null, the_lemmas}, proofs.Grammar.{value_is, value-begin_array, value-begin_object, read_key-shorter, items_end, items_more, members_end, members_more}, proofs.Trees.{items_before, members_before, items_before-no_items, members_before-no_members, one_more_item, one_more_member, view-Array, view-Object}}
 use Rattle.plain_json.proofs.Tokens.{value_shorter, no_end_array}
 use Rattle.plain_json.proofs.value.+read.Goals as goal
 

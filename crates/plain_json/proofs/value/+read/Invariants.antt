@@ -1,7 +1,6 @@
 -- The items or members that were passed stand before those that are left.
 use Rattle.std.proofs.Common.{◌≡◌, ℕ, ◌+◌, ◌*◌, ◌≤◌, length}
-use Rattle.json.specs.Json.{items, members, value, parse_map}
-use Rattle.json.proofs.Trees.{items_before, members_before}
+use Rattle.json.{specs.Json.{items, members, value, parse_map}, proofs.Trees.{items_before, members_before}}
 use Rattle.plain_json.proofs.value.+read.Given as goal
 
 abbrev pub decreases-read_value : goal.decreases-read_value

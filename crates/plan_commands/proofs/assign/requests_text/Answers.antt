@@ -1,11 +1,8 @@
 use Rattle.std.proofs.Common.{◌≡◌, ℕ, List, map, string_bytes, Result, Ok, Err, IfOk, ap, ◌∙◌}
-use Rattle.plan_values.specs.declared.plan.Plan.{Plan}
-use Rattle.plan_values.specs.declared.certificate.Certificate.{Certificate}
-use Rattle.net_sim.specs.Assignments.{AssignmentValue, IsAssignmentOf, assignment_value}
-use Rattle.net_sim.specs.AssignmentRuns.{CanBeCarriedOut, IsAcceptedThroughout, AssignsAll}
-use Rattle.plan_commands.specs.Assigning.{IsAssignmentText}
+use Rattle.plan_values.{specs.declared.plan.Plan.{Plan}, specs.declared.certificate.Certificate.{Certificate}}
+use Rattle.net_sim.{specs.Assignments.{AssignmentValue, IsAssignmentOf, assignment_value}, specs.AssignmentRuns.{CanBeCarriedOut, IsAcceptedThroughout, AssignsAll}}
+use Rattle.plan_commands.{specs.Assigning.{IsAssignmentText}, proofs.Named.{assignment_named}}
 use Rattle.run_texts.specs.AssignmentLines.{assignment_lines}
-use Rattle.plan_commands.proofs.Named.{assignment_named}
 use Rattle.plan_commands.proofs.assign.requests_text.Goals as goal
 
 -- the lines of an assignment of the plan are its text

@@ -1,10 +1,7 @@
-use Rattle.std.proofs.Common.{rules, ◌≡◌, Err, sym, ap, subst}
-use Rattle.std.specs.Cow.{cow_str_bytes}
-use Rattle.plan_values.specs.declared.certificate.Certificate.{Certificate}
-use Rattle.plan_values.specs.declared.plan.Plan.{Plan}
+use Rattle.std.{proofs.Common.{rules, ◌≡◌, Err, sym, ap, subst}, specs.Cow.{cow_str_bytes}}
+use Rattle.plan_values.{specs.declared.certificate.Certificate.{Certificate}, specs.declared.plan.Plan.{Plan}}
 use Rattle.command_answers.specs.declared.status.Status.{Status}
-use Rattle.plan_commands.specs.Certified.{IsAnswer, IsNamedIn, AnswersOn}
-use Rattle.plan_commands.proofs.Questions.{unfound_so, fault_so, fault_untold}
+use Rattle.plan_commands.{specs.Certified.{IsAnswer, IsNamedIn, AnswersOn}, proofs.Questions.{unfound_so, fault_so, fault_untold}}
 use Rattle.plan_commands.proofs.certified.answer_of_both.Goals as goal
 
 pub text_of_checked-requires : goal.text_of_checked-requires

@@ -1,7 +1,5 @@
-use Rattle.std.proofs.Common.{refl, inl, inr}
-use Rattle.std.proofs.lemmas.Result.{IfOk-weaker, IfErr-weaker}
-use Rattle.command_answers.proofs.Told.{concludes, concludes_unread}
-use Rattle.command_answers.proofs.GivenTexts.{are_given}
+use Rattle.std.{proofs.Common.{refl, inl, inr}, proofs.lemmas.Result.{IfOk-weaker, IfErr-weaker}}
+use Rattle.command_answers.{proofs.Told.{concludes, concludes_unread}, proofs.GivenTexts.{are_given}}
 use Rattle.plan_commands.proofs.certified.run_certified.Goals as goal
 
 pub returns-in-Ok-clause-concludes : goal.returns-in-Ok-clause-concludes

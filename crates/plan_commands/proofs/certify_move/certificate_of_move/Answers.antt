@@ -1,8 +1,6 @@
-use Rattle.std.proofs.Common.{string_bytes, subst, sym}
-use Rattle.std.specs.Cow.{cow_str_bytes}
+use Rattle.std.{proofs.Common.{string_bytes, subst, sym}, specs.Cow.{cow_str_bytes}}
 use Rattle.command_answers.specs.declared.status.Status.{Status}
-use Rattle.fault_texts.specs.RuledOutMoves.{IsMoveRuledOutBy}
-use Rattle.fault_texts.proofs.RuledOutMoves.{not_memory_of_move}
+use Rattle.fault_texts.{specs.RuledOutMoves.{IsMoveRuledOutBy}, proofs.RuledOutMoves.{not_memory_of_move}}
 use Rattle.plan_commands.specs.MoveCertifying.{IsMoveCertifiedBy, CertifiesMove}
 use Rattle.plan_commands.proofs.certify_move.certificate_of_move.Goals as goal
 

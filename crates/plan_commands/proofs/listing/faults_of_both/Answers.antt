@@ -1,11 +1,9 @@
-use Rattle.std.proofs.Common.{rules, Some}
-use Rattle.std.specs.Cow.{cow_str_bytes}
+use Rattle.std.{proofs.Common.{rules, Some}, specs.Cow.{cow_str_bytes}}
 use Rattle.net_rules.specs.FaultLists.{AreFaults}
-use Rattle.net_check.specs.declared.check_error.CheckError.TheVariants as check_error
 use Rattle.net_check.specs.Errors.{NamesFirstFault}
-use Rattle.plan_commands.specs.FaultListing.{IsFaultListOf}
+use Rattle.plan_commands.{specs.FaultListing.{IsFaultListOf}, proofs.FaultListed.{some_runs}}
 use Rattle.fault_texts.specs.FaultListLines.{IsFaultsText}
-use Rattle.plan_commands.proofs.FaultListed.{some_runs}
+use Rattle.net_check.specs.declared.check_error.CheckError.TheVariants as check_error
 use Rattle.plan_commands.proofs.listing.faults_of_both.Goals as goal
 
 pub returns-in_ok-lines-in-Fault-clause-answers : goal.returns-in_ok-lines-in-Fault-clause-answers

@@ -1,9 +1,7 @@
-use Rattle.std.proofs.Common.{rules, inr, sym, subst}
-use Rattle.std.specs.Cow.{cow_str_bytes}
+use Rattle.std.{proofs.Common.{rules, inr, sym, subst}, specs.Cow.{cow_str_bytes}}
 use Rattle.command_answers.specs.declared.status.Status.{Status}
-use Rattle.plan_commands.specs.FaultListing.{IsListed, IsObstacleListed}
+use Rattle.plan_commands.{specs.FaultListing.{IsListed, IsObstacleListed}, proofs.FaultListed.{obstacle_listed}}
 use Rattle.fault_texts.specs.FaultListLines.{IsObstacleList}
-use Rattle.plan_commands.proofs.FaultListed.{obstacle_listed}
 use Rattle.plan_commands.proofs.listing.obstacle_of_plan.Goals as goal
 
 pub returns-in-Ok : goal.returns-in-Ok

@@ -1,14 +1,9 @@
-use Rattle.std.proofs.Common.{◌≡◌, Result, Ok, Err, IfOk, subst, sym}
-use Rattle.std.specs.Cow.{cow_str_bytes}
-use Rattle.net_rules.specs.declared.move_error.MoveError.{MoveError}
-use Rattle.net_rules.specs.MoveFaults.{NamesFirstMoveFault}
-use Rattle.plan_values.specs.declared.certificate.Certificate.{Certificate}
-use Rattle.plan_values.specs.declared.plan.Plan.{Plan}
-use Rattle.command_answers.specs.declared.answer.Answer.{Answer}
-use Rattle.command_answers.specs.declared.status.Status.{Status}
-use Rattle.command_answers.specs.declared.status.Status.TheVariants as status
+use Rattle.std.{proofs.Common.{◌≡◌, Result, Ok, Err, IfOk, subst, sym}, specs.Cow.{cow_str_bytes}}
+use Rattle.net_rules.{specs.declared.move_error.MoveError.{MoveError}, specs.MoveFaults.{NamesFirstMoveFault}}
+use Rattle.plan_values.{specs.declared.certificate.Certificate.{Certificate}, specs.declared.plan.Plan.{Plan}}
+use Rattle.command_answers.{specs.declared.answer.Answer.{Answer}, specs.declared.status.Status.{Status}, specs.Moves.{IsMoveErrorText}}
 use Rattle.plan_commands.specs.Moving.{AnswersMoveOn}
-use Rattle.command_answers.specs.Moves.{IsMoveErrorText}
+use Rattle.command_answers.specs.declared.status.Status.TheVariants as status
 use Rattle.plan_commands.proofs.moving.answer_of_move.Goals as goal
 
 fault_so : {E : Type 0} (before after : Plan) (cert : Certificate) (error : MoveError) (result : Result Answer E) → NamesFirstMoveFault before after cert error

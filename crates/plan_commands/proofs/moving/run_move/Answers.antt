@@ -1,5 +1,4 @@
-use Rattle.std.proofs.Common.{refl}
-use Rattle.std.proofs.lemmas.Result.{IfOk-weaker}
+use Rattle.std.{proofs.Common.{refl}, proofs.lemmas.Result.{IfOk-weaker}}
 use Rattle.command_answers.proofs.Told.{concludes_made, concludes_unread}
 use Rattle.plan_commands.proofs.moving.run_move.Goals as goal
 

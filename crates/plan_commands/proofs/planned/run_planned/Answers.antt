@@ -1,11 +1,10 @@
-use Rattle.std.proofs.Common.{List, ℕ, refl}
-use Rattle.std.proofs.lemmas.Result.{IfOk-weaker}
+use Rattle.std.{proofs.Common.{List, ℕ, refl}, proofs.lemmas.Result.{IfOk-weaker}}
 use Rattle.plan_values.specs.declared.plan.Plan.{Plan}
 use Rattle.command_questions.specs.declared.planned.PlanQuestion.{PlanQuestion}
-use Rattle.command_questions.specs.declared.planned.PlanQuestion.TheVariants as question
-use Rattle.command_answers.specs.declared.status.Status.TheVariants as status
 use Rattle.plan_commands.specs.Planned.{IsSaidOf}
 use Rattle.command_answers.proofs.Told.{concludes_made, concludes_unread}
+use Rattle.command_questions.specs.declared.planned.PlanQuestion.TheVariants as question
+use Rattle.command_answers.specs.declared.status.Status.TheVariants as status
 use Rattle.plan_commands.proofs.planned.run_planned.Goals as goal
 
 -- no answer on a plan is that of an input that can't be read

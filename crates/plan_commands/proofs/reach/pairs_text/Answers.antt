@@ -1,10 +1,6 @@
 use Rattle.std.proofs.Common.{◌≡◌, ℕ, List, string_bytes, Result, Ok, Err, IfOk, ap, ◌∙◌}
-use Rattle.plan_values.specs.declared.plan.Plan.{Plan}
-use Rattle.plan_values.specs.declared.certificate.Certificate.{Certificate}
-use Rattle.net_questions.specs.declared.pair.Pair.{Pair}
-use Rattle.net_questions.specs.Reaching.{ArePairs}
-use Rattle.net_questions.proofs.Packets.{keeps_to_ways}
-use Rattle.net_questions.proofs.WayLaws.{ways_reach}
+use Rattle.plan_values.{specs.declared.plan.Plan.{Plan}, specs.declared.certificate.Certificate.{Certificate}}
+use Rattle.net_questions.{specs.declared.pair.Pair.{Pair}, specs.Reaching.{ArePairs}, proofs.Packets.{keeps_to_ways}, proofs.WayLaws.{ways_reach}}
 use Rattle.net_rules.specs.Rules.{Accepts}
 use Rattle.plan_commands.specs.Reaching.{IsReachText}
 use Rattle.question_texts.specs.PairLines.{reach_text}

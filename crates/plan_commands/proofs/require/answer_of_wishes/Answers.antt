@@ -1,7 +1,4 @@
-use Rattle.std.proofs.Common.{◌≡◌, [], arith, length, sym, subst}
-use Rattle.std.proofs.lemmas.Bool.Decides.{nat_tests}
-use Rattle.std.proofs.lemmas.List.{nil_from_length}
-use Rattle.std.specs.Cow.{cow_str_bytes}
+use Rattle.std.{proofs.Common.{◌≡◌, [], arith, length, sym, subst}, proofs.lemmas.Bool.Decides.{nat_tests}, proofs.lemmas.List.{nil_from_length}, specs.Cow.{cow_str_bytes}}
 use Rattle.net_reached.proofs.Missed.{all_met}
 use Rattle.command_answers.specs.declared.status.Status.{Status}
 use Rattle.plan_commands.specs.Requiring.{AnswersWishes}

@@ -1,5 +1,4 @@
-use Rattle.std.proofs.Common.{refl}
-use Rattle.std.proofs.lemmas.Result.{IfOk-weaker, IfErr-weaker}
+use Rattle.std.{proofs.Common.{refl}, proofs.lemmas.Result.{IfOk-weaker, IfErr-weaker}}
 use Rattle.command_answers.proofs.Told.{concludes_on_both, concludes_unread, memory_lacks, on_both}
 use Rattle.plan_commands.proofs.require.run_require.Goals as goal
 

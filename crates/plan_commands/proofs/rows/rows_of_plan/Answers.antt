@@ -1,7 +1,5 @@
-use Rattle.std.proofs.Common.{string_bytes, subst, sym}
-use Rattle.std.specs.Cow.{cow_str_bytes}
-use Rattle.board_made.specs.Reasons.{IsRowsReason}
-use Rattle.board_made.specs.Rowed.{IsRowsAnswer}
+use Rattle.std.{proofs.Common.{string_bytes, subst, sym}, specs.Cow.{cow_str_bytes}}
+use Rattle.board_made.{specs.Reasons.{IsRowsReason}, specs.Rowed.{IsRowsAnswer}}
 use Rattle.plan_commands.specs.Making.{IsRowed}
 use Rattle.plan_commands.proofs.rows.rows_of_plan.Goals as goal
 

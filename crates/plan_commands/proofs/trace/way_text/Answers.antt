@@ -1,11 +1,7 @@
 use Rattle.std.proofs.Common.{◌≡◌, ◌≤◌, ℕ, List, length, string_bytes, Result, Ok, Err, IfOk, ap, ◌∙◌}
 use Rattle.net_tables.specs.Ranks.{rank}
-use Rattle.plan_values.specs.declared.plan.Plan.{Plan}
-use Rattle.plan_values.specs.declared.certificate.Certificate.{Certificate}
-use Rattle.net_questions.specs.declared.step.WayStep.{WayStep}
-use Rattle.net_questions.specs.declared.way.End.{End}
-use Rattle.net_questions.specs.Ways.{IsWay}
-use Rattle.net_questions.proofs.Packets.{keeps_to_ways}
+use Rattle.plan_values.{specs.declared.plan.Plan.{Plan}, specs.declared.certificate.Certificate.{Certificate}}
+use Rattle.net_questions.{specs.declared.step.WayStep.{WayStep}, specs.declared.way.End.{End}, specs.Ways.{IsWay}, proofs.Packets.{keeps_to_ways}}
 use Rattle.net_rules.specs.Rules.{Accepts}
 use Rattle.plan_commands.specs.Tracing.{IsWayText}
 use Rattle.question_texts.specs.WayLines.{trace_text}

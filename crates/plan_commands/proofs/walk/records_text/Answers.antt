@@ -1,13 +1,9 @@
-use Rattle.std.proofs.Common.{◌≡◌, ◌⊎◌, ℕ, List, Result, Ok, Err, inl, inr, string_bytes, subst}
-use Rattle.std.specs.Prelude.{IfOk, IfErr}
-use Rattle.plan_values.specs.declared.certificate.Certificate.{Certificate}
-use Rattle.plan_values.specs.declared.plan.Plan.{Plan}
+use Rattle.std.{proofs.Common.{◌≡◌, ◌⊎◌, ℕ, List, Result, Ok, Err, inl, inr, string_bytes, subst}, specs.Prelude.{IfOk, IfErr}}
+use Rattle.plan_values.{specs.declared.certificate.Certificate.{Certificate}, specs.declared.plan.Plan.{Plan}}
 use Rattle.net_tables.specs.Repositories.{records_by_place}
-use Rattle.command_answers.specs.declared.refused.Refused.{Refused}
+use Rattle.command_answers.{specs.declared.refused.Refused.{Refused}, specs.Naming.{IsTerminusNamed}}
+use Rattle.plan_commands.{specs.Collecting.{EndsEarlyFor}, specs.Walking.{IsWalkText, HasTooManyBytes, walk_text}}
 use Rattle.command_answers.specs.declared.refused.Refused.TheVariants as refused
-use Rattle.plan_commands.specs.Collecting.{EndsEarlyFor}
-use Rattle.command_answers.specs.Naming.{IsTerminusNamed}
-use Rattle.plan_commands.specs.Walking.{IsWalkText, HasTooManyBytes, walk_text}
 use Rattle.plan_commands.proofs.walk.records_text.Goals as goal
 
 module _ (name : List ℕ) (count : ℕ) (plan plan' : Plan) (cert cert' : Certificate) (same : plan' ≡ plan) (same_cert : cert' ≡ cert)

@@ -1,9 +1,5 @@
 use Rattle.std.proofs.Common.{◌≡◌, ◌++◌, List, map, subst, sym, rules}
-use Rattle.plan_differences.specs.declared.difference.Difference.{Difference}
-use Rattle.plan_differences.specs.declared.fact.Fact.{Fact}
-use Rattle.plan_differences.specs.Facts.{fact_value}
-use Rattle.plan_differences.specs.Differences.{AreDifferences}
-use Rattle.plan_differences.proofs.Parts.{all_told}
+use Rattle.plan_differences.{specs.declared.difference.Difference.{Difference}, specs.declared.fact.Fact.{Fact}, specs.Facts.{fact_value}, specs.Differences.{AreDifferences}, proofs.Parts.{all_told}}
 use Rattle.plan_differences.proofs.difference.differences.Goals as goal
 
 pub returns : goal.returns

@@ -1,13 +1,5 @@
-use Rattle.std.proofs.Common.{◌≡◌, ◌<◌, ◌∷◌, [], List, ℕ, inl, inr, length, map, get_or, subst, sym, rules}
-use Rattle.std.specs.Prelude.{Contains, slice_get, Some}
-use Rattle.std.proofs.lemmas.List.Elements.{Contains-get_or}
-use Rattle.plan_differences.specs.declared.difference.Difference.{Difference}
-use Rattle.plan_differences.specs.declared.difference.Difference.TheVariants.{Added}
-use Rattle.plan_differences.specs.Facts.{fact_value}
-use Rattle.plan_differences.specs.Things.{thing_of}
-use Rattle.plan_differences.specs.Differences.{AreToldIn, HasOnlyIn, IsDifference, IsOfNew}
-use Rattle.plan_differences.proofs.Items.{contains_none}
-use Rattle.plan_differences.proofs.Parts.{at_only, none_added, nothing_in, one_added, only_at}
+use Rattle.std.{proofs.Common.{◌≡◌, ◌<◌, ◌∷◌, [], List, ℕ, inl, inr, length, map, get_or, subst, sym, rules}, specs.Prelude.{Contains, slice_get, Some}, proofs.lemmas.List.Elements.{Contains-get_or}}
+use Rattle.plan_differences.{specs.declared.difference.Difference.{Difference}, specs.declared.difference.Difference.TheVariants.{Added}, specs.Facts.{fact_value}, specs.Things.{thing_of}, specs.Differences.{AreToldIn, HasOnlyIn, IsDifference, IsOfNew}, proofs.Items.{contains_none}, proofs.Parts.{at_only, none_added, nothing_in, one_added, only_at}}
 use Rattle.plan_differences.proofs.difference.differences_of_new.Goals as goal
 
 pub returns-then-contains : goal.returns-then-contains

@@ -1,9 +1,5 @@
-use Rattle.std.proofs.Common.{◌≡◌, ◌++◌, ◌+◌, List, length, map, subst, sym, arith, rules}
-use Rattle.std.proofs.lemmas.List.{length-map}
-use Rattle.plan_differences.specs.declared.difference.Difference.{Difference}
-use Rattle.plan_differences.specs.Facts.{fact_value}
-use Rattle.plan_differences.specs.Differences.{AreToldIn, IsAfter, IsDifference}
-use Rattle.plan_differences.proofs.Parts.{new_more}
+use Rattle.std.{proofs.Common.{◌≡◌, ◌++◌, ◌+◌, List, length, map, subst, sym, arith, rules}, proofs.lemmas.List.{length-map}}
+use Rattle.plan_differences.{specs.declared.difference.Difference.{Difference}, specs.Facts.{fact_value}, specs.Differences.{AreToldIn, IsAfter, IsDifference}, proofs.Parts.{new_more}}
 use Rattle.plan_differences.proofs.difference.differences_of_news.Goals as goal
 
 pub loop-index-preserved : goal.loop-index-preserved

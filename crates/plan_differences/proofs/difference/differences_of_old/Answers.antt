@@ -1,10 +1,5 @@
-use Rattle.std.proofs.Common.{◌≡◌, ◌<◌, ◌∷◌, [], List, length, map, subst, sym, rules}
-use Rattle.std.specs.Prelude.{Contains, slice_get, Some}
-use Rattle.plan_differences.specs.declared.difference.Difference.{Difference}
-use Rattle.plan_differences.specs.declared.difference.Difference.TheVariants.{Removed}
-use Rattle.plan_differences.specs.Facts.{fact_value}
-use Rattle.plan_differences.specs.Differences.{AreToldIn, IsDifference, IsOfOld}
-use Rattle.plan_differences.proofs.Parts.{none_of_kept, nothing_in, one_removed, some_changed_so}
+use Rattle.std.{proofs.Common.{◌≡◌, ◌<◌, ◌∷◌, [], List, length, map, subst, sym, rules}, specs.Prelude.{Contains, slice_get, Some}}
+use Rattle.plan_differences.{specs.declared.difference.Difference.{Difference}, specs.declared.difference.Difference.TheVariants.{Removed}, specs.Facts.{fact_value}, specs.Differences.{AreToldIn, IsDifference, IsOfOld}, proofs.Parts.{none_of_kept, nothing_in, one_removed, some_changed_so}}
 use Rattle.plan_differences.proofs.difference.differences_of_old.Goals as goal
 
 pub returns-then-contains : goal.returns-then-contains

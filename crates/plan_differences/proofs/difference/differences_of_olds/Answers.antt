@@ -1,9 +1,5 @@
-use Rattle.std.proofs.Common.{◌≡◌, ◌++◌, ◌+◌, List, length, map, subst, sym, arith, rules}
-use Rattle.std.proofs.lemmas.List.{length-map}
-use Rattle.plan_differences.specs.declared.difference.Difference.{Difference}
-use Rattle.plan_differences.specs.Facts.{fact_value}
-use Rattle.plan_differences.specs.Differences.{AreToldIn, IsBefore, IsDifference}
-use Rattle.plan_differences.proofs.Parts.{old_more}
+use Rattle.std.{proofs.Common.{◌≡◌, ◌++◌, ◌+◌, List, length, map, subst, sym, arith, rules}, proofs.lemmas.List.{length-map}}
+use Rattle.plan_differences.{specs.declared.difference.Difference.{Difference}, specs.Facts.{fact_value}, specs.Differences.{AreToldIn, IsBefore, IsDifference}, proofs.Parts.{old_more}}
 use Rattle.plan_differences.proofs.difference.differences_of_olds.Goals as goal
 
 pub loop-index-preserved : goal.loop-index-preserved

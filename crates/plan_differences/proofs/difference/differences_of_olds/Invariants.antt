@@ -1,6 +1,5 @@
 use Rattle.std.proofs.Common.{map}
-use Rattle.plan_differences.specs.Facts.{fact_value}
-use Rattle.plan_differences.specs.Differences.{AreToldIn, IsBefore, IsDifference}
+use Rattle.plan_differences.{specs.Facts.{fact_value}, specs.Differences.{AreToldIn, IsBefore, IsDifference}}
 use Rattle.plan_differences.proofs.difference.differences_of_olds.Given as goal
 
 abbrev pub invariant-loop-index : goal.invariant-loop-index

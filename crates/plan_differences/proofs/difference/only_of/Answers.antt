@@ -1,11 +1,5 @@
-use Rattle.std.proofs.Common.{get_or, ◌≡◌, ◌<◌, ◌++◌, ◌∷◌, ◌+◌, [], List, ℕ, length, map, subst, sym, arith, rules}
-use Rattle.std.proofs.lemmas.List.{get_or_default, length-map}
-use Rattle.plan_differences.specs.DifferenceLines.{thing_text}
-use Rattle.plan_differences.specs.Facts.{fact_value}
-use Rattle.plan_differences.specs.Indexes.{AreOfWords, IsOnlyWith}
-use Rattle.plan_differences.specs.Things.{thing_of}
-use Rattle.plan_differences.proofs.Indexing.{AreOnlyPassed, listed_within, only_all, only_more, only_same}
-use Rattle.plan_differences.proofs.difference.only_of.Goals.{then-are_of_one+in_ok-push, else-are_of_one}
+use Rattle.std.{proofs.Common.{get_or, ◌≡◌, ◌<◌, ◌++◌, ◌∷◌, ◌+◌, [], List, ℕ, length, map, subst, sym, arith, rules}, proofs.lemmas.List.{get_or_default, length-map}}
+use Rattle.plan_differences.{specs.DifferenceLines.{thing_text}, specs.Facts.{fact_value}, specs.Indexes.{AreOfWords, IsOnlyWith}, specs.Things.{thing_of}, proofs.Indexing.{AreOnlyPassed, listed_within, only_all, only_more, only_same}, proofs.difference.only_of.Goals.{then-are_of_one+in_ok-push, else-are_of_one}}
 use Rattle.plan_differences.proofs.difference.only_of.Goals as goal
 
 pub fact_at-requires : goal.fact_at-requires

@@ -1,9 +1,5 @@
-use Rattle.std.proofs.Common.{map, take}
-use Rattle.std.specs.Prelude.{Contains}
-use Rattle.plan_differences.specs.Facts.{fact_value}
-use Rattle.plan_differences.specs.Things.{thing_of}
-use Rattle.plan_differences.specs.Differences.{IsOnlyOf}
-use Rattle.plan_differences.proofs.Indexing.{AreAscending}
+use Rattle.std.{proofs.Common.{map, take}, specs.Prelude.{Contains}}
+use Rattle.plan_differences.{specs.Facts.{fact_value}, specs.Things.{thing_of}, specs.Differences.{IsOnlyOf}, proofs.Indexing.{AreAscending}}
 use Rattle.plan_differences.proofs.difference.only_of.Given as goal
 
 abbrev pub invariant-loop-listed : goal.invariant-loop-listed

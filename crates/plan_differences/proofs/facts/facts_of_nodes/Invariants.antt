@@ -1,5 +1,4 @@
-use Rattle.std.proofs.Common.{◌≡◌, map, take}
-use Rattle.std.specs.List.{flat_map}
+use Rattle.std.{proofs.Common.{◌≡◌, map, take}, specs.List.{flat_map}}
 use Rattle.plan_differences.specs.Facts.{fact_value, facts_of_node}
 use Rattle.plan_differences.proofs.facts.facts_of_nodes.Given as goal
 

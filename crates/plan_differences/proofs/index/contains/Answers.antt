@@ -1,10 +1,5 @@
-use Rattle.std.proofs.Common.{get_or, ◌≡◌, ◌≢◌, ◌<◌, List, ℕ, length, map, subst, sym, refl, arith, rules}
-use Rattle.std.specs.Prelude.{Contains, Some}
-use Rattle.std.proofs.lemmas.List.{get_or_default, length-map}
-use Rattle.plan_differences.specs.Facts.{fact_value}
-use Rattle.plan_differences.specs.Indexes.{AreOfWords, Says}
-use Rattle.plan_differences.proofs.Indexing.{listed_within, none_is, none_is_more, none_so_far}
-use Rattle.plan_differences.proofs.Items.{contains_at}
+use Rattle.std.{proofs.Common.{get_or, ◌≡◌, ◌≢◌, ◌<◌, List, ℕ, length, map, subst, sym, refl, arith, rules}, specs.Prelude.{Contains, Some}, proofs.lemmas.List.{get_or_default, length-map}}
+use Rattle.plan_differences.{specs.Facts.{fact_value}, specs.Indexes.{AreOfWords, Says}, proofs.Indexing.{listed_within, none_is, none_is_more, none_so_far}, proofs.Items.{contains_at}}
 use Rattle.plan_differences.proofs.index.contains.Goals as goal
 
 pub loop-listed-init : goal.loop-listed-init

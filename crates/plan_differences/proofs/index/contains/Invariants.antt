@@ -1,6 +1,5 @@
 use Rattle.std.proofs.Common.{map, take}
-use Rattle.plan_differences.specs.Facts.{fact_value}
-use Rattle.plan_differences.proofs.Indexing.{NoneIs}
+use Rattle.plan_differences.{specs.Facts.{fact_value}, proofs.Indexing.{NoneIs}}
 use Rattle.plan_differences.proofs.index.contains.Given as goal
 
 abbrev pub invariant-loop-listed : goal.invariant-loop-listed

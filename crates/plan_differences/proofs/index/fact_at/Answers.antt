@@ -1,6 +1,5 @@
 use Rattle.std.proofs.Common.{arith}
-use Rattle.plan_differences.specs.Facts.{fact_value}
-use Rattle.plan_differences.proofs.Items.{value_at}
+use Rattle.plan_differences.{specs.Facts.{fact_value}, proofs.Items.{value_at}}
 use Rattle.plan_differences.proofs.index.fact_at.Goals as goal
 
 pub returns : goal.returns

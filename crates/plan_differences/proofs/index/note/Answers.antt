@@ -1,5 +1,4 @@
-use Rattle.std.proofs.Common.{arith}
-use Rattle.std.proofs.lemmas.Grind.{text_groups}
+use Rattle.std.{proofs.Common.{arith}, proofs.lemmas.Grind.{text_groups}}
 use Rattle.plan_differences.proofs.index.note.Goals as goal
 
 pub returns : goal.returns

@@ -1,7 +1,5 @@
-use Rattle.std.proofs.Common.{inr, map, refl, rules}
-use Rattle.std.specs.Prelude.{Contains}
-use Rattle.plan_differences.specs.Facts.{fact_value}
-use Rattle.plan_differences.proofs.Indexing.{only_noted}
+use Rattle.std.{proofs.Common.{inr, map, refl, rules}, specs.Prelude.{Contains}}
+use Rattle.plan_differences.{specs.Facts.{fact_value}, proofs.Indexing.{only_noted}}
 use Rattle.plan_differences.proofs.index.note_only.Goals as goal
 
 pub returns-then-contains : goal.returns-then-contains

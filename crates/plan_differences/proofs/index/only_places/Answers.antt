@@ -1,10 +1,5 @@
-use Rattle.std.proofs.Common.{◌≡◌, ◌<◌, [], length, map, subst, sym, arith, rules, Some}
-use Rattle.std.specs.Prelude.{slice_get}
-use Rattle.std.proofs.lemmas.List.{length-map}
-use Rattle.plan_differences.specs.Facts.{fact_value}
-use Rattle.plan_differences.specs.Indexes.{IsOnlyWith, places_at}
-use Rattle.plan_differences.proofs.Indexing.{AreOfWordsBelow, all_noted, noted_if, none_noted}
-use Rattle.plan_differences.proofs.Items.{value_at}
+use Rattle.std.{proofs.Common.{◌≡◌, ◌<◌, [], length, map, subst, sym, arith, rules, Some}, specs.Prelude.{slice_get}, proofs.lemmas.List.{length-map}}
+use Rattle.plan_differences.{specs.Facts.{fact_value}, specs.Indexes.{IsOnlyWith, places_at}, proofs.Indexing.{AreOfWordsBelow, all_noted, noted_if, none_noted}, proofs.Items.{value_at}}
 use Rattle.plan_differences.proofs.index.only_places.Goals as goal
 
 pub loop-place-init : goal.loop-place-init

@@ -1,7 +1,5 @@
 use Rattle.std.proofs.Common.{ℕ, List, map}
-use Rattle.plan_differences.specs.Facts.{fact_value}
-use Rattle.plan_differences.specs.Indexes.{IsOnlyWith, places_at}
-use Rattle.plan_differences.proofs.Indexing.{AreOfWordsBelow}
+use Rattle.plan_differences.{specs.Facts.{fact_value}, specs.Indexes.{IsOnlyWith, places_at}, proofs.Indexing.{AreOfWordsBelow}}
 use Rattle.plan_differences.proofs.index.only_places.Given as goal
 
 abbrev pub invariant-loop-place : goal.invariant-loop-place

@@ -1,10 +1,5 @@
-use Rattle.std.proofs.Common.{◌≡◌, ◌<◌, ℕ, [], length, map, subst, sym, ap, arith, rules, Some}
-use Rattle.std.specs.Prelude.{slice_get}
-use Rattle.std.proofs.lemmas.List.{length-map}
-use Rattle.plan_differences.specs.Facts.{fact_value}
-use Rattle.plan_differences.specs.Indexes.{Says, places_at}
-use Rattle.plan_differences.proofs.Indexing.{AreOfWordsBelow, all_noted, none_noted, says_noted}
-use Rattle.plan_differences.proofs.Items.{value_at}
+use Rattle.std.{proofs.Common.{◌≡◌, ◌<◌, ℕ, [], length, map, subst, sym, ap, arith, rules, Some}, specs.Prelude.{slice_get}, proofs.lemmas.List.{length-map}}
+use Rattle.plan_differences.{specs.Facts.{fact_value}, specs.Indexes.{Says, places_at}, proofs.Indexing.{AreOfWordsBelow, all_noted, none_noted, says_noted}, proofs.Items.{value_at}}
 use Rattle.plan_differences.proofs.index.places_by_words.Goals as goal
 
 pub loop-place-init : goal.loop-place-init

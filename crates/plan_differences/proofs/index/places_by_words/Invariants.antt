@@ -1,7 +1,5 @@
 use Rattle.std.proofs.Common.{ℕ, List, map}
-use Rattle.plan_differences.specs.Facts.{fact_value}
-use Rattle.plan_differences.specs.Indexes.{Says, places_at}
-use Rattle.plan_differences.proofs.Indexing.{AreOfWordsBelow}
+use Rattle.plan_differences.{specs.Facts.{fact_value}, specs.Indexes.{Says, places_at}, proofs.Indexing.{AreOfWordsBelow}}
 use Rattle.plan_differences.proofs.index.places_by_words.Given as goal
 
 abbrev pub invariant-loop-place : goal.invariant-loop-place

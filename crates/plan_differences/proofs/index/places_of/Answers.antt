@@ -1,5 +1,4 @@
-use Rattle.std.proofs.Common.{rules, ◌≡◌, [], sym, ap, ◌∙◌}
-use Rattle.std.specs.Option.{option_copied, option_map_or}
+use Rattle.std.{proofs.Common.{rules, ◌≡◌, [], sym, ap, ◌∙◌}, specs.Option.{option_copied, option_map_or}}
 use Rattle.plan_differences.specs.Indexes.{places_at}
 use Rattle.plan_differences.proofs.index.places_of.Goals as goal
 

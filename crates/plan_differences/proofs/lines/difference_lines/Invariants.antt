@@ -1,7 +1,5 @@
-use Rattle.std.proofs.Common.{◌≡◌, map, string_bytes, take}
-use Rattle.std.specs.List.{flat_map}
-use Rattle.plan_differences.specs.Facts.{fact_value}
-use Rattle.plan_differences.specs.DifferenceLines.{difference_text}
+use Rattle.std.{proofs.Common.{◌≡◌, map, string_bytes, take}, specs.List.{flat_map}}
+use Rattle.plan_differences.{specs.Facts.{fact_value}, specs.DifferenceLines.{difference_text}}
 use Rattle.plan_differences.proofs.lines.difference_lines.Given as goal
 
 abbrev pub invariant-loop-difference : goal.invariant-loop-difference

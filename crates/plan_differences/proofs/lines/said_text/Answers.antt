@@ -1,6 +1,5 @@
 use Rattle.std.proofs.Common.{rules, subst, codes, List, ◌≡◌, IfOk, string_bytes, ℕ, ◌++◌}
-use Rattle.plan_differences.specs.Facts.{fact_value}
-use Rattle.plan_differences.specs.DifferenceLines.{said_text}
+use Rattle.plan_differences.{specs.Facts.{fact_value}, specs.DifferenceLines.{said_text}}
 use Rattle.plan_texts.specs.LineParts.{address_text}
 use Rattle.plan_differences.proofs.lines.said_text.Goals as goal
 

@@ -1,5 +1,4 @@
-use Rattle.std.proofs.Common.{◌≡◌, string_bytes, subst}
-use Rattle.std.specs.Prelude.{IfOk}
+use Rattle.std.{proofs.Common.{◌≡◌, string_bytes, subst}, specs.Prelude.{IfOk}}
 use Rattle.plan_differences.specs.DifferenceLines.{thing_words}
 use Rattle.plan_differences.proofs.lines.thing_text.Goals as goal
 

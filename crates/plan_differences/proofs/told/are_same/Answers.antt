@@ -1,7 +1,5 @@
-use Rattle.std.proofs.Common.{refl, arith}
-use Rattle.std.proofs.lemmas.Bool.{false≢true}
-use Rattle.plan_differences.specs.Facts.{fact_value}
-use Rattle.plan_differences.proofs.Items.{same_more, same_all, others_here}
+use Rattle.std.{proofs.Common.{refl, arith}, proofs.lemmas.Bool.{false≢true}}
+use Rattle.plan_differences.{specs.Facts.{fact_value}, proofs.Items.{same_more, same_all, others_here}}
 use Rattle.plan_differences.proofs.told.are_same.Goals as goal
 
 pub returns-then-not-is_same : goal.returns-then-not-is_same

@@ -1,9 +1,5 @@
-use Rattle.std.proofs.Common.{◌≡◌, ◌≢◌, ◌++◌, List, map, subst, rules}
-use Rattle.std.specs.Prelude.{string_bytes}
-use Rattle.plan_differences.specs.declared.fact.Fact.{Fact}
-use Rattle.plan_differences.specs.Facts.{fact_value}
-use Rattle.plan_differences.specs.Changes.{AreFactsTold}
-use Rattle.plan_differences.proofs.Consequences.{changes_so}
+use Rattle.std.{proofs.Common.{◌≡◌, ◌≢◌, ◌++◌, List, map, subst, rules}, specs.Prelude.{string_bytes}}
+use Rattle.plan_differences.{specs.declared.fact.Fact.{Fact}, specs.Facts.{fact_value}, specs.Changes.{AreFactsTold}, proofs.Consequences.{changes_so}}
 use Rattle.plan_differences.proofs.told.changes_told.Goals as goal
 
 pub returns : goal.returns

@@ -1,7 +1,5 @@
-use Rattle.std.proofs.Common.{◌≡◌, ◌<◌, length, map, rules}
-use Rattle.std.specs.Prelude.{string_bytes}
-use Rattle.plan_differences.specs.Facts.{fact_value}
-use Rattle.plan_differences.proofs.Consequences.{none_told_so, some_told_so}
+use Rattle.std.{proofs.Common.{◌≡◌, ◌<◌, length, map, rules}, specs.Prelude.{string_bytes}}
+use Rattle.plan_differences.{specs.Facts.{fact_value}, proofs.Consequences.{none_told_so, some_told_so}}
 use Rattle.plan_differences.proofs.told.facts_told.Goals as goal
 
 pub returns-then-is_empty : goal.returns-then-is_empty

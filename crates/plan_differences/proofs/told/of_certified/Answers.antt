@@ -1,11 +1,6 @@
-use Rattle.std.proofs.Common.{◌≡◌, ◌++◌, subst, rules}
-use Rattle.std.specs.Prelude.{IfOk, string_bytes}
-use Rattle.plan_values.specs.declared.certificate.Certificate.{Certificate}
-use Rattle.plan_values.specs.declared.plan.Plan.{Plan}
-use Rattle.std.specs.List.{flat_map}
-use Rattle.plan_differences.specs.WayDifferences.{AreOtherWays}
-use Rattle.plan_differences.specs.WayLines.{way_text}
-use Rattle.plan_differences.proofs.Consequences.{ways_so}
+use Rattle.std.{proofs.Common.{◌≡◌, ◌++◌, subst, rules}, specs.Prelude.{IfOk, string_bytes}, specs.List.{flat_map}}
+use Rattle.plan_values.{specs.declared.certificate.Certificate.{Certificate}, specs.declared.plan.Plan.{Plan}}
+use Rattle.plan_differences.{specs.WayDifferences.{AreOtherWays}, specs.WayLines.{way_text}, proofs.Consequences.{ways_so}}
 use Rattle.plan_differences.proofs.told.of_certified.Goals as goal
 
 pub returns : goal.returns

@@ -1,7 +1,5 @@
-use Rattle.std.proofs.Common.{◌≡◌, subst, rules}
-use Rattle.std.specs.Prelude.{IfOk, codes, string_bytes}
-use Rattle.plan_differences.specs.Changes.{IsStanding}
-use Rattle.plan_differences.proofs.Consequences.{both_so, ruled_second_so}
+use Rattle.std.{proofs.Common.{◌≡◌, subst, rules}, specs.Prelude.{IfOk, codes, string_bytes}}
+use Rattle.plan_differences.{specs.Changes.{IsStanding}, proofs.Consequences.{both_so, ruled_second_so}}
 use Rattle.plan_differences.proofs.told.of_new_standing.Goals as goal
 
 pub returns-in-Certified : goal.returns-in-Certified

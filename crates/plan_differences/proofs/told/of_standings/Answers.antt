@@ -1,7 +1,5 @@
-use Rattle.std.proofs.Common.{◌≡◌, ◌++◌, subst, rules}
-use Rattle.std.specs.Prelude.{IfOk, codes, string_bytes}
-use Rattle.plan_differences.specs.Changes.{IsStanding, reason_of}
-use Rattle.plan_differences.proofs.Consequences.{ruled_first_so}
+use Rattle.std.{proofs.Common.{◌≡◌, ◌++◌, subst, rules}, specs.Prelude.{IfOk, codes, string_bytes}}
+use Rattle.plan_differences.{specs.Changes.{IsStanding, reason_of}, proofs.Consequences.{ruled_first_so}}
 use Rattle.plan_differences.proofs.told.of_standings.Goals as goal
 
 pub returns-in-RuledOut : goal.returns-in-RuledOut

@@ -1,5 +1,4 @@
-use Rattle.std.proofs.Common.{◌≡◌, string_bytes, take}
-use Rattle.std.specs.List.{flat_map}
+use Rattle.std.{proofs.Common.{◌≡◌, string_bytes, take}, specs.List.{flat_map}}
 use Rattle.plan_differences.specs.WayLines.{way_text}
 use Rattle.plan_differences.proofs.way_lines.way_lines.Given as goal
 

@@ -1,6 +1,5 @@
 use Rattle.std.proofs.Common.{◌≡◌, ◌≤◌, ◌++◌, ◌+◌, length, subst, sym, arith, rules}
-use Rattle.plan_differences.specs.WayDifferences.{AreWaysBefore}
-use Rattle.plan_differences.proofs.OtherWays.{all_ways, from_more}
+use Rattle.plan_differences.{specs.WayDifferences.{AreWaysBefore}, proofs.OtherWays.{all_ways, from_more}}
 use Rattle.plan_differences.proofs.ways.other_ways.Goals as goal
 
 pub loop-from-preserved : goal.loop-from-preserved

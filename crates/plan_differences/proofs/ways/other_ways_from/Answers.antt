@@ -1,7 +1,6 @@
 use Rattle.std.proofs.Common.{◌≡◌, ◌++◌, ◌+◌, subst, sym, rules}
 use Rattle.net_rules.specs.Rules.{Accepts}
-use Rattle.plan_differences.specs.WayDifferences.{AreWaysFrom, found_way}
-use Rattle.plan_differences.proofs.OtherWays.{ways_on}
+use Rattle.plan_differences.{specs.WayDifferences.{AreWaysFrom, found_way}, proofs.OtherWays.{ways_on}}
 use Rattle.plan_differences.proofs.ways.other_ways_from.Goals as goal
 
 pub loop-to-preserved : goal.loop-to-preserved

@@ -1,5 +1,4 @@
-use Rattle.std.proofs.Common.{ℕ, subst}
-use Rattle.std.specs.Prelude.{MatchOption}
+use Rattle.std.{proofs.Common.{ℕ, subst}, specs.Prelude.{MatchOption}}
 use Rattle.plan_values.specs.declared.plan.Plan.{Plan}
 use Rattle.plan_differences.specs.WayDifferences.{IsOneNode}
 use Rattle.plan_differences.proofs.ways.same_node.Goals as goal

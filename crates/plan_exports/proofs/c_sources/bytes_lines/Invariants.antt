@@ -1,5 +1,4 @@
-use Rattle.std.proofs.Common.{◌≡◌, string_bytes, take}
-use Rattle.std.specs.List.{flat_map}
+use Rattle.std.{proofs.Common.{◌≡◌, string_bytes, take}, specs.List.{flat_map}}
 use Rattle.pdr_repository.specs.Records.{entries}
 use Rattle.plan_exports.specs.CSources.{bytes_line}
 use Rattle.plan_exports.proofs.c_sources.bytes_lines.Given as goal

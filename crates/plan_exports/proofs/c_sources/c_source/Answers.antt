@@ -1,7 +1,5 @@
-use Rattle.std.proofs.Common.{map, ap, ◌∙◌}
-use Rattle.std.specs.Prelude.{option_map}
-use Rattle.plan_exports.specs.CSources.{c_text, terminus_facts}
-use Rattle.plan_exports.specs.PlannedRows.{row_facts}
+use Rattle.std.{proofs.Common.{map, ap, ◌∙◌}, specs.Prelude.{option_map}}
+use Rattle.plan_exports.{specs.CSources.{c_text, terminus_facts}, specs.PlannedRows.{row_facts}}
 use Rattle.plan_exports.proofs.c_sources.c_source.Goals as goal
 
 pub returns : goal.returns

@@ -1,6 +1,5 @@
 use Rattle.std.proofs.Common.{string_bytes, ap, ◌∙◌}
-use Rattle.plan_exports.specs.CSources.{eid_text, head_text, pool_first, pool_size, pool_text}
-use Rattle.plan_exports.proofs.Pieces.{said_so, six_are}
+use Rattle.plan_exports.{specs.CSources.{eid_text, head_text, pool_first, pool_size, pool_text}, proofs.Pieces.{said_so, six_are}}
 use Rattle.plan_exports.proofs.c_sources.named_source.Goals as goal
 
 pub returns : goal.returns

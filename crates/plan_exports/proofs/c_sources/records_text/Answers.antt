@@ -1,8 +1,6 @@
-use Rattle.std.proofs.Common.{ℕ, length, string_bytes, ap, sym, ◌∙◌}
-use Rattle.std.proofs.lemmas.List.{length-map}
+use Rattle.std.{proofs.Common.{ℕ, length, string_bytes, ap, sym, ◌∙◌}, proofs.lemmas.List.{length-map}}
 use Rattle.pdr_repository.specs.Records.{entries, entry_of}
-use Rattle.plan_exports.specs.CSources.{record_lines, records_of_lines}
-use Rattle.plan_exports.proofs.Pieces.{said_so}
+use Rattle.plan_exports.{specs.CSources.{record_lines, records_of_lines}, proofs.Pieces.{said_so}}
 use Rattle.plan_exports.proofs.c_sources.records_text.Goals as goal
 
 pub returns : goal.returns

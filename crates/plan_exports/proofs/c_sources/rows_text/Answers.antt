@@ -1,8 +1,5 @@
-use Rattle.std.proofs.Common.{ℕ, length, map, string_bytes, ap, sym, ◌∙◌}
-use Rattle.std.proofs.lemmas.List.{length-map}
-use Rattle.plan_exports.specs.CSources.{row_lines, rows_of_lines}
-use Rattle.plan_exports.specs.PlannedRows.{row_facts}
-use Rattle.plan_exports.proofs.Pieces.{said_so}
+use Rattle.std.{proofs.Common.{ℕ, length, map, string_bytes, ap, sym, ◌∙◌}, proofs.lemmas.List.{length-map}}
+use Rattle.plan_exports.{specs.CSources.{row_lines, rows_of_lines}, specs.PlannedRows.{row_facts}, proofs.Pieces.{said_so}}
 use Rattle.plan_exports.proofs.c_sources.rows_text.Goals as goal
 
 pub returns : goal.returns

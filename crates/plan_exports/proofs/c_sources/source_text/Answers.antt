@@ -1,8 +1,5 @@
-use Rattle.std.proofs.Common.{map, string_bytes, ap, ◌∙◌}
-use Rattle.std.specs.Prelude.{option_map}
-use Rattle.plan_exports.specs.CSources.{identifier, named_text, terminus_facts}
-use Rattle.plan_exports.specs.PlannedRows.{row_facts}
-use Rattle.plan_exports.proofs.Pieces.{said_so}
+use Rattle.std.{proofs.Common.{map, string_bytes, ap, ◌∙◌}, specs.Prelude.{option_map}}
+use Rattle.plan_exports.{specs.CSources.{identifier, named_text, terminus_facts}, specs.PlannedRows.{row_facts}, proofs.Pieces.{said_so}}
 use Rattle.plan_exports.proofs.c_sources.source_text.Goals as goal
 
 pub returns : goal.returns

@@ -1,5 +1,4 @@
-use Rattle.std.proofs.Common.{◌∷◌, [], map, ap, sym, subst, ◌∙◌}
-use Rattle.std.proofs.lemmas.List.{map-append}
+use Rattle.std.{proofs.Common.{◌∷◌, [], map, ap, sym, subst, ◌∙◌}, proofs.lemmas.List.{map-append}}
 use Rattle.plan_exports.proofs.Devicing.{HaveDevices, more_devices}
 use Rattle.plan_exports.proofs.devices.devices_of.Goals as goal
 

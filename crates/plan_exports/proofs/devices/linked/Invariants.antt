@@ -1,5 +1,4 @@
-use Rattle.std.proofs.Common.{◌≢◌, take}
-use Rattle.std.specs.Prelude.{All}
+use Rattle.std.{proofs.Common.{◌≢◌, take}, specs.Prelude.{All}}
 use Rattle.plan_exports.proofs.devices.linked.Given as goal
 
 abbrev pub invariant-loop-link : goal.invariant-loop-link

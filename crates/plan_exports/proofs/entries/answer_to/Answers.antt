@@ -1,10 +1,6 @@
-use Rattle.std.proofs.Common.{ℕ, List, None, Some, sym, ap, subst, ◌∙◌}
-use Rattle.std.specs.Prelude.{is_some, option_map}
-use Rattle.std.proofs.lemmas.Bool.{false≢true}
-use Rattle.mctp_control.specs.Devices.{device_value}
-use Rattle.mctp_control.specs.EntryLists.{values_of}
-use Rattle.plan_exports.specs.TableAnswers.{IsAnswer}
-use Rattle.plan_exports.proofs.Answering.{is_answer, same_some}
+use Rattle.std.{proofs.Common.{ℕ, List, None, Some, sym, ap, subst, ◌∙◌}, specs.Prelude.{is_some, option_map}, proofs.lemmas.Bool.{false≢true}}
+use Rattle.mctp_control.{specs.Devices.{device_value}, specs.EntryLists.{values_of}}
+use Rattle.plan_exports.{specs.TableAnswers.{IsAnswer}, proofs.Answering.{is_answer, same_some}}
 use Rattle.plan_exports.proofs.entries.answer_to.Goals as goal
 
 pub unreachable-requires : goal.unreachable-requires

@@ -1,10 +1,7 @@
-use Rattle.std.proofs.Common.{rules, ◌<◌, ◌++◌, ◌∷◌, [], Some, map, slice_index, sym, ap, subst, ◌∙◌}
-use Rattle.std.proofs.lemmas.List.{map-append}
-use Rattle.mctp_control.specs.Devices.{DeviceValue, device_value}
-use Rattle.mctp_control.specs.EntryLists.{values_of}
+use Rattle.std.{proofs.Common.{rules, ◌<◌, ◌++◌, ◌∷◌, [], Some, map, slice_index, sym, ap, subst, ◌∙◌}, proofs.lemmas.List.{map-append}}
+use Rattle.mctp_control.{specs.Devices.{DeviceValue, device_value}, specs.EntryLists.{values_of}}
 use Rattle.mctp_bridge.specs.Readers.{handle_after}
-use Rattle.plan_exports.specs.TableAnswers.{IsAnswer}
-use Rattle.plan_exports.proofs.Answering.{HasAnswered, left_of, next_due, more_answered}
+use Rattle.plan_exports.{specs.TableAnswers.{IsAnswer}, proofs.Answering.{HasAnswered, left_of, next_due, more_answered}}
 use Rattle.plan_exports.proofs.entries.answers.Goals as goal
 
 pub loop-due-smaller : goal.loop-due-smaller

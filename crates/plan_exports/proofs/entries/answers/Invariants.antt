@@ -1,6 +1,5 @@
 use Rattle.std.proofs.Common.{◌≡◌, ℕ, map}
-use Rattle.mctp_control.specs.Devices.{device_value}
-use Rattle.mctp_control.specs.EntryLists.{values_of}
+use Rattle.mctp_control.{specs.Devices.{device_value}, specs.EntryLists.{values_of}}
 use Rattle.plan_exports.proofs.Answering.{HasAnswered, IsDue, left_of}
 use Rattle.plan_exports.proofs.entries.answers.Given as goal
 

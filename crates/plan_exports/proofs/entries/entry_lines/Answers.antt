@@ -1,5 +1,4 @@
-use Rattle.std.proofs.Common.{map, ap, ◌∙◌}
-use Rattle.std.specs.List.{flat_map}
+use Rattle.std.{proofs.Common.{map, ap, ◌∙◌}, specs.List.{flat_map}}
 use Rattle.plan_exports.specs.TableAnswers.{hex_line}
 use Rattle.plan_exports.proofs.entries.entry_lines.Goals as goal
 

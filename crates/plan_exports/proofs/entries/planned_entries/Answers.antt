@@ -1,5 +1,4 @@
-use Rattle.std.proofs.Common.{rules, List, sym, subst}
-use Rattle.std.specs.Prelude.{All, length, ◌≤◌}
+use Rattle.std.{proofs.Common.{rules, List, sym, subst}, specs.Prelude.{All, length, ◌≤◌}}
 use Rattle.mctp_bridge.specs.declared.routing_entries.Neighbor.{Neighbor}
 use Rattle.plan_exports.proofs.EntryTables.{short_neighbors, short_entries, row_ports}
 use Rattle.plan_exports.proofs.entries.planned_entries.Goals as goal

@@ -1,5 +1,4 @@
-use Rattle.std.proofs.Common.{◌≡◌, ◌++◌, ◌∷◌, [], string_bytes, take}
-use Rattle.std.specs.List.{flat_map}
+use Rattle.std.{proofs.Common.{◌≡◌, ◌++◌, ◌∷◌, [], string_bytes, take}, specs.List.{flat_map}}
 use Rattle.plan_exports.specs.CSources.{cleaned}
 use Rattle.plan_exports.proofs.identifiers.push_cleaned.Given as goal
 

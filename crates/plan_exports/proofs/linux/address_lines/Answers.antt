@@ -1,6 +1,5 @@
 use Rattle.std.proofs.Common.{◌+◌, string_bytes, ap, ◌∙◌}
-use Rattle.plan_exports.specs.LinuxScripts.{neighbor_line}
-use Rattle.plan_exports.proofs.Said.{said_of_number}
+use Rattle.plan_exports.{specs.LinuxScripts.{neighbor_line}, proofs.Said.{said_of_number}}
 use Rattle.plan_exports.proofs.linux.address_lines.Goals as goal
 
 pub loop-place-preserved : goal.loop-place-preserved

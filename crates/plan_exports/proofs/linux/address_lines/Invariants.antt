@@ -1,5 +1,4 @@
-use Rattle.std.proofs.Common.{◌≡◌, string_bytes}
-use Rattle.std.specs.List.{flat_map, range_with_len}
+use Rattle.std.{proofs.Common.{◌≡◌, string_bytes}, specs.List.{flat_map, range_with_len}}
 use Rattle.plan_exports.specs.LinuxScripts.{neighbor_line}
 use Rattle.plan_exports.proofs.linux.address_lines.Given as goal
 

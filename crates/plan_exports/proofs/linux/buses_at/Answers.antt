@@ -1,6 +1,4 @@
-use Rattle.std.proofs.Common.{ℕ, Bool, ◌∙◌}
-use Rattle.std.specs.Prelude.{◌==◌}
-use Rattle.std.specs.List.{list_any}
+use Rattle.std.{proofs.Common.{ℕ, Bool, ◌∙◌}, specs.Prelude.{◌==◌}, specs.List.{list_any}}
 use Rattle.net_tables.specs.Routing.{ports_of}
 use Rattle.plan_exports.proofs.Said.{filter_step}
 use Rattle.plan_exports.proofs.linux.buses_at.Goals as goal

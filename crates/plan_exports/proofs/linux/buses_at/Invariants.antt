@@ -1,6 +1,4 @@
-use Rattle.std.proofs.Common.{◌≡◌}
-use Rattle.std.specs.Prelude.{filter, ◌==◌}
-use Rattle.std.specs.List.{list_any, range_with_len}
+use Rattle.std.{proofs.Common.{◌≡◌}, specs.Prelude.{filter, ◌==◌}, specs.List.{list_any, range_with_len}}
 use Rattle.net_tables.specs.Routing.{ports_of}
 use Rattle.plan_exports.proofs.linux.buses_at.Given as goal
 

@@ -1,7 +1,5 @@
 use Rattle.std.proofs.Common.{map, ap, ◌∙◌}
-use Rattle.plan_exports.specs.LinuxScripts.{linux_text}
-use Rattle.plan_exports.specs.PlannedRows.{row_facts}
-use Rattle.plan_exports.proofs.Scripts.{is_script}
+use Rattle.plan_exports.{specs.LinuxScripts.{linux_text}, specs.PlannedRows.{row_facts}, proofs.Scripts.{is_script}}
 use Rattle.plan_exports.proofs.linux.linux_script.Goals as goal
 
 pub returns : goal.returns

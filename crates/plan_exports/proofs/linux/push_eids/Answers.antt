@@ -1,6 +1,5 @@
 use Rattle.std.proofs.Common.{map, string_bytes, ◌∙◌}
-use Rattle.plan_exports.specs.LinuxScripts.{eid_line}
-use Rattle.plan_exports.proofs.Said.{said_more}
+use Rattle.plan_exports.{specs.LinuxScripts.{eid_line}, proofs.Said.{said_more}}
 use Rattle.plan_exports.proofs.linux.push_eids.Goals as goal
 
 pub loop-bus-preserved : goal.loop-bus-preserved

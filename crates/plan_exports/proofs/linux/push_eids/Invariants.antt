@@ -1,5 +1,4 @@
-use Rattle.std.proofs.Common.{◌≡◌, ◌++◌, map, string_bytes, take}
-use Rattle.std.specs.List.{flat_map}
+use Rattle.std.{proofs.Common.{◌≡◌, ◌++◌, map, string_bytes, take}, specs.List.{flat_map}}
 use Rattle.plan_exports.specs.LinuxScripts.{eid_line}
 use Rattle.plan_exports.proofs.linux.push_eids.Given as goal
 

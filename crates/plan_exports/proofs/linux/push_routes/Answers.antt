@@ -1,7 +1,5 @@
 use Rattle.std.proofs.Common.{map, string_bytes, ◌∙◌}
-use Rattle.plan_exports.specs.LinuxScripts.{route_line}
-use Rattle.plan_exports.specs.PlannedRows.{row_facts}
-use Rattle.plan_exports.proofs.Said.{said_of_more}
+use Rattle.plan_exports.{specs.LinuxScripts.{route_line}, specs.PlannedRows.{row_facts}, proofs.Said.{said_of_more}}
 use Rattle.plan_exports.proofs.linux.push_routes.Goals as goal
 
 pub loop-row-preserved : goal.loop-row-preserved

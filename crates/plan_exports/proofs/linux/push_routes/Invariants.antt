@@ -1,7 +1,5 @@
-use Rattle.std.proofs.Common.{◌≡◌, ◌++◌, map, string_bytes, take}
-use Rattle.std.specs.List.{flat_map}
-use Rattle.plan_exports.specs.LinuxScripts.{route_line}
-use Rattle.plan_exports.specs.PlannedRows.{row_facts}
+use Rattle.std.{proofs.Common.{◌≡◌, ◌++◌, map, string_bytes, take}, specs.List.{flat_map}}
+use Rattle.plan_exports.{specs.LinuxScripts.{route_line}, specs.PlannedRows.{row_facts}}
 use Rattle.plan_exports.proofs.linux.push_routes.Given as goal
 
 abbrev pub invariant-loop-row : goal.invariant-loop-row

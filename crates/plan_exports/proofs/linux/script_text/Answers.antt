@@ -1,7 +1,5 @@
-use Rattle.std.proofs.Common.{List, ℕ, ◌++◌, map, string_bytes, ap, ◌∙◌}
-use Rattle.std.specs.List.{flat_map}
-use Rattle.plan_exports.specs.LinuxScripts.{link_lines, eid_line}
-use Rattle.plan_exports.proofs.Said.{four_pieces}
+use Rattle.std.{proofs.Common.{List, ℕ, ◌++◌, map, string_bytes, ap, ◌∙◌}, specs.List.{flat_map}}
+use Rattle.plan_exports.{specs.LinuxScripts.{link_lines, eid_line}, proofs.Said.{four_pieces}}
 use Rattle.plan_exports.proofs.linux.script_text.Goals as goal
 
 pub returns : goal.returns

@@ -1,5 +1,4 @@
-use Rattle.std.proofs.Common.{◌≡◌, ◌++◌, ◌∷◌, [], string_bytes, take}
-use Rattle.std.specs.List.{flat_map}
+use Rattle.std.{proofs.Common.{◌≡◌, ◌++◌, ◌∷◌, [], string_bytes, take}, specs.List.{flat_map}}
 use Rattle.hex.specs.Hex.{encode_lower}
 use Rattle.plan_exports.proofs.words.push_later.Given as goal
 

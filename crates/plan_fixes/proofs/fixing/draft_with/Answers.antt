@@ -1,11 +1,9 @@
 use Rattle.std.proofs.Common.{◌≡◌, ◌++◌, ℕ, List, Some, string_bytes, subst, rules}
-use Rattle.net_explained.specs.Edits.{IsEdited}
+use Rattle.net_explained.{specs.Edits.{IsEdited}, proofs.SamePlan.{same_plan}}
 use Rattle.plan_values.specs.PlanValues.{PlanValue, plan_value}
-use Rattle.plan_fixes.specs.Fixes.{IsAsEdited, IsTextOf}
-use Rattle.plan_fixes.specs.Splices.{IsSpliced}
+use Rattle.plan_fixes.{specs.Fixes.{IsAsEdited, IsTextOf}, specs.Splices.{IsSpliced}}
 use Rattle.explanation_texts.specs.EditLines.{edit_text}
 use Rattle.plan_fixes.proofs.fixing.draft_with.Goals as goal
-use Rattle.net_explained.proofs.SamePlan.{same_plan}
 
 pub returns : goal.returns
 returns c =

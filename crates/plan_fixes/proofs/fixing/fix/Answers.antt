@@ -1,6 +1,5 @@
 use Rattle.std.proofs.Common.{ℕ, List, Some, sym, subst}
-use Rattle.plan_fixes.specs.Fixes.{AreFixes, LeadsOn}
-use Rattle.plan_fixes.proofs.Led.{led_on}
+use Rattle.plan_fixes.{specs.Fixes.{AreFixes, LeadsOn}, proofs.Led.{led_on}}
 use Rattle.plan_fixes.proofs.fixing.fix.Goals as goal
 
 pub loop-init : goal.loop-init

@@ -1,9 +1,4 @@
-use Rattle.std.proofs.Common.{string_bytes, ◌≡◌, encode_utf8_all, chars, ◌∙◌, ap, sym, map-id, append-nil}
-use Rattle.std.specs.List.{flat_map}
-use Rattle.std.proofs.lemmas.Grind.{flat_map-append}
-use Rattle.std.proofs.lemmas.Iterator.{YieldsList-from_chars}
-use Rattle.std.proofs.lemmas.Iterator.Consumers.{YieldsList-end}
-use Rattle.std.proofs.lemmas.Str.{encodes-append}
+use Rattle.std.{proofs.Common.{string_bytes, ◌≡◌, encode_utf8_all, chars, ◌∙◌, ap, sym, map-id, append-nil}, specs.List.{flat_map}, proofs.lemmas.Grind.{flat_map-append}, proofs.lemmas.Iterator.{YieldsList-from_chars}, proofs.lemmas.Iterator.Consumers.{YieldsList-end}, proofs.lemmas.Str.{encodes-append}}
 use Rattle.plan_pages.specs.Pages.{escaped_char}
 use Rattle.plan_pages.proofs.escaping.escaped.Goals as goal
 

@@ -1,5 +1,4 @@
-use Rattle.std.proofs.Common.{◌≡◌, string_bytes, encode_utf8_all}
-use Rattle.std.specs.List.{flat_map}
+use Rattle.std.{proofs.Common.{◌≡◌, string_bytes, encode_utf8_all}, specs.List.{flat_map}}
 use Rattle.plan_pages.specs.Pages.{escaped_char}
 use Rattle.plan_pages.proofs.escaping.escaped.Given as goal
 

@@ -1,6 +1,5 @@
 use Rattle.std.proofs.Common.{◌≡◌, ◌∙◌, map, subst, arith}
-use Rattle.plan_texts.specs.DifferenceLines.{DifferFirstAt}
-use Rattle.plan_texts.proofs.Differing.{differ_here, same_here, differ_behind}
+use Rattle.plan_texts.{specs.DifferenceLines.{DifferFirstAt}, proofs.Differing.{differ_here, same_here, differ_behind}}
 use Rattle.plan_texts.proofs.differences.differing_index.Goals as goal
 
 pub returns-then-ne-clause-differs : goal.returns-then-ne-clause-differs

@@ -1,5 +1,4 @@
-use Rattle.std.proofs.Common.{◌≡◌, string_bytes, take, map}
-use Rattle.std.specs.List.{flat_map}
+use Rattle.std.{proofs.Common.{◌≡◌, string_bytes, take, map}, specs.List.{flat_map}}
 use Rattle.plan_texts.specs.WalkLines.{record_line}
 use Rattle.plan_texts.proofs.walks.walk_text.Given as goal
 

@@ -1,5 +1,4 @@
-use Rattle.std.proofs.Common.{refl, arith, below_more}
-use Rattle.std.proofs.lemmas.Bool.{false≢true}
+use Rattle.std.{proofs.Common.{refl, arith, below_more}, proofs.lemmas.Bool.{false≢true}}
 use Rattle.plan_values.proofs.SameItems.{IsSameAt, same_items, same_here, others_here}
 use Rattle.plan_values.proofs.same.are_same.Goals as goal
 

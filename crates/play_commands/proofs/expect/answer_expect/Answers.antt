@@ -1,12 +1,8 @@
-use Rattle.std.proofs.Common.{rules, ◌≡◌, List, ℕ, Ok, Err, map, refl, subst, string_bytes}
-use Rattle.std.specs.Prelude.{IfOk}
-use Rattle.std.specs.Cow.{cow_str_bytes}
+use Rattle.std.{proofs.Common.{rules, ◌≡◌, List, ℕ, Ok, Err, map, refl, subst, string_bytes}, specs.Prelude.{IfOk}, specs.Cow.{cow_str_bytes}}
 use Rattle.plan_values.specs.declared.event.Event.{Event}
 use Rattle.net_sim.specs.Outcomes.{event_value}
-use Rattle.command_answers.specs.declared.answer.Answer.{Answer}
-use Rattle.command_answers.specs.Answers.{stream}
-use Rattle.play_commands.specs.Expecting.{AnswersLinesOn}
-use Rattle.play_commands.proofs.Expected.{lines_unread, answers_given}
+use Rattle.command_answers.{specs.declared.answer.Answer.{Answer}, specs.Answers.{stream}}
+use Rattle.play_commands.{specs.Expecting.{AnswersLinesOn}, proofs.Expected.{lines_unread, answers_given}}
 use Rattle.play_commands.proofs.expect.answer_expect.Goals as goal
 
 pub returns-clause-answers : goal.returns-clause-answers

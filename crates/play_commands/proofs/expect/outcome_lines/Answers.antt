@@ -1,5 +1,4 @@
-use Rattle.std.proofs.Common.{◌∙◌, ◌++◌, map, length, ap, arith}
-use Rattle.std.proofs.lemmas.List.{length-map, take_all}
+use Rattle.std.{proofs.Common.{◌∙◌, ◌++◌, map, length, ap, arith}, proofs.lemmas.List.{length-map, take_all}}
 use Rattle.net_sim.specs.Outcomes.{outcome_value}
 use Rattle.run_texts.specs.OutcomeLines.{outcome_lines}
 use Rattle.play_commands.proofs.Simulated.{all_lines}

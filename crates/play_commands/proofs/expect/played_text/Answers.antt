@@ -1,12 +1,8 @@
-use Rattle.std.proofs.Common.{◌∙◌, length, map, string_bytes, arith}
-use Rattle.std.proofs.lemmas.List.{length-map}
+use Rattle.std.{proofs.Common.{◌∙◌, length, map, string_bytes, arith}, proofs.lemmas.List.{length-map}}
 use Rattle.net_tables.specs.TwoPlans.{one_plan}
-use Rattle.net_sim.specs.Networks.{checked_of}
-use Rattle.net_sim.specs.Outcomes.{event_value, outcome_value}
-use Rattle.play_commands.specs.Expecting.{given_only}
-use Rattle.play_commands.proofs.Expected.{lines_of_all}
+use Rattle.net_sim.{specs.Networks.{checked_of}, specs.Outcomes.{event_value, outcome_value}}
+use Rattle.play_commands.{specs.Expecting.{given_only}, proofs.Expected.{lines_of_all}, proofs.Simulated.{shows_walks, walks_in}}
 use Rattle.command_answers.proofs.Places.{starts_in}
-use Rattle.play_commands.proofs.Simulated.{shows_walks, walks_in}
 use Rattle.play_commands.proofs.expect.played_text.Goals as goal
 
 pub returns-clause-text : goal.returns-clause-text

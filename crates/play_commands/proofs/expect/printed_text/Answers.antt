@@ -1,13 +1,10 @@
 use Rattle.std.proofs.Common.{◌≡◌, Result, Ok, Err, IfOk, ℕ, List, map, inl, subst, string_bytes}
-use Rattle.plan_values.specs.declared.certificate.Certificate.{Certificate}
-use Rattle.plan_values.specs.declared.plan.Plan.{Plan}
+use Rattle.plan_values.{specs.declared.certificate.Certificate.{Certificate}, specs.declared.plan.Plan.{Plan}}
 use Rattle.net_rules.specs.Rules.{Accepts}
 use Rattle.net_runs.specs.Walkers.{WalkedEvent}
-use Rattle.net_sim.specs.Outcomes.{event_value}
-use Rattle.net_sim.proofs.PlayedWalks.{promised}
+use Rattle.net_sim.{specs.Outcomes.{event_value}, proofs.PlayedWalks.{promised}}
 use Rattle.net_tables.specs.TwoPlans.{one_plan}
-use Rattle.play_commands.specs.Expecting.{given_only, IsPrinted}
-use Rattle.play_commands.specs.Simulating.{ShowsWalks}
+use Rattle.play_commands.{specs.Expecting.{given_only, IsPrinted}, specs.Simulating.{ShowsWalks}}
 use Rattle.play_commands.proofs.expect.printed_text.Goals as goal
 
 printed : {T E : Type 0} (plan : Plan) (cert : Certificate) (checked : Plan × Certificate) (events : List WalkedEvent) (text : T → List ℕ) (result : Result T E) → checked ≡ (plan, cert)

@@ -1,7 +1,5 @@
-use Rattle.std.proofs.Common.{◌≡◌, ◌∙◌}
-use Rattle.std.specs.Cow.{cow_str_bytes}
-use Rattle.play_commands.specs.Scripting.{no_script}
-use Rattle.play_commands.proofs.Scripted.{other_told}
+use Rattle.std.{proofs.Common.{◌≡◌, ◌∙◌}, specs.Cow.{cow_str_bytes}}
+use Rattle.play_commands.{specs.Scripting.{no_script}, proofs.Scripted.{other_told}}
 use Rattle.play_commands.proofs.script.answer_by_text.Goals as goal
 
 pub returns-in_ok-to_string-in-Other-clause-answers : goal.returns-in_ok-to_string-in-Other-clause-answers

@@ -1,5 +1,4 @@
-use Rattle.std.proofs.Common.{refl, inl, inr}
-use Rattle.std.proofs.lemmas.Result.{IfOk-weaker, IfErr-weaker}
+use Rattle.std.{proofs.Common.{refl, inl, inr}, proofs.lemmas.Result.{IfOk-weaker, IfErr-weaker}}
 use Rattle.command_answers.proofs.Told.{concludes, concludes_unread}
 use Rattle.play_commands.proofs.script.run_script.Goals as goal
 

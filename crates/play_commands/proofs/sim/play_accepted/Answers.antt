@@ -1,16 +1,11 @@
 use Rattle.std.proofs.Common.{rules, ◌≡◌, map, Err, refl, subst}
 use Rattle.plan_values.specs.declared.certificate.Certificate.{Certificate}
 use Rattle.net_tables.specs.TwoPlans.{Tables}
-use Rattle.net_sim.specs.Dealing.{resting, at_rest}
-use Rattle.net_sim.specs.Networks.{network_value}
-use Rattle.net_sim.specs.Outcomes.{event_value}
-use Rattle.net_sim.specs.WalkedStanding.{StandsForWalked, without_walkers}
-use Rattle.net_sim.proofs.PlayedWalks.{promised}
+use Rattle.net_sim.{specs.Dealing.{resting, at_rest}, specs.Networks.{network_value}, specs.Outcomes.{event_value}, specs.WalkedStanding.{StandsForWalked, without_walkers}, proofs.PlayedWalks.{promised}}
 use Rattle.net_runs.specs.Walkers.{walked_at_start}
-use Rattle.command_answers.specs.declared.refused.Refused.TheVariants as refused
 use Rattle.command_answers.specs.Answers.{stream}
-use Rattle.play_commands.specs.Simulating.{PlaysBy, PlaysFrom}
-use Rattle.play_commands.proofs.Simulated.{shows_nothing, shows_no_walks}
+use Rattle.play_commands.{specs.Simulating.{PlaysBy, PlaysFrom}, proofs.Simulated.{shows_nothing, shows_no_walks}}
+use Rattle.command_answers.specs.declared.refused.Refused.TheVariants as refused
 use Rattle.play_commands.proofs.sim.play_accepted.Goals as goal
 
 pub returns-in_err-network-clause-plays : goal.returns-in_err-network-clause-plays

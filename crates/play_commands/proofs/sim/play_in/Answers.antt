@@ -1,10 +1,8 @@
-use Rattle.std.proofs.Common.{rules, ◌≡◌, length, map, Err, refl, ap, arith}
-use Rattle.std.proofs.lemmas.List.{length-map}
-use Rattle.net_sim.specs.Networks.{checked_of}
-use Rattle.net_sim.specs.Outcomes.{event_value, outcome_value}
-use Rattle.command_answers.specs.declared.refused.Refused.TheVariants as refused
+use Rattle.std.{proofs.Common.{rules, ◌≡◌, length, map, Err, refl, ap, arith}, proofs.lemmas.List.{length-map}}
+use Rattle.net_sim.{specs.Networks.{checked_of}, specs.Outcomes.{event_value, outcome_value}}
 use Rattle.command_answers.specs.Answers.{stream}
 use Rattle.play_commands.proofs.Simulated.{shows_nothing, shows_no_walks, shows_beginning, shows_run, run_text, shows_begun_walks, shows_walks, walks_text, walks_in, cut_short, lines_in, first_lines_in}
+use Rattle.command_answers.specs.declared.refused.Refused.TheVariants as refused
 use Rattle.play_commands.proofs.sim.play_in.Goals as goal
 
 -- ---- from any state

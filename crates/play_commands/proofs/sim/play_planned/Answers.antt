@@ -1,16 +1,12 @@
 use Rattle.std.proofs.Common.{rules, ◌≡◌, map, Ok, Err, inl, refl, subst}
 use Rattle.plan_values.specs.declared.certificate.Certificate.{Certificate}
 use Rattle.net_tables.specs.TwoPlans.{Tables}
-use Rattle.net_sim.specs.Networks.{network_value}
-use Rattle.net_sim.specs.Outcomes.{event_value}
-use Rattle.net_sim.specs.WalkedStanding.{StandsForWalked}
-use Rattle.net_sim.proofs.PlayedWalks.{promised}
+use Rattle.net_sim.{specs.Networks.{network_value}, specs.Outcomes.{event_value}, specs.WalkedStanding.{StandsForWalked}, proofs.PlayedWalks.{promised}}
 use Rattle.net_runs.specs.Walkers.{walked_at_start}
 use Rattle.pdr_repository.specs.BlockTermini.{block_tid, block_records}
-use Rattle.command_answers.specs.declared.refused.Refused.TheVariants as refused
 use Rattle.command_answers.specs.Answers.{stream}
-use Rattle.play_commands.specs.Simulating.{PlaysBy, RunsIn, IsTextIn}
-use Rattle.play_commands.proofs.Playing.{plays_part}
+use Rattle.play_commands.{specs.Simulating.{PlaysBy, RunsIn, IsTextIn}, proofs.Playing.{plays_part}}
+use Rattle.command_answers.specs.declared.refused.Refused.TheVariants as refused
 use Rattle.play_commands.proofs.sim.play_planned.Goals as goal
 
 pub returns-in_err-network : goal.returns-in_err-network

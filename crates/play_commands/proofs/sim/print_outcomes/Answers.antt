@@ -1,8 +1,7 @@
 use Rattle.std.proofs.Common.{rules, ◌≡◌, ◌+◌, ◌∙◌, Err, map, length, string_bytes, ap, arith}
 use Rattle.net_sim.specs.Outcomes.{outcome_value}
-use Rattle.command_answers.specs.Answers.{stream}
+use Rattle.command_answers.{specs.Answers.{stream}, proofs.Waiting.{given_at_end}}
 use Rattle.play_commands.proofs.Simulated.{shows_more, breaks_in_line, breaks_in_waiting, ends_written}
-use Rattle.command_answers.proofs.Waiting.{given_at_end}
 use Rattle.play_commands.proofs.sim.print_outcomes.Goals as goal
 
 pub loop-index-preserved : goal.loop-index-preserved

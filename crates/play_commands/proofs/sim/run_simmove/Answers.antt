@@ -1,8 +1,7 @@
 use Rattle.std.proofs.Common.{◌≡◌, map, subst}
 use Rattle.plan_values.specs.declared.certificate.Certificate.{Certificate}
 use Rattle.net_tables.specs.TwoPlans.{Tables}
-use Rattle.net_sim.specs.Dealing.{resting, planned_termini}
-use Rattle.net_sim.specs.Outcomes.{event_value}
+use Rattle.net_sim.{specs.Dealing.{resting, planned_termini}, specs.Outcomes.{event_value}}
 use Rattle.command_answers.specs.Answers.{stream}
 use Rattle.play_commands.specs.Simulating.{SimulatesBy}
 use Rattle.play_commands.proofs.sim.run_simmove.Goals as goal

@@ -1,5 +1,4 @@
-use Rattle.std.proofs.Common.{◌≡◌, string_bytes, take}
-use Rattle.std.specs.List.{flat_map}
+use Rattle.std.{proofs.Common.{◌≡◌, string_bytes, take}, specs.List.{flat_map}}
 use Rattle.question_texts.specs.FindingLines.{finding_line}
 use Rattle.question_texts.proofs.findings.lint_lines.Given as goal
 

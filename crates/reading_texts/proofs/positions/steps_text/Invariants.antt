@@ -1,5 +1,4 @@
-use Rattle.std.proofs.Common.{◌≡◌, map, string_bytes, take}
-use Rattle.std.specs.List.{flat_map}
+use Rattle.std.{proofs.Common.{◌≡◌, map, string_bytes, take}, specs.List.{flat_map}}
 use Rattle.net_plan.specs.Finding.{step_value}
 use Rattle.reading_texts.specs.ReadingLines.{step_text}
 use Rattle.reading_texts.proofs.positions.steps_text.Given as goal

@@ -1,6 +1,5 @@
 use Rattle.std.proofs.Common.{Some, string_bytes}
-use Rattle.reading_texts.specs.ReadingLines.{position_text}
-use Rattle.reading_texts.proofs.DoubledTold.{begins_there}
+use Rattle.reading_texts.{specs.ReadingLines.{position_text}, proofs.DoubledTold.{begins_there}}
 use Rattle.reading_texts.proofs.syntax.json_lines.Goals as goal
 
 pub returns-in_ok-position-in-NotUtf8 : goal.returns-in_ok-position-in-NotUtf8

@@ -1,10 +1,7 @@
 use Rattle.std.proofs.Common.{◌≡◌, ◌<◌, ℕ, List, length, string_bytes, rules, ◌∙◌, sym, ap, subst}
 use Rattle.json.specs.Value.{value_view}
-use Rattle.net_pointers.specs.Doubles.{part_at}
-use Rattle.net_pointers.specs.Offsets.{LeadsToKey}
-use Rattle.reading_texts.specs.ReadingLines.{Begins}
-use Rattle.reading_texts.specs.TroubleLines.{keys_in, object_text}
-use Rattle.reading_texts.proofs.DoubledTold.{key_told, members_there}
+use Rattle.net_pointers.{specs.Doubles.{part_at}, specs.Offsets.{LeadsToKey}}
+use Rattle.reading_texts.{specs.ReadingLines.{Begins}, specs.TroubleLines.{keys_in, object_text}, proofs.DoubledTold.{key_told, members_there}}
 use Rattle.reading_texts.proofs.twice.doubled_key_lines.Goals as goal
 
 pub key_offset-requires-clause-there : goal.key_offset-requires-clause-there

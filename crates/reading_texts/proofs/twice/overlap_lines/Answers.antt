@@ -1,8 +1,6 @@
 use Rattle.std.proofs.Common.{◌≡◌, ◌∙◌, ◌+◌, ap, map, string_bytes, rules}
 use Rattle.net_plan.specs.Finding.{step_value}
-use Rattle.reading_texts.specs.ReadingLines.{Begins, pointer_text}
-use Rattle.reading_texts.specs.TroubleLines.{range_pointer}
-use Rattle.reading_texts.proofs.DoubledTold.{overlap_told}
+use Rattle.reading_texts.{specs.ReadingLines.{Begins, pointer_text}, specs.TroubleLines.{range_pointer}, proofs.DoubledTold.{overlap_told}}
 use Rattle.reading_texts.proofs.twice.overlap_lines.Goals as goal
 
 pub returns : goal.returns

@@ -1,8 +1,5 @@
-use Rattle.std.proofs.Common.{◌≡◌, ◌++◌, ℕ, List, codes, string_bytes, sym, ◌∙◌, ap, subst}
-use Rattle.std.specs.Prelude.{IfOk}
-use Rattle.json.specs.Json.{Json, object}
-use Rattle.json.specs.Value.{value_view, members_view}
-use Rattle.json.proofs.Trees.{view-Object}
+use Rattle.std.{proofs.Common.{◌≡◌, ◌++◌, ℕ, List, codes, string_bytes, sym, ◌∙◌, ap, subst}, specs.Prelude.{IfOk}}
+use Rattle.json.{specs.Json.{Json, object}, specs.Value.{value_view, members_view}, proofs.Trees.{view-Object}}
 use Rattle.reading_texts.specs.TroubleLines.{key_at, part_step}
 use Rattle.reading_texts.proofs.twice.part_step.Goals as goal
 

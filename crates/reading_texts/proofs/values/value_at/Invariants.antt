@@ -1,6 +1,5 @@
 use Rattle.std.proofs.Common.{◌≡◌, map, drop, option_map, option_and_then}
-use Rattle.net_plan.specs.Finding.{step_value}
-use Rattle.net_plan.specs.Trees.{view}
+use Rattle.net_plan.{specs.Finding.{step_value}, specs.Trees.{view}}
 use Rattle.net_pointers.specs.Pointers.{value_at}
 use Rattle.reading_texts.proofs.values.value_at.Given as goal
 

@@ -1,7 +1,6 @@
 use Rattle.std.proofs.Common.{◌≡◌, ap, map, string_bytes, rules}
 use Rattle.net_plan.specs.Finding.{step_value}
-use Rattle.reading_texts.specs.ReadingLines.{place_text}
-use Rattle.reading_texts.proofs.DoubledTold.{value_told}
+use Rattle.reading_texts.{specs.ReadingLines.{place_text}, proofs.DoubledTold.{value_told}}
 use Rattle.reading_texts.proofs.values.value_line.Goals as goal
 
 pub returns : goal.returns

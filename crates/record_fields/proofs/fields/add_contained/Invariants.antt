@@ -1,8 +1,6 @@
 use Rattle.std.proofs.Common.{◌≡◌, ◌++◌, map, length}
-use Rattle.pdr_record.specs.Lists.{entities_value}
-use Rattle.pdr_record.specs.ListsLeft.{entities_left}
-use Rattle.record_fields.specs.Meanings.{named_of}
-use Rattle.record_fields.specs.Named.{contained_named}
+use Rattle.pdr_record.{specs.Lists.{entities_value}, specs.ListsLeft.{entities_left}}
+use Rattle.record_fields.{specs.Meanings.{named_of}, specs.Named.{contained_named}}
 use Rattle.record_fields.proofs.fields.add_contained.Given as goal
 
 abbrev pub invariant-loop-contained : goal.invariant-loop-contained

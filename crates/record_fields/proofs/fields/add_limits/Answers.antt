@@ -1,7 +1,6 @@
 use Rattle.std.proofs.Common.{ap, ◌∙◌}
 use Rattle.pdr_record.specs.Values.{ranges_value}
-use Rattle.record_fields.specs.Named.{ranges_named}
-use Rattle.record_fields.proofs.Adding.{three}
+use Rattle.record_fields.{specs.Named.{ranges_named}, proofs.Adding.{three}}
 use Rattle.record_fields.proofs.fields.add_limits.Goals as goal
 
 pub returns : goal.returns

@@ -1,7 +1,6 @@
 use Rattle.std.proofs.Common.{rules, ◌≡◌, ap, ◌∙◌, [], ◌∷◌, codes}
 use Rattle.pdr_record.specs.Numbers.{size_code}
-use Rattle.record_fields.specs.Named.{number, sized}
-use Rattle.record_fields.proofs.Adding.{three}
+use Rattle.record_fields.{specs.Named.{number, sized}, proofs.Adding.{three}}
 use Rattle.record_fields.proofs.fields.add_sizes.Goals as goal
 
 pub returns : goal.returns

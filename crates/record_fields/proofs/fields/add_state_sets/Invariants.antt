@@ -1,8 +1,6 @@
 use Rattle.std.proofs.Common.{◌≡◌, ◌++◌, map, length}
-use Rattle.pdr_record.specs.Lists.{state_sets_value}
-use Rattle.pdr_record.specs.ListsLeft.{state_sets_left}
-use Rattle.record_fields.specs.Meanings.{named_of}
-use Rattle.record_fields.specs.Named.{state_set_named}
+use Rattle.pdr_record.{specs.Lists.{state_sets_value}, specs.ListsLeft.{state_sets_left}}
+use Rattle.record_fields.{specs.Meanings.{named_of}, specs.Named.{state_set_named}}
 use Rattle.record_fields.proofs.fields.add_state_sets.Given as goal
 
 abbrev pub invariant-loop-set : goal.invariant-loop-set

@@ -1,7 +1,5 @@
 use Rattle.std.proofs.Common.{rules, string_bytes, map}
-use Rattle.record_fields.specs.Meanings.{named_of}
-use Rattle.record_fields.specs.Said.{IsSaidOf}
-use Rattle.record_fields.proofs.Adding.{all_more, all_words}
+use Rattle.record_fields.{specs.Meanings.{named_of}, specs.Said.{IsSaidOf}, proofs.Adding.{all_more, all_words}}
 use Rattle.record_fields.proofs.said.says_all.Goals as goal
 
 pub loop-word-preserved : goal.loop-word-preserved

@@ -1,8 +1,5 @@
-use Rattle.std.proofs.Common.{subst}
-use Rattle.std.specs.Prelude.{IfOk}
-use Rattle.std.specs.Cow.{cow_str_bytes}
-use Rattle.plan_values.specs.declared.certificate.Certificate.{Certificate}
-use Rattle.plan_values.specs.declared.plan.Plan.{Plan}
+use Rattle.std.{proofs.Common.{subst}, specs.Prelude.{IfOk}, specs.Cow.{cow_str_bytes}}
+use Rattle.plan_values.{specs.declared.certificate.Certificate.{Certificate}, specs.declared.plan.Plan.{Plan}}
 use Rattle.command_answers.specs.declared.answer.Answer.{Answer}
 use Rattle.report_commands.specs.Reporting.{ReportsWith}
 use Rattle.report_commands.proofs.reports.report_with.Goals as goal

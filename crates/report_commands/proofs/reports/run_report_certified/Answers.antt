@@ -1,5 +1,4 @@
-use Rattle.std.proofs.Common.{refl}
-use Rattle.std.proofs.lemmas.Result.{IfOk-weaker, IfErr-weaker}
+use Rattle.std.{proofs.Common.{refl}, proofs.lemmas.Result.{IfOk-weaker, IfErr-weaker}}
 use Rattle.command_answers.proofs.Told.{concludes, concludes_unread, memory_lacks}
 use Rattle.report_commands.proofs.reports.run_report_certified.Goals as goal
 

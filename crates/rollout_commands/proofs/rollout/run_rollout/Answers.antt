@@ -1,5 +1,4 @@
-use Rattle.std.proofs.Common.{refl}
-use Rattle.std.proofs.lemmas.Result.{IfOk-weaker}
+use Rattle.std.{proofs.Common.{refl}, proofs.lemmas.Result.{IfOk-weaker}}
 use Rattle.rollout_commands.proofs.RolledOut.{never_unread}
 use Rattle.command_answers.proofs.Told.{concludes_made, concludes_unread}
 use Rattle.rollout_commands.proofs.rollout.run_rollout.Goals as goal

@@ -1,7 +1,6 @@
 use Rattle.std.proofs.Common.{◌≡◌}
-use Rattle.command_answers.specs.Answers.{stream}
+use Rattle.command_answers.{specs.Answers.{stream}, proofs.Told.{concludes}}
 use Rattle.rollout_commands.proofs.Written.{kept_so}
-use Rattle.command_answers.proofs.Told.{concludes}
 use Rattle.rollout_commands.proofs.writing.run_rollout_written.Goals as goal
 
 pub returns-clause-concludes : goal.returns-clause-concludes

@@ -1,7 +1,5 @@
-use Rattle.std.proofs.Common.{◌≡◌, ◌+◌, ◌++◌, map, take, ap, sym, ◌∙◌, subst}
-use Rattle.std.proofs.lemmas.List.{map-append}
-use Rattle.step_files.specs.StepFiles.{AreFilesAlong, file_value}
-use Rattle.step_files.proofs.Along.{files_up_to}
+use Rattle.std.{proofs.Common.{◌≡◌, ◌+◌, ◌++◌, map, take, ap, sym, ◌∙◌, subst}, proofs.lemmas.List.{map-append}}
+use Rattle.step_files.{specs.StepFiles.{AreFilesAlong, file_value}, proofs.Along.{files_up_to}}
 use Rattle.step_files.proofs.files.files_along.Goals as goal
 
 pub loop-index-preserved : goal.loop-index-preserved

@@ -1,9 +1,6 @@
-use Rattle.std.proofs.Common.{◌≡◌, length, map, Some, refl, sym, subst}
-use Rattle.std.specs.Prelude.{slice_get}
-use Rattle.std.proofs.lemmas.Option.{slice_get_read}
+use Rattle.std.{proofs.Common.{◌≡◌, length, map, Some, refl, sym, subst}, specs.Prelude.{slice_get}, proofs.lemmas.Option.{slice_get_read}}
 use Rattle.net_rollout.specs.Steps.{IsCertified}
-use Rattle.step_files.specs.StepFiles.{file_value}
-use Rattle.step_files.proofs.Along.{certified_at, files_there}
+use Rattle.step_files.{specs.StepFiles.{file_value}, proofs.Along.{certified_at, files_there}}
 use Rattle.step_files.proofs.files.files_at.Goals as goal
 
 pub files_of_step-requires : goal.files_of_step-requires

@@ -1,6 +1,4 @@
-use Rattle.std.proofs.Common.{◌≡◌, ◌-◌, ◌<◌, suc, length, take, Some, ap, refl, sym, ◌∙◌, arith}
-use Rattle.std.specs.Prelude.{slice_get}
-use Rattle.std.proofs.lemmas.Option.{slice_get_read}
+use Rattle.std.{proofs.Common.{◌≡◌, ◌-◌, ◌<◌, suc, length, take, Some, ap, refl, sym, ◌∙◌, arith}, specs.Prelude.{slice_get}, proofs.lemmas.Option.{slice_get_read}}
 use Rattle.net_rollout.specs.Steps.{last_plan}
 use Rattle.step_files.proofs.Along.{last_taken}
 use Rattle.step_files.proofs.files.plan_before.Goals as goal

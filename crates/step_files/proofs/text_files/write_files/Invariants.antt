@@ -1,6 +1,5 @@
 use Rattle.std.proofs.Common.{map, take}
-use Rattle.step_files.specs.StepFiles.{file_value}
-use Rattle.step_files.specs.Writes.{WritesAll, writes}
+use Rattle.step_files.{specs.StepFiles.{file_value}, specs.Writes.{WritesAll, writes}}
 use Rattle.step_files.proofs.text_files.write_files.Given as goal
 
 abbrev pub invariant-loop-index : goal.invariant-loop-index

@@ -1,7 +1,6 @@
 use Rattle.std.proofs.Common.{arith}
-use Rattle.bus_captures.proofs.LineLaws.{behind_is}
+use Rattle.bus_captures.{proofs.LineLaws.{behind_is}, proofs.sort.Sort.behind.Goals.{then-loop-at-test+else-not-has, else-loop-at-test}}
 use Rattle.bus_captures.proofs.sort.Sort.behind.Goals as goal
-use Rattle.bus_captures.proofs.sort.Sort.behind.Goals.{then-loop-at-test+else-not-has, else-loop-at-test}
 
 pub returns-clause-place : goal.returns-clause-place
 returns-clause-place c =

@@ -1,5 +1,4 @@
-use Rattle.std.proofs.Common.{◌≡◌, map, take, string_bytes}
-use Rattle.std.specs.List.{flat_map}
+use Rattle.std.{proofs.Common.{◌≡◌, map, take, string_bytes}, specs.List.{flat_map}}
 use Rattle.byte_commands.specs.Worded.{cleaned}
 use Rattle.byte_commands.proofs.worded.cleaned.cleaned_text.Given as goal
 

@@ -1,6 +1,4 @@
-use Rattle.std.proofs.Common.{rules, ◌≡◌, true}
-use Rattle.std.specs.Char.{is_ascii_digit}
-use Rattle.std.specs.List.{list_all}
+use Rattle.std.{proofs.Common.{rules, ◌≡◌, true}, specs.Char.{is_ascii_digit}, specs.List.{list_all}}
 use Rattle.command_answers.proofs.Ends.{no_number}
 use Rattle.command_answers.proofs.naming.ends.eid_of_word.Goals as goal
 

@@ -1,8 +1,6 @@
 use Rattle.std.proofs.Common.{◌≢◌, refl}
 use Rattle.mctp_transport.specs.Packets.{packet_value_of}
-use Rattle.emulated_node.specs.ReceivedValues.{received_value}
-use Rattle.emulated_node.specs.Standing.{setting_of}
-use Rattle.emulated_node.proofs.Giving.{on_receives}
+use Rattle.emulated_node.{specs.ReceivedValues.{received_value}, specs.Standing.{setting_of}, proofs.Giving.{on_receives}}
 use Rattle.emulated_node.proofs.emulated.Emulated.receive.Goals as goal
 
 pub returns-in_ok-received-in-Forward-clause-receives : goal.returns-in_ok-received-in-Forward-clause-receives

@@ -1,15 +1,7 @@
-use Rattle.std.proofs.Common.{refl, subst, sym}
-use Rattle.std.specs.Prelude.{option_map}
+use Rattle.std.{proofs.Common.{refl, subst, sym}, specs.Prelude.{option_map}}
 use Rattle.mctp_control.specs.Devices.{device_value}
-use Rattle.mctp_transport.specs.Packets.{packet_value_of}
-use Rattle.mctp_transport.specs.Hearing.{Hears}
-use Rattle.mctp_transport.specs.Heard.{heard_answer}
-use Rattle.emulated_node.specs.Nodes.{NodeState}
-use Rattle.emulated_node.specs.ReceivedValues.{received_value}
-use Rattle.emulated_node.specs.Receiving.{with_packet}
-use Rattle.emulated_node.specs.Standing.{setting_of}
-use Rattle.emulated_node.specs.Termini.{terminus_value}
-use Rattle.emulated_node.proofs.Giving.{whole_receives}
+use Rattle.mctp_transport.{specs.Packets.{packet_value_of}, specs.Hearing.{Hears}, specs.Heard.{heard_answer}}
+use Rattle.emulated_node.{specs.Nodes.{NodeState}, specs.ReceivedValues.{received_value}, specs.Receiving.{with_packet}, specs.Standing.{setting_of}, specs.Termini.{terminus_value}, proofs.Giving.{whole_receives}}
 use Rattle.emulated_node.proofs.emulated.Emulated.take_in.Goals as goal
 
 pub returns-clause-takes : goal.returns-clause-takes

@@ -1,6 +1,5 @@
-use Rattle.command_answers.specs.Answers.{stream}
+use Rattle.command_answers.{specs.Answers.{stream}, proofs.GivenTexts.{gave_plan}}
 use Rattle.explain_commands.proofs.Explained.{of_both, of_neither}
-use Rattle.command_answers.proofs.GivenTexts.{gave_plan}
 use Rattle.explain_commands.proofs.explain.certified.answer_explain_certified.Goals as goal
 
 pub returns-in-Ok-clause-answers : goal.returns-in-Ok-clause-answers

@@ -1,8 +1,6 @@
-use Rattle.std.proofs.Common.{subst, sym}
-use Rattle.std.specs.Cow.{cow_str_bytes}
+use Rattle.std.{proofs.Common.{subst, sym}, specs.Cow.{cow_str_bytes}}
 use Rattle.command_answers.specs.declared.status.Status.{Status}
-use Rattle.explain_commands.specs.Explaining.{IsSummedUp, IsBothExplained}
-use Rattle.explain_commands.proofs.Explained.{explained_so}
+use Rattle.explain_commands.{specs.Explaining.{IsSummedUp, IsBothExplained}, proofs.Explained.{explained_so}}
 use Rattle.explain_commands.proofs.explain.certified.answer_of_both.Goals as goal
 
 pub returns-in_ok-sound_text-in-Ok-clause-answers : goal.returns-in_ok-sound_text-in-Ok-clause-answers

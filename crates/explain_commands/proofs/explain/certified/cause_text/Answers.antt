@@ -1,6 +1,6 @@
 use Rattle.std.proofs.Common.{string_bytes, sym, subst}
-use Rattle.net_rules.specs.declared.certify_error.CertifyError.TheVariants as error
 use Rattle.explain_commands.specs.Explaining.{AreEditsTold}
+use Rattle.net_rules.specs.declared.certify_error.CertifyError.TheVariants as error
 use Rattle.explain_commands.proofs.explain.certified.cause_text.Goals as goal
 
 pub returns : goal.returns

@@ -1,9 +1,7 @@
-use Rattle.std.proofs.Common.{◌≡◌, ◌++◌, ◌∙◌, List, ℕ, Some, string_bytes, ap, subst}
-use Rattle.std.specs.Prelude.{IfOk}
-use Rattle.net_rules.specs.declared.certify_error.CertifyError.TheVariants as error
-use Rattle.explain_commands.specs.Explaining.{AreMoreTold}
+use Rattle.std.{proofs.Common.{◌≡◌, ◌++◌, ◌∙◌, List, ℕ, Some, string_bytes, ap, subst}, specs.Prelude.{IfOk}}
+use Rattle.explain_commands.{specs.Explaining.{AreMoreTold}, proofs.Explained.{fault_written}}
 use Rattle.fault_texts.specs.Places.{IsPlaceTold, obstacle_pointer}
-use Rattle.explain_commands.proofs.Explained.{fault_written}
+use Rattle.net_rules.specs.declared.certify_error.CertifyError.TheVariants as error
 use Rattle.explain_commands.proofs.explain.certified.fault_text.Goals as goal
 
 pub returns : goal.returns

@@ -1,6 +1,5 @@
-use Rattle.command_answers.specs.Answers.{stream}
+use Rattle.command_answers.{specs.Answers.{stream}, proofs.GivenTexts.{gave_plan}}
 use Rattle.explain_commands.proofs.ExplainedEvents.{with_plan, without_plan}
-use Rattle.command_answers.proofs.GivenTexts.{gave_plan}
 use Rattle.explain_commands.proofs.explain.events.answer_explain_events.Goals as goal
 
 pub returns-in-Ok-clause-answers : goal.returns-in-Ok-clause-answers

@@ -1,10 +1,6 @@
-use Rattle.std.proofs.Common.{subst, sym}
-use Rattle.std.specs.Cow.{cow_str_bytes}
-use Rattle.command_answers.specs.Answers.{stream}
-use Rattle.command_answers.specs.declared.status.Status.{Status}
-use Rattle.explain_commands.specs.Explaining.{IsSummedUp}
-use Rattle.explain_commands.specs.ExplainingEvents.{AreEventsExplained}
-use Rattle.explain_commands.proofs.ExplainedEvents.{no_events}
+use Rattle.std.{proofs.Common.{subst, sym}, specs.Cow.{cow_str_bytes}}
+use Rattle.command_answers.{specs.Answers.{stream}, specs.declared.status.Status.{Status}}
+use Rattle.explain_commands.{specs.Explaining.{IsSummedUp}, specs.ExplainingEvents.{AreEventsExplained}, proofs.ExplainedEvents.{no_events}}
 use Rattle.explain_commands.proofs.explain.events.answer_of_events.Goals as goal
 
 pub returns-in_ok-sound_text-in-Ok-clause-answers : goal.returns-in_ok-sound_text-in-Ok-clause-answers

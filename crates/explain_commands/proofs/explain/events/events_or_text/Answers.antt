@@ -1,5 +1,4 @@
-use Rattle.net_plan.specs.EventReading.{events}
-use Rattle.net_plan.specs.EventText.{AreEventsOf}
+use Rattle.net_plan.{specs.EventReading.{events}, specs.EventText.{AreEventsOf}}
 use Rattle.plan_values.specs.PlanValues.{plan_value, node_names}
 use Rattle.net_pointers.specs.Asks.{events_text}
 use Rattle.command_answers.proofs.UnreadInputs.{unread_by}

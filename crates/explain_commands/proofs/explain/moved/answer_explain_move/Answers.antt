@@ -1,5 +1,4 @@
-use Rattle.command_answers.specs.Answers.{stream}
-use Rattle.command_answers.proofs.GivenTexts.{gave_plan}
+use Rattle.command_answers.{specs.Answers.{stream}, proofs.GivenTexts.{gave_plan}}
 use Rattle.explain_commands.proofs.ExplainedMoves.{of_before, without_before}
 use Rattle.explain_commands.proofs.explain.moved.answer_explain_move.Goals as goal
 

@@ -1,5 +1,4 @@
-use Rattle.explain_commands.specs.MoveRows.{file_of}
-use Rattle.explain_commands.proofs.ExplainedMoves.{of_after, without_after}
+use Rattle.explain_commands.{specs.MoveRows.{file_of}, proofs.ExplainedMoves.{of_after, without_after}}
 use Rattle.explain_commands.proofs.explain.moved.answer_of_new.Goals as goal
 
 pub returns-in-Ok-clause-answers : goal.returns-in-Ok-clause-answers

@@ -1,8 +1,6 @@
-use Rattle.std.proofs.Common.{string_bytes, subst, sym}
-use Rattle.std.specs.Cow.{cow_str_bytes}
+use Rattle.std.{proofs.Common.{string_bytes, subst, sym}, specs.Cow.{cow_str_bytes}}
 use Rattle.command_answers.specs.declared.status.Status.{Status}
-use Rattle.explain_commands.specs.ExplainingMoves.{IsMoveExplained, IsSoundMoveText}
-use Rattle.explain_commands.specs.MoveRows.{file_of}
+use Rattle.explain_commands.{specs.ExplainingMoves.{IsMoveExplained, IsSoundMoveText}, specs.MoveRows.{file_of}}
 use Rattle.explain_commands.proofs.explain.moved.answer_of_plans.Goals as goal
 
 pub returns-in_ok-sound_text-in-Ok-clause-answers : goal.returns-in_ok-sound_text-in-Ok-clause-answers

@@ -1,8 +1,6 @@
 use Rattle.std.proofs.Common.{string_bytes}
-use Rattle.fault_texts.specs.RuledOutMoves.{IsMoveRuledOutBy}
-use Rattle.fault_texts.proofs.RuledOutMoves.{not_memory_of_move}
-use Rattle.explain_commands.specs.MoveRows.{file_of}
-use Rattle.explain_commands.proofs.ExplainedMoves.{move_written}
+use Rattle.fault_texts.{specs.RuledOutMoves.{IsMoveRuledOutBy}, proofs.RuledOutMoves.{not_memory_of_move}}
+use Rattle.explain_commands.{specs.MoveRows.{file_of}, proofs.ExplainedMoves.{move_written}}
 use Rattle.explain_commands.proofs.explain.moved.move_text.Goals as goal
 
 pub returns : goal.returns

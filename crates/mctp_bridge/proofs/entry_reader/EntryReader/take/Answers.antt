@@ -1,9 +1,5 @@
-use Rattle.std.proofs.Common.{◌≡◌, ◌≢◌, true, Option, None, Some, option_map, sym, ap, ◌∙◌, inr}
-use Rattle.std.specs.Prelude.{is_some}
-use Rattle.std.proofs.lemmas.Bool.{false≢true}
-use Rattle.mctp_control.specs.declared.header.ControlInstanceId.{ControlInstanceId}
-use Rattle.mctp_control.specs.Headers.{header_value}
-use Rattle.mctp_control.specs.EntriesValue.{entries_of}
+use Rattle.std.{proofs.Common.{◌≡◌, ◌≢◌, true, Option, None, Some, option_map, sym, ap, ◌∙◌, inr}, specs.Prelude.{is_some}, proofs.lemmas.Bool.{false≢true}}
+use Rattle.mctp_control.{specs.declared.header.ControlInstanceId.{ControlInstanceId}, specs.Headers.{header_value}, specs.EntriesValue.{entries_of}}
 use Rattle.mctp_bridge.proofs.entry_reader.EntryReader.take.Goals as goal
 
 is_there : (o : Option ControlInstanceId) (id : ControlInstanceId) → o ≡ Some id → option_map (λ (id : ControlInstanceId). id.value) o ≢ None

@@ -1,11 +1,6 @@
-use Rattle.std.proofs.Common.{◌+◌, sym, arith}
-use Rattle.std.proofs.lemmas.Bool.{cases_lt}
-use Rattle.std.proofs.Common.{inl, inr}
-use Rattle.std.proofs.lemmas.Option.{none-some}
-use Rattle.mctp_control.specs.Pools.{pool_value}
-use Rattle.mctp_control.proofs.PoolLaws.{out_ends, free_goes_on, run_found}
+use Rattle.std.{proofs.Common.{◌+◌, sym, arith, inl, inr}, proofs.lemmas.Bool.{cases_lt}, proofs.lemmas.Option.{none-some}}
+use Rattle.mctp_control.{specs.Pools.{pool_value}, proofs.PoolLaws.{out_ends, free_goes_on, run_found}, proofs.eid_pool.EidPool.lowest_run.Goals.{then-self-eid, else-self-eid+else-eid-first}}
 use Rattle.mctp_control.proofs.eid_pool.EidPool.lowest_run.Goals as goal
-use Rattle.mctp_control.proofs.eid_pool.EidPool.lowest_run.Goals.{then-self-eid, else-self-eid+else-eid-first}
 
 pub returns-then-eid-first-clause-none : goal.returns-then-eid-first-clause-none
 returns-then-eid-first-clause-none c =

@@ -1,5 +1,4 @@
-use Rattle.std.proofs.Common.{◌≡◌, ◌-◌, length, take, drop, arith}
-use Rattle.std.proofs.lemmas.List.{take_all, length-drop}
+use Rattle.std.{proofs.Common.{◌≡◌, ◌-◌, length, take, drop, arith}, proofs.lemmas.List.{take_all, length-drop}}
 use Rattle.mctp_routing.proofs.PieceWholes.{are_pieces}
 use Rattle.mctp_routing.proofs.pieces.Pieces.of.Goals as goal
 

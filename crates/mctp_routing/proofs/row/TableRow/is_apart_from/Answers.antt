@@ -1,7 +1,5 @@
 use Rattle.std.proofs.Common.{ℕ, ◌↔◌, IsTrue, subst, arith}
-use Rattle.mctp_transport.specs.declared.eid_run.EidRun.{EidRun}
-use Rattle.mctp_transport.specs.EidRuns.{IsInRun}
-use Rattle.mctp_transport.proofs.EidRuns.{apart_everywhere}
+use Rattle.mctp_transport.{specs.declared.eid_run.EidRun.{EidRun}, specs.EidRuns.{IsInRun}, proofs.EidRuns.{apart_everywhere}}
 use Rattle.mctp_routing.specs.Rows.{AreApart}
 use Rattle.mctp_routing.proofs.row.TableRow.is_apart_from.Goals as goal
 

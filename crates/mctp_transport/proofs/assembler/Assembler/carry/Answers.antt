@@ -1,10 +1,5 @@
-use Rattle.std.proofs.Common.{◌≡◌, sym, ◌∙◌, Some}
-use Rattle.std.specs.Prelude.{position}
-use Rattle.mctp_transport.specs.PacketValues.{key_of}
-use Rattle.mctp_transport.specs.Packets.{packet_value_of}
-use Rattle.mctp_transport.specs.Tables.{is_at}
-use Rattle.mctp_transport.specs.Assembly.{table_of, assembler_limit}
-use Rattle.mctp_transport.proofs.AssemblyLaws.{carried_there}
+use Rattle.std.{proofs.Common.{◌≡◌, sym, ◌∙◌, Some}, specs.Prelude.{position}}
+use Rattle.mctp_transport.{specs.PacketValues.{key_of}, specs.Packets.{packet_value_of}, specs.Tables.{is_at}, specs.Assembly.{table_of, assembler_limit}, proofs.AssemblyLaws.{carried_there}}
 use Rattle.mctp_transport.proofs.assembler.Assembler.carry.Goals as goal
 
 pub returns-in-Some-clause-table : goal.returns-in-Some-clause-table

@@ -1,13 +1,5 @@
-use Rattle.std.proofs.Common.{◌<◌, ◌≤◌, ◌*◌, length, Option, refl, sym, ap, subst, ◌∙◌}
-use Rattle.std.specs.Prelude.{IfSome, slice_set}
-use Rattle.std.proofs.lemmas.List.{length-set}
-use Rattle.std.proofs.lemmas.List.Elements.{All-set}
-use Rattle.std.proofs.lemmas.Option.{slice_get_read}
-use Rattle.mctp_transport.specs.declared.assembler.open_message.OpenMessage.{OpenMessage}
-use Rattle.mctp_transport.specs.Assembly.{partial_of, table_of}
-use Rattle.mctp_transport.specs.Parts.{part}
-use Rattle.mctp_transport.proofs.KeyNumberLaws.{number_kept}
-use Rattle.mctp_transport.proofs.Parts.{rows_put, own_put}
+use Rattle.std.{proofs.Common.{◌<◌, ◌≤◌, ◌*◌, length, Option, refl, sym, ap, subst, ◌∙◌}, specs.Prelude.{IfSome, slice_set}, proofs.lemmas.List.{length-set}, proofs.lemmas.List.Elements.{All-set}, proofs.lemmas.Option.{slice_get_read}}
+use Rattle.mctp_transport.{specs.declared.assembler.open_message.OpenMessage.{OpenMessage}, specs.Assembly.{partial_of, table_of}, specs.Parts.{part}, proofs.KeyNumberLaws.{number_kept}, proofs.Parts.{rows_put, own_put}}
 use Rattle.mctp_transport.proofs.assembler.Assembler.extend.Goals as goal
 
 pub returns-clause-table : goal.returns-clause-table

@@ -1,12 +1,5 @@
-use Rattle.std.proofs.Common.{refl, sym, ap, ◌∙◌, Some, None, Option}
-use Rattle.std.specs.Prelude.{slice_set}
-use Rattle.std.proofs.lemmas.Option.{none-some}
-use Rattle.mctp_transport.specs.Packets.{packet_value_of}
-use Rattle.mctp_transport.specs.Hearing.{Whole}
-use Rattle.mctp_transport.specs.Tables.{Partial}
-use Rattle.mctp_transport.specs.Assembly.{table_of, partial_of}
-use Rattle.mctp_transport.specs.Parts.{part}
-use Rattle.mctp_transport.proofs.AssemblyLaws.{at_slot, held_with, leaves_nothing, leaves_whole, leaves_more, next_is, whole_is}
+use Rattle.std.{proofs.Common.{refl, sym, ap, ◌∙◌, Some, None, Option}, specs.Prelude.{slice_set}, proofs.lemmas.Option.{none-some}}
+use Rattle.mctp_transport.{specs.Packets.{packet_value_of}, specs.Hearing.{Whole}, specs.Tables.{Partial}, specs.Assembly.{table_of, partial_of}, specs.Parts.{part}, proofs.AssemblyLaws.{at_slot, held_with, leaves_nothing, leaves_whole, leaves_more, next_is, whole_is}}
 use Rattle.mctp_transport.proofs.assembler.Assembler.go_on.Goals as goal
 
 -- a slot with nothing open isn't held

@@ -1,6 +1,5 @@
 use Rattle.std.proofs.Common.{◌==◌, arith}
-use Rattle.mctp_transport.specs.KeyNumbers.{slot_number}
-use Rattle.mctp_transport.proofs.KeyNumberLaws.{position_within, position_past}
+use Rattle.mctp_transport.{specs.KeyNumbers.{slot_number}, proofs.KeyNumberLaws.{position_within, position_past}}
 use Rattle.mctp_transport.proofs.assembler.Assembler.slot_of.Goals as goal
 
 pub returns-then-index-len-clause-index : goal.returns-then-index-len-clause-index

@@ -1,9 +1,5 @@
 use Rattle.std.proofs.Common.{sym, ap, ◌∙◌, ◌==◌, position, ℕ}
-use Rattle.mctp_transport.specs.Packets.{key_value}
-use Rattle.mctp_transport.specs.Tables.{is_at}
-use Rattle.mctp_transport.specs.KeyNumbers.{key_number, slot_number}
-use Rattle.mctp_transport.proofs.AssemblyLaws.{position_rows}
-use Rattle.mctp_transport.proofs.KeyNumberLaws.{at_number}
+use Rattle.mctp_transport.{specs.Packets.{key_value}, specs.Tables.{is_at}, specs.KeyNumbers.{key_number, slot_number}, proofs.AssemblyLaws.{position_rows}, proofs.KeyNumberLaws.{at_number}}
 use Rattle.mctp_transport.proofs.assembler.Assembler.slot_of_key.Goals as goal
 
 pub returns-clause-index : goal.returns-clause-index

@@ -1,7 +1,5 @@
 use Rattle.std.proofs.Common.{◌∙◌}
-use Rattle.mctp_transport.specs.Packets.{key_value, packet_value_of}
-use Rattle.mctp_transport.specs.Steps.{step_answer}
-use Rattle.mctp_transport.proofs.AssemblyLaws.{start_takes}
+use Rattle.mctp_transport.{specs.Packets.{key_value, packet_value_of}, specs.Steps.{step_answer}, proofs.AssemblyLaws.{start_takes}}
 use Rattle.mctp_transport.proofs.assembler.Assembler.take.Goals as goal
 
 pub returns-then-packet-clause-takes : goal.returns-then-packet-clause-takes

@@ -1,7 +1,5 @@
-use Rattle.std.proofs.Common.{length, arith, ap}
-use Rattle.std.proofs.lemmas.Bool.Decides.{nat_tests}
-use Rattle.mctp_transport.specs.Packets.{packet_value}
-use Rattle.mctp_transport.proofs.PacketsLeftLaws.{cut-none, cut-next}
+use Rattle.std.{proofs.Common.{length, arith, ap}, proofs.lemmas.Bool.Decides.{nat_tests}}
+use Rattle.mctp_transport.{specs.Packets.{packet_value}, proofs.PacketsLeftLaws.{cut-none, cut-next}}
 use Rattle.mctp_transport.proofs.cutting.PacketsIterator.next.Goals as goal
 
 pub returns-then-is_empty-clause-steps : goal.returns-then-is_empty-clause-steps

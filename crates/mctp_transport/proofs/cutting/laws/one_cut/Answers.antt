@@ -1,5 +1,4 @@
-use Rattle.mctp_transport.proofs.Cuts.{same_cuts}
-use Rattle.mctp_transport.proofs.PacketLists.{same_packets}
+use Rattle.mctp_transport.{proofs.Cuts.{same_cuts}, proofs.PacketLists.{same_packets}}
 use Rattle.mctp_transport.proofs.cutting.laws.one_cut.Goals as goal
 
 pub returns-clause-payloads : goal.returns-clause-payloads

@@ -1,13 +1,5 @@
-use Rattle.std.proofs.Common.{◌≡◌, ℕ, ◌≤◌, List, length, refl, sym, ap, ◌∙◌, arith}
-use Rattle.std.specs.Prelude.{All, Option, Some, None, IsSome, is_some, Bool, true, not}
-use Rattle.std.proofs.lemmas.Bool.{false≢true}
-use Rattle.std.proofs.lemmas.Iterator.Consumers.{YieldsList-from_first, YieldsList-so_far, YieldsList-turn, YieldsList-end}
-use Rattle.mctp_routing.specs.declared.row.TableRow.{TableRow}
-use Rattle.mctp_routing.specs.declared.row.Hop.{Hop}
-use Rattle.mctp_routing.specs.declared.pieces.Piece.{Piece}
-use Rattle.mctp_routing.specs.Rows.{IsNext}
-use Rattle.mctp_routing.specs.Pieces.{PieceValue, piece_value, LiesIn, IsCovered}
-use Rattle.mctp_routing.proofs.PieceLoops.{at_place, yielded_hold, holds_before, holds_throughout, inside_interval}
+use Rattle.std.{proofs.Common.{◌≡◌, ℕ, ◌≤◌, List, length, refl, sym, ap, ◌∙◌, arith}, specs.Prelude.{All, Option, Some, None, IsSome, is_some, Bool, true, not}, proofs.lemmas.Bool.{false≢true}, proofs.lemmas.Iterator.Consumers.{YieldsList-from_first, YieldsList-so_far, YieldsList-turn, YieldsList-end}}
+use Rattle.mctp_routing.{specs.declared.row.TableRow.{TableRow}, specs.declared.row.Hop.{Hop}, specs.declared.pieces.Piece.{Piece}, specs.Rows.{IsNext}, specs.Pieces.{PieceValue, piece_value, LiesIn, IsCovered}, proofs.PieceLoops.{at_place, yielded_hold, holds_before, holds_throughout, inside_interval}}
 use Rattle.message_tests.proofs.tests.pieces.first_uncovered.Goals as goal
 
 -- the piece's hop is that of its EIDs

@@ -1,8 +1,8 @@
 use Rattle.std.proofs.Common.{◌≢◌, ℕ, List, length, refl, sym}
-use Rattle.plan_values.specs.declared.terminus.PlannedRecord as listed
 use Rattle.net_tables.specs.Repositories.{records_of}
 use Rattle.net_rules.specs.Locators.{IsEidLocator, HasOneByteAsEid}
 use Rattle.net_explained.proofs.Items.{of_item, not_of_item}
+use Rattle.plan_values.specs.declared.terminus.PlannedRecord as listed
 use Rattle.net_explained.proofs.causes.locators.long.Goals as goal
 
 not_one : (r : listed.PlannedRecord) (tid : ℕ) → (value : List ℕ) × IsEidLocator r.bytes.items tid value × (length value ≢ 1) → ¬ HasOneByteAsEid r

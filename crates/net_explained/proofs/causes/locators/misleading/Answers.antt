@@ -1,12 +1,9 @@
-use Rattle.std.proofs.Common.{◌≡◌, ℕ, ◌≤◌, ◌<◌, [], ◌∷◌, length, refl, sym, subst, arith, inl, inr}
-use Rattle.std.proofs.lemmas.Bool.{cases_lt}
-use Rattle.std.proofs.lemmas.Option.{same_Some, none-some, slice_get_past}
+use Rattle.std.{proofs.Common.{◌≡◌, ℕ, ◌≤◌, ◌<◌, [], ◌∷◌, length, refl, sym, subst, arith, inl, inr}, proofs.lemmas.Bool.{cases_lt}, proofs.lemmas.Option.{same_Some, none-some, slice_get_past}}
 use Rattle.plan_values.specs.declared.plan.Plan.{Plan}
-use Rattle.plan_values.specs.declared.terminus.PlannedRecord as listed
-use Rattle.net_tables.specs.Routing.{Holds}
-use Rattle.net_tables.specs.Repositories.{records_of}
+use Rattle.net_tables.{specs.Routing.{Holds}, specs.Repositories.{records_of}}
 use Rattle.net_rules.specs.Locators.{IsEidLocator, IsHeldByTerminus, LocatesTerminus}
 use Rattle.net_explained.proofs.Items.{of_item, not_of_item}
+use Rattle.plan_values.specs.declared.terminus.PlannedRecord as listed
 use Rattle.net_explained.proofs.causes.locators.misleading.Goals as goal
 
 no_holder : (plan : Plan) (n e : ℕ) → length plan.nodes.items ≤ n → ¬ Holds plan n e

@@ -1,6 +1,5 @@
 use Rattle.std.proofs.Common.{arith}
-use Rattle.net_rules.specs.Names.{HaveOneName}
-use Rattle.net_rules.proofs.Beyond.{no_name}
+use Rattle.net_rules.{specs.Names.{HaveOneName}, proofs.Beyond.{no_name}}
 use Rattle.net_explained.proofs.causes.names.earlier_namesake.Goals as goal
 
 pub returns-else-node-len : goal.returns-else-node-len

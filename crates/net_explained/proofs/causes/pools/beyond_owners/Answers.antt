@@ -1,5 +1,4 @@
-use Rattle.std.proofs.Common.{ℕ, ◌∙◌, subst}
-use Rattle.std.proofs.lemmas.Option.{same_Some}
+use Rattle.std.{proofs.Common.{ℕ, ◌∙◌, subst}, proofs.lemmas.Option.{same_Some}}
 use Rattle.net_tables.specs.Ownership.{IsInPool, IsInPoolOf}
 use Rattle.net_rules.specs.Pools.{LiesInOwnersPool}
 use Rattle.net_explained.proofs.PoolFaults.{lies_in}

@@ -1,6 +1,5 @@
-use Rattle.net_tables.specs.Ownership.{IsInPool, IsInPoolOf}
+use Rattle.net_tables.{specs.Ownership.{IsInPool, IsInPoolOf}, proofs.PoolsOf.{in_pool_of, in_no_pool}}
 use Rattle.std.proofs.Common.{ℕ}
-use Rattle.net_tables.proofs.PoolsOf.{in_pool_of, in_no_pool}
 use Rattle.net_explained.proofs.Found.{least_alike}
 use Rattle.net_explained.proofs.causes.pools.least_in_pool_of.Goals as goal
 

@@ -1,6 +1,5 @@
 use Rattle.std.proofs.Common.{◌≡◌, ℕ, ◌<◌}
-use Rattle.net_tables.specs.Routing.{IsBridge}
-use Rattle.net_tables.specs.Ownership.{owner_of, IsInPoolOf}
+use Rattle.net_tables.{specs.Routing.{IsBridge}, specs.Ownership.{owner_of, IsInPoolOf}}
 use Rattle.net_explained.proofs.causes.pools.peer_with.Given as goal
 
 abbrev pub invariant-loop-peer : goal.invariant-loop-peer

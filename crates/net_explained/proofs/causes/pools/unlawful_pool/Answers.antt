@@ -1,7 +1,6 @@
 use Rattle.std.proofs.Common.{refl, sym}
-use Rattle.net_tables.specs.Routing.{IsBridge}
+use Rattle.net_tables.{specs.Routing.{IsBridge}, proofs.PoolsOf.{in_pool_of}}
 use Rattle.net_rules.specs.Pools.{IsPoolInRange}
-use Rattle.net_tables.proofs.PoolsOf.{in_pool_of}
 use Rattle.net_explained.proofs.PoolFaults.{bridge_first, range_next, beyond_owners, meets_earlier, all_lawful, end_within}
 use Rattle.net_explained.proofs.causes.pools.unlawful_pool.Goals as goal
 

@@ -1,10 +1,8 @@
-use Rattle.std.proofs.Common.{◌≡◌, ◌≢◌, ℕ, List, refl, sym, subst}
-use Rattle.std.specs.Prelude.{◌↔◌}
+use Rattle.std.{proofs.Common.{◌≡◌, ◌≢◌, ℕ, List, refl, sym, subst}, specs.Prelude.{◌↔◌}}
 use Rattle.plan_values.specs.declared.terminus.PlannedRecord.{PlannedRecord}
 use Rattle.pdr_repository.specs.Records.{IsRecordOf}
 use Rattle.net_tables.specs.Repositories.{records_of}
-use Rattle.net_explained.specs.Causes.{AreNoRecordFor}
-use Rattle.net_explained.proofs.Items.{of_item, not_of_item}
+use Rattle.net_explained.{specs.Causes.{AreNoRecordFor}, proofs.Items.{of_item, not_of_item}}
 use Rattle.net_explained.proofs.causes.records.unreadable.Goals as goal
 
 pub returns-in-Ok : goal.returns-in-Ok

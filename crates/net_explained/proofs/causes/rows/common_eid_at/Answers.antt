@@ -1,8 +1,6 @@
 use Rattle.plan_values.specs.declared.nodes.Row.{Row}
 use Rattle.net_tables.specs.Routing.{rows_of, Covers}
-use Rattle.net_explained.specs.Rows.{CoversAt}
-use Rattle.net_explained.proofs.Items.{has_item, item_has}
-use Rattle.net_explained.proofs.Found.{least_alike}
+use Rattle.net_explained.{specs.Rows.{CoversAt}, proofs.Items.{has_item, item_has}, proofs.Found.{least_alike}}
 use Rattle.net_explained.proofs.causes.rows.common_eid_at.Goals as goal
 
 pub returns-in-Some : goal.returns-in-Some

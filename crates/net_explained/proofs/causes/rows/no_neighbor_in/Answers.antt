@@ -1,9 +1,6 @@
-use Rattle.std.proofs.Common.{ℕ, ◌≤◌, refl, sym, ◌∙◌, subst, arith, inl, inr}
-use Rattle.std.proofs.lemmas.Bool.{cases_lt}
-use Rattle.std.proofs.lemmas.Option.{same_Some, none-some}
+use Rattle.std.{proofs.Common.{ℕ, ◌≤◌, refl, sym, ◌∙◌, subst, arith, inl, inr}, proofs.lemmas.Bool.{cases_lt}, proofs.lemmas.Option.{same_Some, none-some}}
 use Rattle.plan_values.specs.declared.nodes.Row.{Row}
-use Rattle.net_tables.specs.Routing.{rows_of, IsBridge}
-use Rattle.net_tables.specs.Rows.{IsOnBus, IsJoined, NamesNeighbor}
+use Rattle.net_tables.{specs.Routing.{rows_of, IsBridge}, specs.Rows.{IsOnBus, IsJoined, NamesNeighbor}}
 use Rattle.net_explained.proofs.Items.{not_of_item}
 use Rattle.net_explained.proofs.causes.rows.no_neighbor_in.Goals as goal
 

@@ -1,6 +1,5 @@
 use Rattle.std.proofs.Common.{refl, sym}
-use Rattle.net_tables.specs.Routing.{rows_of}
-use Rattle.net_tables.specs.Rows.{IsInRange}
+use Rattle.net_tables.{specs.Routing.{rows_of}, specs.Rows.{IsInRange}}
 use Rattle.net_explained.proofs.Items.{not_of_item}
 use Rattle.net_explained.proofs.causes.rows.out_of_range.Goals as goal
 

@@ -1,10 +1,6 @@
-use Rattle.std.proofs.Common.{◌≡◌, ℕ, ◌<◌, List, length, get_or, take, Some, refl, sym, ◌∙◌, subst, arith}
-use Rattle.std.specs.Prelude.{slice_get}
-use Rattle.std.proofs.lemmas.List.{get_or-take, length-take}
-use Rattle.std.proofs.lemmas.Option.{slice_get_within, get_or_from_slice_get, slice_get-get_or}
+use Rattle.std.{proofs.Common.{◌≡◌, ℕ, ◌<◌, List, length, get_or, take, Some, refl, sym, ◌∙◌, subst, arith}, specs.Prelude.{slice_get}, proofs.lemmas.List.{get_or-take, length-take}, proofs.lemmas.Option.{slice_get_within, get_or_from_slice_get, slice_get-get_or}}
 use Rattle.plan_values.specs.declared.nodes.Row.{Row}
-use Rattle.net_tables.specs.Routing.{rows_of, Covers}
-use Rattle.net_tables.specs.Rows.{AreApart, IsApartFromEarlier}
+use Rattle.net_tables.{specs.Routing.{rows_of, Covers}, specs.Rows.{AreApart, IsApartFromEarlier}}
 use Rattle.net_explained.proofs.Items.{has_item, of_item, not_of_item}
 use Rattle.net_explained.proofs.causes.rows.overlapped.Goals as goal
 

@@ -1,8 +1,6 @@
 use Rattle.std.proofs.Common.{◌≢◌, ℕ, refl, sym, inl, inr}
-use Rattle.plan_values.specs.declared.plan.Plan.{Plan}
-use Rattle.plan_values.specs.declared.nodes.Row.{Row}
-use Rattle.net_tables.specs.Routing.{rows_of, Covers, Holds, IsBridge, HasRow}
-use Rattle.net_tables.specs.TwoPlans.{one_plan}
+use Rattle.plan_values.{specs.declared.plan.Plan.{Plan}, specs.declared.nodes.Row.{Row}}
+use Rattle.net_tables.{specs.Routing.{rows_of, Covers, Holds, IsBridge, HasRow}, specs.TwoPlans.{one_plan}}
 use Rattle.net_rules.specs.HeldEids.{IsLedOn}
 use Rattle.net_explained.proofs.Items.{not_of_item}
 use Rattle.net_explained.proofs.causes.ways.cut.Goals as goal

@@ -1,6 +1,5 @@
 use Rattle.std.proofs.Common.{Some, rules}
-use Rattle.net_plan.specs.NameIndexes.{noted}
-use Rattle.net_plan.proofs.EventParts.{answer_of}
+use Rattle.net_plan.{specs.NameIndexes.{noted}, proofs.EventParts.{answer_of}}
 use Rattle.net_plan.proofs.event_parts.EventParts.answer.Goals as goal
 
 pub returns : goal.returns

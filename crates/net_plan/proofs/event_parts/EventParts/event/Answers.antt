@@ -1,7 +1,5 @@
 use Rattle.std.proofs.Common.{Some, codes, rules}
-use Rattle.net_plan.specs.NameIndexes.{noted}
-use Rattle.net_plan.proofs.EventParts.{word_here}
-use Rattle.net_plan.proofs.Gathered.{if_some}
+use Rattle.net_plan.{specs.NameIndexes.{noted}, proofs.EventParts.{word_here}, proofs.Gathered.{if_some}}
 use Rattle.net_plan.proofs.event_parts.EventParts.event.Goals as goal
 
 pub returns-in-put : goal.returns-in-put

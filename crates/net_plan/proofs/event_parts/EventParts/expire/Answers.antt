@@ -1,11 +1,7 @@
 use Rattle.std.proofs.Common.{Some, sym, subst, rules}
-use Rattle.net_plan.specs.EventParts.{IsEventBy}
+use Rattle.net_plan.{specs.EventParts.{IsEventBy}, specs.Gathered.{IsPlain}, specs.Trees.{data_of}, specs.NameIndexes.{noted}, proofs.EventParts.{expire_of}}
 use Rattle.json.specs.Json.{object}
 use Rattle.plan_values.specs.EventValues.{expire}
-use Rattle.net_plan.specs.Gathered.{IsPlain}
-use Rattle.net_plan.specs.Trees.{data_of}
-use Rattle.net_plan.specs.NameIndexes.{noted}
-use Rattle.net_plan.proofs.EventParts.{expire_of}
 use Rattle.net_plan.proofs.event_parts.EventParts.expire.Goals as goal
 
 pub returns : goal.returns

@@ -1,6 +1,5 @@
 use Rattle.std.proofs.Common.{Some, rules}
-use Rattle.net_plan.specs.NameIndexes.{noted}
-use Rattle.net_plan.proofs.EventParts.{put_of}
+use Rattle.net_plan.{specs.NameIndexes.{noted}, proofs.EventParts.{put_of}}
 use Rattle.net_plan.proofs.event_parts.EventParts.put.Goals as goal
 
 pub returns : goal.returns

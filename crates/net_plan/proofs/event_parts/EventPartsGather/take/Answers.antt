@@ -1,9 +1,5 @@
 use Rattle.std.proofs.Common.{codes, refl}
-use Rattle.net_plan.specs.EventParts.{event_slots}
-use Rattle.net_plan.specs.EventText.{IsBit}
-use Rattle.net_plan.specs.JsonWords.{IsString, IsName, IsHex, IsTruth, IsNumberWithin}
-use Rattle.net_plan.specs.PlanText.{IsByte, IsWord}
-use Rattle.net_plan.proofs.Gathered.{next_taken}
+use Rattle.net_plan.{specs.EventParts.{event_slots}, specs.EventText.{IsBit}, specs.JsonWords.{IsString, IsName, IsHex, IsTruth, IsNumberWithin}, specs.PlanText.{IsByte, IsWord}, proofs.Gathered.{next_taken}}
 use Rattle.net_plan.proofs.event_parts.EventPartsGather.take.Goals as goal
 
 pub returns-in_ok-next_text-in-do-clause-more : goal.returns-in_ok-next_text-in-do-clause-more

@@ -1,7 +1,5 @@
 use Rattle.std.proofs.Common.{codes, refl}
-use Rattle.net_plan.specs.JsonWords.{IsName, IsNumberWithin}
-use Rattle.net_plan.specs.LevelParts.{level_slots}
-use Rattle.net_plan.proofs.Gathered.{next_taken}
+use Rattle.net_plan.{specs.JsonWords.{IsName, IsNumberWithin}, specs.LevelParts.{level_slots}, proofs.Gathered.{next_taken}}
 use Rattle.net_plan.proofs.level_parts.LevelPartsGather.take.Goals as goal
 
 pub returns-in_ok-next_number_within-in-level-clause-more : goal.returns-in_ok-next_number_within-in-level-clause-more

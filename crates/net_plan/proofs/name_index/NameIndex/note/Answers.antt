@@ -1,7 +1,5 @@
-use Rattle.std.proofs.Common.{rules, true, Some, refl}
-use Rattle.std.proofs.lemmas.Map.Text.{btree_map_updates_str}
-use Rattle.net_plan.specs.NameIndexes.{noted}
-use Rattle.net_plan.proofs.Names.{was_new, noted_now, noted_again}
+use Rattle.std.{proofs.Common.{rules, true, Some, refl}, proofs.lemmas.Map.Text.{btree_map_updates_str}}
+use Rattle.net_plan.{specs.NameIndexes.{noted}, proofs.Names.{was_new, noted_now, noted_again}}
 use Rattle.net_plan.proofs.name_index.NameIndex.note.Goals as goal
 
 pub returns-in-Ok-None-clause-noted : goal.returns-in-Ok-None-clause-noted

@@ -1,10 +1,5 @@
-use Rattle.std.proofs.Common.{rules, ◌≡◌, length, map, take, Some, None, if◌then◌else◌, unwrap_or, take_all, sym, ap, ◌∙◌}
-use Rattle.std.proofs.lemmas.List.{length-map}
-use Rattle.std.specs.Option.{option_or}
-use Rattle.std.specs.Str.{bytes_eq}
-use Rattle.net_plan.specs.Names.{index_of}
-use Rattle.net_plan.specs.NameIndexes.{noted}
-use Rattle.net_plan.proofs.Names.{index_of-take, index_among-of}
+use Rattle.std.{proofs.Common.{rules, ◌≡◌, length, map, take, Some, None, if◌then◌else◌, unwrap_or, take_all, sym, ap, ◌∙◌}, proofs.lemmas.List.{length-map}, specs.Option.{option_or}, specs.Str.{bytes_eq}}
+use Rattle.net_plan.{specs.Names.{index_of}, specs.NameIndexes.{noted}, proofs.Names.{index_of-take, index_among-of}}
 use Rattle.net_plan.proofs.name_index.NameIndex.of.Goals as goal
 
 pub loop-index-preserved : goal.loop-index-preserved

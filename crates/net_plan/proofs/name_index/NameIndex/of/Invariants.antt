@@ -1,7 +1,6 @@
 -- The names that were passed have their index.
 use Rattle.std.proofs.Common.{◌≡◌, ℕ, List, length, map, take}
-use Rattle.net_plan.specs.NameIndexes.{noted}
-use Rattle.net_plan.specs.Names.{index_of}
+use Rattle.net_plan.{specs.NameIndexes.{noted}, specs.Names.{index_of}}
 use Rattle.net_plan.proofs.name_index.NameIndex.of.Given as goal
 
 abbrev pub invariant-loop-index : goal.invariant-loop-index

@@ -1,10 +1,6 @@
 use Rattle.std.proofs.Common.{map, codes, refl, rules}
 use Rattle.json.specs.Json.{object}
-use Rattle.net_plan.specs.Trees.{data_of}
-use Rattle.net_plan.specs.JsonWords.{IsName, IsNumberWithin, IsListOf}
-use Rattle.net_plan.specs.Keys.{places_keys}
-use Rattle.net_plan.specs.NameIndexes.{noted}
-use Rattle.net_plan.proofs.Gathered.{here, all_keys, object_plain, placed_at}
+use Rattle.net_plan.{specs.Trees.{data_of}, specs.JsonWords.{IsName, IsNumberWithin, IsListOf}, specs.Keys.{places_keys}, specs.NameIndexes.{noted}, proofs.Gathered.{here, all_keys, object_plain, placed_at}}
 use Rattle.net_plan.proofs.place_parts.PlacesParts.places.Goals as goal
 
 pub returns : goal.returns

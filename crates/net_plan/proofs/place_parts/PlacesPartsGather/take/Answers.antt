@@ -1,7 +1,5 @@
 use Rattle.std.proofs.Common.{map, codes, refl}
-use Rattle.net_plan.specs.JsonWords.{IsName, IsListOf, IsNumberWithin}
-use Rattle.net_plan.specs.PlaceParts.{places_slots}
-use Rattle.net_plan.proofs.Gathered.{any_list_there, next_taken, there_taken}
+use Rattle.net_plan.{specs.JsonWords.{IsName, IsListOf, IsNumberWithin}, specs.PlaceParts.{places_slots}, proofs.Gathered.{any_list_there, next_taken, there_taken}}
 use Rattle.net_plan.proofs.place_parts.PlacesPartsGather.take.Goals as goal
 
 pub returns-in_ok-next_name-in-node-clause-more : goal.returns-in_ok-next_name-in-node-clause-more

@@ -1,12 +1,6 @@
 use Rattle.std.proofs.Common.{map, codes, refl}
 use Rattle.plan_values.specs.CertificateValues.{level_value, places_value, node_ranks_value}
-use Rattle.net_plan.specs.JsonWords.{IsNumberWithin, IsListOf}
-use Rattle.net_plan.specs.LevelParts.{IsLevelBy}
-use Rattle.net_plan.specs.NameIndexes.{noted}
-use Rattle.net_plan.specs.PlaceParts.{ArePlacesBy}
-use Rattle.net_plan.specs.PlainCertificate.{certificate_slots}
-use Rattle.net_plan.specs.RankParts.{AreRanksBy}
-use Rattle.net_plan.proofs.Gathered.{any_list_there, next_taken, there_taken}
+use Rattle.net_plan.{specs.JsonWords.{IsNumberWithin, IsListOf}, specs.LevelParts.{IsLevelBy}, specs.NameIndexes.{noted}, specs.PlaceParts.{ArePlacesBy}, specs.PlainCertificate.{certificate_slots}, specs.RankParts.{AreRanksBy}, proofs.Gathered.{any_list_there, next_taken, there_taken}}
 use Rattle.net_plan.proofs.plain_certificate.CertificatePartsGather.take.Goals as goal
 
 pub returns-in_ok-next_number_within-in-format-clause-more : goal.returns-in_ok-next_number_within-in-format-clause-more

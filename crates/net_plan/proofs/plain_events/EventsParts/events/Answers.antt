@@ -1,9 +1,6 @@
-use Rattle.std.proofs.Common.{◌≡◌, ◌∙◌, Some, true, rules}
-use Rattle.std.specs.List.{list_all}
-use Rattle.plan_values.specs.EventValues.{event_entry}
-use Rattle.net_plan.specs.PlainEvents.{is_event_in}
-use Rattle.plan_values.proofs.Placed.{list_all_mapped}
-use Rattle.net_plan.proofs.PlainEvents.{events_of}
+use Rattle.std.{proofs.Common.{◌≡◌, ◌∙◌, Some, true, rules}, specs.List.{list_all}}
+use Rattle.plan_values.{specs.EventValues.{event_entry}, proofs.Placed.{list_all_mapped}}
+use Rattle.net_plan.{specs.PlainEvents.{is_event_in}, proofs.PlainEvents.{events_of}}
 use Rattle.net_plan.proofs.plain_events.EventsParts.events.Goals as goal
 
 pub returns : goal.returns

@@ -1,11 +1,6 @@
 use Rattle.std.proofs.Common.{map, codes, refl, rules}
-use Rattle.net_plan.specs.EventParts.{IsEventBy}
-use Rattle.net_plan.specs.EventText.{IsFormat}
+use Rattle.net_plan.{specs.EventParts.{IsEventBy}, specs.EventText.{IsFormat}, specs.JsonWords.{IsShortListOf}, specs.NameIndexes.{noted}, specs.PlainEvents.{events_slots}, proofs.Gathered.{list_there, next_taken, there_taken}}
 use Rattle.plan_values.specs.EventValues.{event_entry}
-use Rattle.net_plan.specs.JsonWords.{IsShortListOf}
-use Rattle.net_plan.specs.NameIndexes.{noted}
-use Rattle.net_plan.specs.PlainEvents.{events_slots}
-use Rattle.net_plan.proofs.Gathered.{list_there, next_taken, there_taken}
 use Rattle.net_plan.proofs.plain_events.EventsPartsGather.take.Goals as goal
 
 pub returns-in_ok-next_format-in-format-clause-more : goal.returns-in_ok-next_format-in-format-clause-more

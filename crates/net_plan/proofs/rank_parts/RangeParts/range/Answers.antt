@@ -1,12 +1,6 @@
 use Rattle.std.proofs.Common.{codes, refl, sym, subst, rules}
 use Rattle.json.specs.Json.{object}
-use Rattle.net_plan.specs.CertificateText.{IsRangeOf}
-use Rattle.net_plan.specs.Gathered.{IsPlain}
-use Rattle.net_plan.specs.JsonWords.{IsNumberWithin}
-use Rattle.net_plan.specs.Keys.{range_keys}
-use Rattle.net_plan.specs.PlanText.{IsByte}
-use Rattle.net_plan.specs.Trees.{data_of}
-use Rattle.net_plan.proofs.Gathered.{here, all_keys, object_plain}
+use Rattle.net_plan.{specs.CertificateText.{IsRangeOf}, specs.Gathered.{IsPlain}, specs.JsonWords.{IsNumberWithin}, specs.Keys.{range_keys}, specs.PlanText.{IsByte}, specs.Trees.{data_of}, proofs.Gathered.{here, all_keys, object_plain}}
 use Rattle.net_plan.proofs.rank_parts.RangeParts.range.Goals as goal
 
 pub returns : goal.returns

@@ -1,8 +1,5 @@
 use Rattle.std.proofs.Common.{codes, refl}
-use Rattle.net_plan.specs.JsonWords.{IsNumberWithin}
-use Rattle.net_plan.specs.PlanText.{IsByte}
-use Rattle.net_plan.specs.RankParts.{range_slots}
-use Rattle.net_plan.proofs.Gathered.{next_taken}
+use Rattle.net_plan.{specs.JsonWords.{IsNumberWithin}, specs.PlanText.{IsByte}, specs.RankParts.{range_slots}, proofs.Gathered.{next_taken}}
 use Rattle.net_plan.proofs.rank_parts.RangePartsGather.take.Goals as goal
 
 pub returns-in_ok-next_byte-in-first-clause-more : goal.returns-in_ok-next_byte-in-first-clause-more

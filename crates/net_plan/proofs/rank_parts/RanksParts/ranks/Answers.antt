@@ -1,13 +1,7 @@
 use Rattle.std.proofs.Common.{map, codes, refl, rules}
 use Rattle.json.specs.Json.{object}
-use Rattle.net_plan.specs.Trees.{data_of}
-use Rattle.net_plan.specs.CertificateText.{IsRangeOf}
-use Rattle.net_plan.specs.JsonWords.{IsName, IsListOf}
-use Rattle.net_plan.specs.Keys.{ranks_keys}
-use Rattle.net_plan.specs.NameIndexes.{noted}
+use Rattle.net_plan.{specs.Trees.{data_of}, specs.CertificateText.{IsRangeOf}, specs.JsonWords.{IsName, IsListOf}, specs.Keys.{ranks_keys}, specs.NameIndexes.{noted}, proofs.CertificateLaw.{ascends_sound}, proofs.Gathered.{here, all_keys, object_plain, placed_at}}
 use Rattle.plan_values.specs.CertificateValues.{range_value}
-use Rattle.net_plan.proofs.CertificateLaw.{ascends_sound}
-use Rattle.net_plan.proofs.Gathered.{here, all_keys, object_plain, placed_at}
 use Rattle.net_plan.proofs.rank_parts.RanksParts.ranks.Goals as goal
 
 pub returns : goal.returns

@@ -1,9 +1,6 @@
 use Rattle.std.proofs.Common.{map, codes, refl}
-use Rattle.net_plan.specs.CertificateText.{IsRangeOf}
+use Rattle.net_plan.{specs.CertificateText.{IsRangeOf}, specs.JsonWords.{IsName, IsListOf}, specs.RankParts.{ranks_slots}, proofs.Gathered.{next_taken, there_taken}}
 use Rattle.plan_values.specs.CertificateValues.{range_value}
-use Rattle.net_plan.specs.JsonWords.{IsName, IsListOf}
-use Rattle.net_plan.specs.RankParts.{ranks_slots}
-use Rattle.net_plan.proofs.Gathered.{next_taken, there_taken}
 use Rattle.net_plan.proofs.rank_parts.RanksPartsGather.take.Goals as goal
 
 pub returns-in_ok-next_name-in-node-clause-more : goal.returns-in_ok-next_name-in-node-clause-more

@@ -1,8 +1,5 @@
 use Rattle.std.proofs.Common.{codes, refl, rules}
-use Rattle.net_plan.specs.JsonWords.{IsHex}
-use Rattle.net_plan.specs.Keys.{record_keys}
-use Rattle.net_plan.specs.PlanText.{IsWord}
-use Rattle.net_plan.proofs.Gathered.{here, all_keys, object_plain}
+use Rattle.net_plan.{specs.JsonWords.{IsHex}, specs.Keys.{record_keys}, specs.PlanText.{IsWord}, proofs.Gathered.{here, all_keys, object_plain}}
 use Rattle.net_plan.proofs.record_parts.RecordParts.record.Goals as goal
 
 pub returns : goal.returns

@@ -1,8 +1,5 @@
 use Rattle.std.proofs.Common.{codes, refl}
-use Rattle.net_plan.specs.JsonWords.{IsHex}
-use Rattle.net_plan.specs.PlanText.{IsWord}
-use Rattle.net_plan.specs.RecordParts.{record_slots}
-use Rattle.net_plan.proofs.Gathered.{next_taken}
+use Rattle.net_plan.{specs.JsonWords.{IsHex}, specs.PlanText.{IsWord}, specs.RecordParts.{record_slots}, proofs.Gathered.{next_taken}}
 use Rattle.net_plan.proofs.record_parts.RecordPartsGather.take.Goals as goal
 
 pub returns-in_ok-next_word-in-handle-clause-more : goal.returns-in_ok-next_word-in-handle-clause-more

@@ -1,8 +1,5 @@
 use Rattle.std.proofs.Common.{codes, refl, rules}
-use Rattle.net_plan.specs.JsonWords.{IsString, IsNumberWithin}
-use Rattle.net_plan.specs.Keys.{row_keys}
-use Rattle.net_plan.specs.PlanText.{IsByte}
-use Rattle.net_plan.proofs.Gathered.{here, all_keys, object_plain}
+use Rattle.net_plan.{specs.JsonWords.{IsString, IsNumberWithin}, specs.Keys.{row_keys}, specs.PlanText.{IsByte}, proofs.Gathered.{here, all_keys, object_plain}}
 use Rattle.net_plan.proofs.row_parts.RowParts.row.Goals as goal
 
 pub returns : goal.returns

@@ -1,8 +1,5 @@
 use Rattle.std.proofs.Common.{codes, refl}
-use Rattle.net_plan.specs.JsonWords.{IsNumberWithin, IsString}
-use Rattle.net_plan.specs.PlanText.{IsByte}
-use Rattle.net_plan.specs.RowParts.{row_slots}
-use Rattle.net_plan.proofs.Gathered.{next_taken}
+use Rattle.net_plan.{specs.JsonWords.{IsNumberWithin, IsString}, specs.PlanText.{IsByte}, specs.RowParts.{row_slots}, proofs.Gathered.{next_taken}}
 use Rattle.net_plan.proofs.row_parts.RowPartsGather.take.Goals as goal
 
 pub returns-in_ok-next_byte-in-first-clause-more : goal.returns-in_ok-next_byte-in-first-clause-more

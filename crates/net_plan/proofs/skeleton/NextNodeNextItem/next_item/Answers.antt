@@ -1,10 +1,7 @@
 use Rattle.std.proofs.Common.{◌≡◌, Some, codes, map, option_map, refl, subst, rules}
-use Rattle.json.specs.Json.{object}
-use Rattle.json.specs.Value.{members_view}
-use Rattle.json.proofs.Trees.{view-Object}
+use Rattle.json.{specs.Json.{object}, specs.Value.{members_view}, proofs.Trees.{view-Object}}
 use Rattle.plan_values.specs.NodeValues.{terminus_value}
-use Rattle.net_plan.specs.RowParts.{named_row}
-use Rattle.net_plan.specs.Skeleton.{AreStandIns, IsCutTerminus, IsCutRows}
+use Rattle.net_plan.{specs.RowParts.{named_row}, specs.Skeleton.{AreStandIns, IsCutTerminus, IsCutRows}}
 use Rattle.net_plan.proofs.skeleton.NextNodeNextItem.next_item.Goals as goal
 
 pub returns : goal.returns

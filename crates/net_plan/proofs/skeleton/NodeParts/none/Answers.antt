@@ -1,6 +1,5 @@
 use Rattle.std.proofs.Common.{◌≡◌, [], codes, None, sym, subst, rules}
-use Rattle.json.specs.Json.{no_members}
-use Rattle.json.specs.Value.{members_view}
+use Rattle.json.{specs.Json.{no_members}, specs.Value.{members_view}}
 use Rattle.net_plan.specs.Skeleton.{AreStandIns, IsCutRows}
 use Rattle.net_plan.proofs.skeleton.NodeParts.none.Goals as goal
 

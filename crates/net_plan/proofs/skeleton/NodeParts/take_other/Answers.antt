@@ -1,11 +1,7 @@
 use Rattle.std.proofs.Common.{codes, map, option_map, inr, refl, sym, subst}
 use Rattle.json.specs.Value.{value_view, members_view}
-use Rattle.net_plan.specs.Gathered.{with_last}
+use Rattle.net_plan.{specs.Gathered.{with_last}, specs.RowParts.{named_row}, specs.Skeleton.{AreStandIns, IsCutTerminus, IsCutRows}, proofs.Gathered.{if_some}, proofs.StandIns.{stand_ins_last, other_key}}
 use Rattle.plan_values.specs.NodeValues.{terminus_value}
-use Rattle.net_plan.specs.RowParts.{named_row}
-use Rattle.net_plan.specs.Skeleton.{AreStandIns, IsCutTerminus, IsCutRows}
-use Rattle.net_plan.proofs.Gathered.{if_some}
-use Rattle.net_plan.proofs.StandIns.{stand_ins_last, other_key}
 use Rattle.net_plan.proofs.skeleton.NodeParts.take_other.Goals as goal
 
 pub returns : goal.returns

@@ -1,14 +1,7 @@
 use Rattle.std.proofs.Common.{◌≡◌, [], false, is_some, Some, codes, map, option_map, inl, inr, refl, sym, ap, ◌∙◌, subst, rules}
-use Rattle.json.specs.Json.{array, no_items}
-use Rattle.json.specs.Value.{value_view, items_view, members_view}
-use Rattle.json.specs.declared.value.Value.{Array}
-use Rattle.json.proofs.Trees.{view-Array}
-use Rattle.net_plan.specs.Gathered.{with_last}
+use Rattle.json.{specs.Json.{array, no_items}, specs.Value.{value_view, items_view, members_view}, specs.declared.value.Value.{Array}, proofs.Trees.{view-Array}}
+use Rattle.net_plan.{specs.Gathered.{with_last}, specs.RowParts.{IsNamedRowOf, named_row}, specs.Skeleton.{AreStandIns, IsCutTerminus, IsCutRows}, proofs.Gathered.{list_of}, proofs.StandIns.{stand_ins_last, stand_ins_map, no_rows_yet, other_key}}
 use Rattle.plan_values.specs.NodeValues.{terminus_value}
-use Rattle.net_plan.specs.RowParts.{IsNamedRowOf, named_row}
-use Rattle.net_plan.specs.Skeleton.{AreStandIns, IsCutTerminus, IsCutRows}
-use Rattle.net_plan.proofs.Gathered.{list_of}
-use Rattle.net_plan.proofs.StandIns.{stand_ins_last, stand_ins_map, no_rows_yet, other_key}
 use Rattle.net_plan.proofs.skeleton.NodeParts.take_rows.Goals as goal
 
 pub returns : goal.returns

@@ -1,11 +1,7 @@
 use Rattle.std.proofs.Common.{◌≡◌, false, is_some, Some, Global, codes, map, option_map, inl, inr, refl, sym, subst, rules}
-use Rattle.json.specs.Value.{value_view, members_view}
-use Rattle.json.specs.declared.value.Value.{Null}
-use Rattle.net_plan.specs.Gathered.{with_last}
+use Rattle.json.{specs.Value.{value_view, members_view}, specs.declared.value.Value.{Null}}
+use Rattle.net_plan.{specs.Gathered.{with_last}, specs.RowParts.{named_row}, specs.Skeleton.{AreStandIns, IsCutTerminus, IsCutRows}, proofs.StandIns.{stand_ins_last, stand_ins_map, no_terminus_yet, other_key, view-Null}}
 use Rattle.plan_values.specs.NodeValues.{terminus_value}
-use Rattle.net_plan.specs.RowParts.{named_row}
-use Rattle.net_plan.specs.Skeleton.{AreStandIns, IsCutTerminus, IsCutRows}
-use Rattle.net_plan.proofs.StandIns.{stand_ins_last, stand_ins_map, no_terminus_yet, other_key, view-Null}
 use Rattle.net_plan.proofs.skeleton.NodeParts.take_terminus.Goals as goal
 
 pub returns : goal.returns

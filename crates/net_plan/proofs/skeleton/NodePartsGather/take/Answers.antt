@@ -1,8 +1,5 @@
-use Rattle.std.proofs.Common.{IfSome, codes, true, sym, subst, rules}
-use Rattle.std.proofs.lemmas.Slice.Eq.{bytes_eq-Decides}
-use Rattle.std.specs.Str.{bytes_eq}
-use Rattle.net_plan.specs.Gathered.{IsMore}
-use Rattle.net_plan.specs.Skeleton.{AreNodeParts}
+use Rattle.std.{proofs.Common.{IfSome, codes, true, sym, subst, rules}, proofs.lemmas.Slice.Eq.{bytes_eq-Decides}, specs.Str.{bytes_eq}}
+use Rattle.net_plan.{specs.Gathered.{IsMore}, specs.Skeleton.{AreNodeParts}}
 use Rattle.net_plan.proofs.skeleton.NodePartsGather.take.Goals as goal
 
 pub returns-then-eq-clause-more : goal.returns-then-eq-clause-more

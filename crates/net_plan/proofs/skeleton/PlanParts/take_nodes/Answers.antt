@@ -1,11 +1,6 @@
 use Rattle.std.proofs.Common.{◌≡◌, false, Some, codes, map, option_map, inl, refl, sym, subst, ap, ◌∙◌, rules}
-use Rattle.json.specs.Json.{array}
-use Rattle.json.specs.Value.{members_view, items_view, value_view}
-use Rattle.json.specs.declared.value.Value.{Array}
-use Rattle.json.proofs.Trees.{view-Array}
-use Rattle.net_plan.specs.Gathered.{with_last}
-use Rattle.net_plan.specs.Skeleton.{AreStandIns, IsCutNodes, cut_value}
-use Rattle.net_plan.proofs.StandIns.{stand_ins_last, stand_ins_map, no_nodes_yet, cut_parts}
+use Rattle.json.{specs.Json.{array}, specs.Value.{members_view, items_view, value_view}, specs.declared.value.Value.{Array}, proofs.Trees.{view-Array}}
+use Rattle.net_plan.{specs.Gathered.{with_last}, specs.Skeleton.{AreStandIns, IsCutNodes, cut_value}, proofs.StandIns.{stand_ins_last, stand_ins_map, no_nodes_yet, cut_parts}}
 use Rattle.net_plan.proofs.skeleton.PlanParts.take_nodes.Goals as goal
 
 pub returns : goal.returns

@@ -1,9 +1,6 @@
 use Rattle.std.proofs.Common.{codes, map, option_map, inr, refl, sym, subst}
 use Rattle.json.specs.Value.{value_view, members_view}
-use Rattle.net_plan.specs.Gathered.{with_last}
-use Rattle.net_plan.specs.Skeleton.{AreStandIns, IsCutNodes, cut_value}
-use Rattle.net_plan.proofs.Gathered.{if_some}
-use Rattle.net_plan.proofs.StandIns.{stand_ins_last, other_key}
+use Rattle.net_plan.{specs.Gathered.{with_last}, specs.Skeleton.{AreStandIns, IsCutNodes, cut_value}, proofs.Gathered.{if_some}, proofs.StandIns.{stand_ins_last, other_key}}
 use Rattle.net_plan.proofs.skeleton.PlanParts.take_other.Goals as goal
 
 pub returns : goal.returns

@@ -1,9 +1,6 @@
 use Rattle.std.proofs.Common.{map, codes, refl, rules}
-use Rattle.net_plan.specs.JsonWords.{IsNumberWithin, IsShortListOf}
-use Rattle.net_plan.specs.Keys.{terminus_keys}
-use Rattle.net_plan.specs.PlanText.{IsRecordOf}
+use Rattle.net_plan.{specs.JsonWords.{IsNumberWithin, IsShortListOf}, specs.Keys.{terminus_keys}, specs.PlanText.{IsRecordOf}, proofs.Gathered.{here, all_keys, object_plain}}
 use Rattle.plan_values.specs.NodeValues.{record_value}
-use Rattle.net_plan.proofs.Gathered.{here, all_keys, object_plain}
 use Rattle.net_plan.proofs.terminus_parts.TerminusParts.terminus.Goals as goal
 
 pub returns : goal.returns

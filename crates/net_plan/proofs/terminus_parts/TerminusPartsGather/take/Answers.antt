@@ -1,9 +1,6 @@
 use Rattle.std.proofs.Common.{map, codes, refl, rules}
-use Rattle.net_plan.specs.JsonWords.{IsNumberWithin, IsShortListOf}
+use Rattle.net_plan.{specs.JsonWords.{IsNumberWithin, IsShortListOf}, specs.PlanText.{IsRecordOf}, specs.TerminusParts.{terminus_slots}, proofs.Gathered.{list_there, next_taken, there_taken}}
 use Rattle.plan_values.specs.NodeValues.{record_value}
-use Rattle.net_plan.specs.PlanText.{IsRecordOf}
-use Rattle.net_plan.specs.TerminusParts.{terminus_slots}
-use Rattle.net_plan.proofs.Gathered.{list_there, next_taken, there_taken}
 use Rattle.net_plan.proofs.terminus_parts.TerminusPartsGather.take.Goals as goal
 
 pub returns-in_ok-next_number_within-in-tid-clause-more : goal.returns-in_ok-next_number_within-in-tid-clause-more

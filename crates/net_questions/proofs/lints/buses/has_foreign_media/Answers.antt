@@ -1,6 +1,5 @@
 use Rattle.std.specs.Prelude.{slice_get}
-use Rattle.net_questions.specs.Buses.{IsMediaOfAnother}
-use Rattle.net_questions.proofs.Exists.{of_some, of_none}
+use Rattle.net_questions.{specs.Buses.{IsMediaOfAnother}, proofs.Exists.{of_some, of_none}}
 use Rattle.net_questions.proofs.lints.buses.has_foreign_media.Goals as goal
 
 pub returns-in-Some : goal.returns-in-Some

@@ -1,7 +1,5 @@
-use Rattle.std.proofs.Common.{List, ℕ, subst, ◌↔◌, IsTrue}
-use Rattle.std.specs.Prelude.{slice_get}
-use Rattle.net_questions.specs.Buses.{IsReservedAddress}
-use Rattle.net_questions.proofs.Exists.{of_some, of_none}
+use Rattle.std.{proofs.Common.{List, ℕ, subst, ◌↔◌, IsTrue}, specs.Prelude.{slice_get}}
+use Rattle.net_questions.{specs.Buses.{IsReservedAddress}, proofs.Exists.{of_some, of_none}}
 use Rattle.net_questions.proofs.lints.buses.has_reserved_address.Goals as goal
 
 pub returns-in-Some : goal.returns-in-Some

@@ -1,5 +1,4 @@
-use Rattle.std.specs.Prelude.{slice_get}
-use Rattle.std.proofs.Common.{◌≡◌}
+use Rattle.std.{specs.Prelude.{slice_get}, proofs.Common.{◌≡◌}}
 use Rattle.net_questions.proofs.Exists.{of_some, of_none}
 use Rattle.net_questions.proofs.lints.buses.has_reserved_binding.Goals as goal
 

@@ -1,6 +1,5 @@
 use Rattle.pdr_record.specs.Values.{sensor_value}
-use Rattle.net_questions.specs.Sensors.{IsSensor, IsUncontained}
-use Rattle.net_questions.proofs.Exists.{of_only, of_nobody}
+use Rattle.net_questions.{specs.Sensors.{IsSensor, IsUncontained}, proofs.Exists.{of_only, of_nobody}}
 use Rattle.net_questions.proofs.lints.entities.has_uncontained_entity.Goals as goal
 
 pub returns-in-Some : goal.returns-in-Some

@@ -1,10 +1,6 @@
-use Rattle.std.proofs.Common.{◌≡◌, ℕ, true, subst}
-use Rattle.std.specs.Prelude.{cond}
-use Rattle.std.specs.BTreeMap.{is_at}
-use Rattle.std.specs.BTreeSet.{contains}
+use Rattle.std.{proofs.Common.{◌≡◌, ℕ, true, subst}, specs.Prelude.{cond}, specs.BTreeMap.{is_at}, specs.BTreeSet.{contains}}
 use Rattle.pdr_record.specs.Values.{entity_value}
-use Rattle.net_questions.specs.RecordIndexes.{by_entity}
-use Rattle.net_questions.proofs.Contained.{noted}
+use Rattle.net_questions.{specs.RecordIndexes.{by_entity}, proofs.Contained.{noted}}
 use Rattle.net_questions.proofs.lints.entities.note.Goals as goal
 
 pub returns : goal.returns

@@ -1,7 +1,5 @@
 use Rattle.std.proofs.Common.{◌≡◌, ◌∷◌, [], rules}
-use Rattle.pdr_record.specs.Lists.{entities_value}
-use Rattle.pdr_record.specs.ListsLeft.{entities_left}
-use Rattle.pdr_record.specs.Values.{entity_value}
+use Rattle.pdr_record.{specs.Lists.{entities_value}, specs.ListsLeft.{entities_left}, specs.Values.{entity_value}}
 use Rattle.net_questions.proofs.Contained.{list_begun, list_on, list_ended}
 use Rattle.net_questions.proofs.lints.entities.note_all.Goals as goal
 

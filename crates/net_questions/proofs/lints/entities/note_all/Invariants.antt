@@ -1,5 +1,4 @@
-use Rattle.pdr_record.specs.Lists.{entities_value}
-use Rattle.pdr_record.specs.ListsLeft.{entities_left}
+use Rattle.pdr_record.{specs.Lists.{entities_value}, specs.ListsLeft.{entities_left}}
 use Rattle.net_questions.proofs.Contained.{IsOnTheWay}
 use Rattle.net_questions.proofs.lints.entities.note_all.Given as goal
 

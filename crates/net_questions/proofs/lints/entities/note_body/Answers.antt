@@ -1,9 +1,6 @@
-use Rattle.std.proofs.Common.{ap}
-use Rattle.std.specs.Prelude.{Contains}
-use Rattle.pdr_record.specs.Bodies.{body_value}
-use Rattle.pdr_record.specs.ListValues.{association_value}
-use Rattle.net_questions.specs.RecordIndexes.{AssociatesIn}
-use Rattle.net_questions.proofs.Contained.{in_association, noted_on}
+use Rattle.std.{proofs.Common.{ap}, specs.Prelude.{Contains}}
+use Rattle.pdr_record.{specs.Bodies.{body_value}, specs.ListValues.{association_value}}
+use Rattle.net_questions.{specs.RecordIndexes.{AssociatesIn}, proofs.Contained.{in_association, noted_on}}
 use Rattle.net_questions.proofs.lints.entities.note_body.Goals as goal
 
 pub returns-in-Association : goal.returns-in-Association

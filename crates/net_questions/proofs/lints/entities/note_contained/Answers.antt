@@ -1,7 +1,5 @@
 use Rattle.pdr_record.specs.Bodies.{body_value}
-use Rattle.net_questions.specs.RecordIndexes.{AssociatesIn}
-use Rattle.net_questions.specs.Sensors.{Associates}
-use Rattle.net_questions.proofs.Contained.{noted_none, noted_on, of_bytes}
+use Rattle.net_questions.{specs.RecordIndexes.{AssociatesIn}, specs.Sensors.{Associates}, proofs.Contained.{noted_none, noted_on, of_bytes}}
 use Rattle.net_questions.proofs.lints.entities.note_contained.Goals as goal
 
 pub returns-in-Some : goal.returns-in-Some

@@ -1,6 +1,5 @@
 use Rattle.pdr_record.specs.Values.{sensor_value}
-use Rattle.net_questions.specs.Sensors.{IsSensor, HasLocatorOf}
-use Rattle.net_questions.proofs.Exists.{of_only, of_nobody}
+use Rattle.net_questions.{specs.Sensors.{IsSensor, HasLocatorOf}, proofs.Exists.{of_only, of_nobody}}
 use Rattle.net_questions.proofs.lints.handles.has_unknown_handle.Goals as goal
 
 pub returns-in-Some : goal.returns-in-Some

@@ -1,8 +1,6 @@
-use Rattle.std.proofs.Common.{List, ℕ, subst, ◌↔◌, IsTrue}
-use Rattle.std.specs.Prelude.{slice_get}
+use Rattle.std.{proofs.Common.{List, ℕ, subst, ◌↔◌, IsTrue}, specs.Prelude.{slice_get}}
 use Rattle.net_tables.specs.Repositories.{records_of}
-use Rattle.net_questions.specs.Sensors.{HasUnknownHandle}
-use Rattle.net_questions.proofs.Exists.{of_some, of_none}
+use Rattle.net_questions.{specs.Sensors.{HasUnknownHandle}, proofs.Exists.{of_some, of_none}}
 use Rattle.net_questions.proofs.lints.handles.names_no_terminus.Goals as goal
 
 pub returns-in-Some : goal.returns-in-Some

@@ -1,6 +1,5 @@
 use Rattle.net_tables.specs.Repositories.{terminus_of}
-use Rattle.net_questions.specs.Lint.{IsUnlocated}
-use Rattle.net_questions.proofs.Exists.{of_some, of_none}
+use Rattle.net_questions.{specs.Lint.{IsUnlocated}, proofs.Exists.{of_some, of_none}}
 use Rattle.net_questions.proofs.lints.locators.lacks_locator.Goals as goal
 
 pub returns-in-Some : goal.returns-in-Some

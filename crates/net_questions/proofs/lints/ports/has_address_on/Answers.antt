@@ -1,6 +1,5 @@
 use Rattle.std.proofs.Common.{arith}
-use Rattle.net_questions.specs.Lint.{IsAddressedOn}
-use Rattle.net_questions.proofs.Exists.{found_item, item_not_found, item_more}
+use Rattle.net_questions.{specs.Lint.{IsAddressedOn}, proofs.Exists.{found_item, item_not_found, item_more}}
 use Rattle.net_questions.proofs.lints.ports.has_address_on.Goals as goal
 
 pub returns-then-is_addressed_on : goal.returns-then-is_addressed_on

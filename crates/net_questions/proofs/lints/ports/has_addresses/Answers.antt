@@ -1,7 +1,5 @@
 use Rattle.std.proofs.Common.{length, arith, below_more}
-use Rattle.net_questions.specs.Lint.{HasAddressOn}
-use Rattle.net_questions.proofs.Exists.{found, not_found}
-use Rattle.net_questions.proofs.Within.{port_within}
+use Rattle.net_questions.{specs.Lint.{HasAddressOn}, proofs.Exists.{found, not_found}, proofs.Within.{port_within}}
 use Rattle.net_questions.proofs.lints.ports.has_addresses.Goals as goal
 
 pub returns-then-has_address_on : goal.returns-then-has_address_on

@@ -1,7 +1,6 @@
 use Rattle.std.specs.Prelude.{slice_get}
 use Rattle.net_tables.specs.Routing.{ports_of}
-use Rattle.net_questions.specs.Lint.{IsWithoutAddress}
-use Rattle.net_questions.proofs.Exists.{of_some, of_none}
+use Rattle.net_questions.{specs.Lint.{IsWithoutAddress}, proofs.Exists.{of_some, of_none}}
 use Rattle.net_questions.proofs.lints.ports.lacks_address.Goals as goal
 
 pub returns-in-Some : goal.returns-in-Some

@@ -1,6 +1,4 @@
-use Rattle.std.proofs.Common.{◌≡◌, List, length, Some, refl, ap, subst, arith, rules}
-use Rattle.std.specs.Prelude.{slice_get}
-use Rattle.std.proofs.lemmas.Option.{slice_get_read}
+use Rattle.std.{proofs.Common.{◌≡◌, List, length, Some, refl, ap, subst, arith, rules}, specs.Prelude.{slice_get}, proofs.lemmas.Option.{slice_get_read}}
 use Rattle.plan_values.specs.declared.terminus.PlannedRecord.{PlannedRecord}
 use Rattle.net_questions.proofs.Contained.{contained_of_none, contained_more, contained_of_all}
 use Rattle.net_questions.proofs.lints.record_index.contained_entities.Goals as goal

@@ -1,5 +1,4 @@
-use Rattle.net_questions.specs.Sensors.{IsLocatorOf}
-use Rattle.net_questions.proofs.FirstNoted.{AreFirstBelow}
+use Rattle.net_questions.{specs.Sensors.{IsLocatorOf}, proofs.FirstNoted.{AreFirstBelow}}
 use Rattle.net_questions.proofs.lints.record_index.first_locators.Given as goal
 
 abbrev pub invariant-loop-at : goal.invariant-loop-at

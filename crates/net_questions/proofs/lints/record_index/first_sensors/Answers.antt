@@ -1,9 +1,6 @@
-use Rattle.std.proofs.Common.{◌≡◌, List, length, Some, refl, sym, ◌∙◌, ap, subst, arith, rules}
-use Rattle.std.specs.Prelude.{slice_get}
-use Rattle.std.proofs.lemmas.Option.{slice_get_read}
+use Rattle.std.{proofs.Common.{◌≡◌, List, length, Some, refl, sym, ◌∙◌, ap, subst, arith, rules}, specs.Prelude.{slice_get}, proofs.lemmas.Option.{slice_get_read}}
 use Rattle.plan_values.specs.declared.terminus.PlannedRecord.{PlannedRecord}
-use Rattle.net_questions.specs.Lint.{IsSensorRecord}
-use Rattle.net_questions.proofs.FirstNoted.{first_of_none, record_more, first_of_all}
+use Rattle.net_questions.{specs.Lint.{IsSensorRecord}, proofs.FirstNoted.{first_of_none, record_more, first_of_all}}
 use Rattle.net_questions.proofs.lints.record_index.first_sensors.Goals as goal
 
 pub loop-at-init : goal.loop-at-init

@@ -1,5 +1,4 @@
-use Rattle.net_questions.specs.Lint.{IsSensorRecord}
-use Rattle.net_questions.proofs.FirstNoted.{AreFirstBelow}
+use Rattle.net_questions.{specs.Lint.{IsSensorRecord}, proofs.FirstNoted.{AreFirstBelow}}
 use Rattle.net_questions.proofs.lints.record_index.first_sensors.Given as goal
 
 abbrev pub invariant-loop-at : goal.invariant-loop-at

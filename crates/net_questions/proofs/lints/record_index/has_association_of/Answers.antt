@@ -1,10 +1,6 @@
-use Rattle.std.proofs.Common.{◌≡◌, ℕ, length, Some, refl, sym, ◌∙◌, ap, arith}
-use Rattle.std.specs.Prelude.{slice_get}
-use Rattle.std.specs.BTreeSet.{contains}
-use Rattle.std.proofs.lemmas.Option.{slice_get_read}
+use Rattle.std.{proofs.Common.{◌≡◌, ℕ, length, Some, refl, sym, ◌∙◌, ap, arith}, specs.Prelude.{slice_get}, specs.BTreeSet.{contains}, proofs.lemmas.Option.{slice_get_read}}
 use Rattle.pdr_record.specs.Values.{entity_value}
-use Rattle.net_questions.specs.RecordIndexes.{by_entity, entity_key}
-use Rattle.net_questions.proofs.Contained.{none_associated}
+use Rattle.net_questions.{specs.RecordIndexes.{by_entity, entity_key}, proofs.Contained.{none_associated}}
 use Rattle.net_questions.proofs.lints.record_index.has_association_of.Goals as goal
 
 pub returns-in-Some : goal.returns-in-Some

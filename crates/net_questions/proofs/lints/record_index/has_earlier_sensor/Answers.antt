@@ -1,8 +1,4 @@
-use Rattle.std.proofs.Common.{◌≡◌, ◌↔◌, ◌<◌, ℕ, IsTrue, length, Option, Some, refl, subst, arith}
-use Rattle.std.specs.Prelude.{slice_get, IsSomeAnd}
-use Rattle.std.specs.Ordering.{nat_cmp}
-use Rattle.std.specs.BTreeMap.{get}
-use Rattle.std.proofs.lemmas.Option.{slice_get_read}
+use Rattle.std.{proofs.Common.{◌≡◌, ◌↔◌, ◌<◌, ℕ, IsTrue, length, Option, Some, refl, subst, arith}, specs.Prelude.{slice_get, IsSomeAnd}, specs.Ordering.{nat_cmp}, specs.BTreeMap.{get}, proofs.lemmas.Option.{slice_get_read}}
 use Rattle.net_questions.proofs.FirstNoted.{earlier_by_first, none_earlier}
 use Rattle.net_questions.proofs.lints.record_index.has_earlier_sensor.Goals as goal
 

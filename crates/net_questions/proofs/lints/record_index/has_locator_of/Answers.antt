@@ -1,8 +1,4 @@
-use Rattle.std.proofs.Common.{◌≡◌, is_some, length, Some, refl, ap, ◌∙◌, arith}
-use Rattle.std.specs.Prelude.{slice_get}
-use Rattle.std.specs.Ordering.{nat_cmp}
-use Rattle.std.specs.BTreeMap.{get}
-use Rattle.std.proofs.lemmas.Option.{slice_get_read}
+use Rattle.std.{proofs.Common.{◌≡◌, is_some, length, Some, refl, ap, ◌∙◌, arith}, specs.Prelude.{slice_get}, specs.Ordering.{nat_cmp}, specs.BTreeMap.{get}, proofs.lemmas.Option.{slice_get_read}}
 use Rattle.net_questions.proofs.FirstNoted.{located_by_first, none_located}
 use Rattle.net_questions.proofs.lints.record_index.has_locator_of.Goals as goal
 

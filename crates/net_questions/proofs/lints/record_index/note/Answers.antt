@@ -1,6 +1,5 @@
 use Rattle.std.proofs.Common.{ℕ, Option, sym, subst}
-use Rattle.net_questions.specs.RecordIndexes.{NotesAny}
-use Rattle.net_questions.proofs.FirstNoted.{notes_new}
+use Rattle.net_questions.{specs.RecordIndexes.{NotesAny}, proofs.FirstNoted.{notes_new}}
 use Rattle.net_questions.proofs.lints.record_index.note.Goals as goal
 
 pub returns-in_ok-insert-in-None : goal.returns-in_ok-insert-in-None

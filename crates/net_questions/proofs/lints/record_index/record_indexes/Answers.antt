@@ -1,7 +1,5 @@
-use Rattle.std.proofs.Common.{◌+◌, sym, ◌∙◌, ap, subst, arith}
-use Rattle.std.proofs.lemmas.List.{length_push}
-use Rattle.net_questions.specs.RecordIndexes.{IsRecordIndex}
-use Rattle.net_questions.proofs.FirstNoted.{indexes_more}
+use Rattle.std.{proofs.Common.{◌+◌, sym, ◌∙◌, ap, subst, arith}, proofs.lemmas.List.{length_push}}
+use Rattle.net_questions.{specs.RecordIndexes.{IsRecordIndex}, proofs.FirstNoted.{indexes_more}}
 use Rattle.net_questions.proofs.lints.record_index.record_indexes.Goals as goal
 
 pub loop-node-preserved : goal.loop-node-preserved

@@ -1,7 +1,5 @@
-use Rattle.std.proofs.Common.{◌≡◌, ℕ, Some, length}
-use Rattle.std.specs.Prelude.{slice_get}
-use Rattle.net_questions.specs.RecordIndexes.{IsRecordIndex}
-use Rattle.net_questions.specs.declared.lints.record_index.RecordIndex.{RecordIndex}
+use Rattle.std.{proofs.Common.{◌≡◌, ℕ, Some, length}, specs.Prelude.{slice_get}}
+use Rattle.net_questions.{specs.RecordIndexes.{IsRecordIndex}, specs.declared.lints.record_index.RecordIndex.{RecordIndex}}
 use Rattle.net_questions.proofs.lints.record_index.record_indexes.Given as goal
 
 abbrev pub invariant-loop-node : goal.invariant-loop-node

@@ -1,7 +1,6 @@
 use Rattle.std.specs.Prelude.{slice_get}
 use Rattle.net_tables.specs.Routing.{rows_of}
-use Rattle.net_questions.specs.Lint.{LeadsToNobody}
-use Rattle.net_questions.proofs.Exists.{of_some, of_none}
+use Rattle.net_questions.{specs.Lint.{LeadsToNobody}, proofs.Exists.{of_some, of_none}}
 use Rattle.net_questions.proofs.lints.rows.has_idle_row.Goals as goal
 
 pub returns-in-Some : goal.returns-in-Some

@@ -1,8 +1,7 @@
-use Rattle.std.proofs.Common.{◌≡◌, sym, ◌∙◌, subst, arith}
-use Rattle.std.proofs.lemmas.Option.{same_Some}
+use Rattle.std.{proofs.Common.{◌≡◌, sym, ◌∙◌, subst, arith}, proofs.lemmas.Option.{same_Some}}
 use Rattle.net_questions.specs.Lint.{NobodyHasRow}
-use Rattle.net_questions.proofs.lints.rows.is_unknown.Goals as goal
 use Rattle.net_tables.proofs.Elements.{holder_within}
+use Rattle.net_questions.proofs.lints.rows.is_unknown.Goals as goal
 
 pub returns-then-node-len : goal.returns-then-node-len
 returns-then-node-len c =

@@ -1,12 +1,8 @@
 use Rattle.std.proofs.Common.{ℕ, ◌≤◌, ◌<◌, ◌⊎◌, inl, inr, length, refl, arith, below_more}
-use Rattle.plan_values.specs.declared.plan.Plan.{Plan}
-use Rattle.plan_values.specs.declared.nodes.Row.{Row}
-use Rattle.net_tables.specs.Routing.{Holds, Covers}
-use Rattle.net_tables.specs.Ownership.{IsInPoolOf}
-use Rattle.net_questions.specs.Lint.{LeadsToNobody}
-use Rattle.net_questions.proofs.Within.{pool_within}
+use Rattle.plan_values.{specs.declared.plan.Plan.{Plan}, specs.declared.nodes.Row.{Row}}
+use Rattle.net_tables.{specs.Routing.{Holds, Covers}, specs.Ownership.{IsInPoolOf}, proofs.Elements.{holder_within}}
+use Rattle.net_questions.{specs.Lint.{LeadsToNobody}, proofs.Within.{pool_within}}
 use Rattle.net_questions.proofs.lints.rows.leads_to_nobody.Goals as goal
-use Rattle.net_tables.proofs.Elements.{holder_within}
 
 nobody : (plan : Plan) (row : Row) (count : ℕ) → length plan.nodes.items ≤ count
     → ((m : ℕ) → m < count → ¬ ((e : ℕ) × Covers row e × (Holds plan m e ⊎ IsInPoolOf plan m e))) → LeadsToNobody plan row

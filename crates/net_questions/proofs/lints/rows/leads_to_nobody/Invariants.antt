@@ -1,6 +1,5 @@
 use Rattle.std.proofs.Common.{ℕ, ◌<◌, ◌⊎◌}
-use Rattle.net_tables.specs.Routing.{Holds, Covers}
-use Rattle.net_tables.specs.Ownership.{IsInPoolOf}
+use Rattle.net_tables.{specs.Routing.{Holds, Covers}, specs.Ownership.{IsInPoolOf}}
 use Rattle.net_questions.proofs.lints.rows.leads_to_nobody.Given as goal
 
 abbrev pub invariant-loop-node : goal.invariant-loop-node

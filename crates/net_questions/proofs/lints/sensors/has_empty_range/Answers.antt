@@ -1,6 +1,5 @@
 use Rattle.std.proofs.Common.{◌≡◌, ℕ, List, sym, subst}
-use Rattle.pdr_record.specs.Layouts.{NumericValue}
-use Rattle.pdr_record.specs.NumericValues.{numeric_value}
+use Rattle.pdr_record.{specs.Layouts.{NumericValue}, specs.NumericValues.{numeric_value}}
 use Rattle.net_questions.specs.Lint.{IsOver, IsNumericSensor}
 use Rattle.net_questions.proofs.lints.sensors.has_empty_range.Goals as goal
 

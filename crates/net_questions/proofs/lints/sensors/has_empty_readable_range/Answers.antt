@@ -1,7 +1,6 @@
 use Rattle.std.specs.Prelude.{slice_get}
 use Rattle.net_tables.specs.Repositories.{records_of}
-use Rattle.net_questions.specs.Lint.{HasEmptyRange}
-use Rattle.net_questions.proofs.Exists.{of_some, of_none}
+use Rattle.net_questions.{specs.Lint.{HasEmptyRange}, proofs.Exists.{of_some, of_none}}
 use Rattle.net_questions.proofs.lints.sensors.has_empty_readable_range.Goals as goal
 
 pub returns-in-Some : goal.returns-in-Some

@@ -1,8 +1,6 @@
-use Rattle.std.proofs.Common.{List, ℕ, subst, ◌↔◌, IsTrue}
-use Rattle.std.specs.Prelude.{slice_get}
+use Rattle.std.{proofs.Common.{List, ℕ, subst, ◌↔◌, IsTrue}, specs.Prelude.{slice_get}}
 use Rattle.net_tables.specs.Repositories.{records_of}
-use Rattle.net_questions.specs.Lint.{RepeatsSensorId}
-use Rattle.net_questions.proofs.Exists.{of_some, of_none}
+use Rattle.net_questions.{specs.Lint.{RepeatsSensorId}, proofs.Exists.{of_some, of_none}}
 use Rattle.net_questions.proofs.lints.sensors.shares_sensor_id.Goals as goal
 
 pub returns-in-Some : goal.returns-in-Some

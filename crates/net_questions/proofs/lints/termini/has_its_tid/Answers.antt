@@ -1,6 +1,5 @@
 use Rattle.net_tables.specs.Repositories.{terminus_of}
-use Rattle.net_questions.specs.Lint.{HaveOneTid}
-use Rattle.net_questions.proofs.Exists.{of_some, of_none}
+use Rattle.net_questions.{specs.Lint.{HaveOneTid}, proofs.Exists.{of_some, of_none}}
 use Rattle.net_questions.proofs.lints.termini.has_its_tid.Goals as goal
 
 pub returns-in-Some : goal.returns-in-Some

@@ -1,8 +1,6 @@
 use Rattle.std.proofs.Common.{ℕ, List, sym, subst}
 use Rattle.pdr_record.specs.NumericValues.{numeric_value}
-use Rattle.net_questions.specs.Lint.{IsNumericSensor}
-use Rattle.net_questions.specs.Sensors.{HasCrossed}
-use Rattle.net_questions.proofs.Exists.{of_only, of_nobody}
+use Rattle.net_questions.{specs.Lint.{IsNumericSensor}, specs.Sensors.{HasCrossed}, proofs.Exists.{of_only, of_nobody}}
 use Rattle.net_questions.proofs.lints.thresholds.are_of_crossed.Goals as goal
 
 pub returns-in-Some : goal.returns-in-Some

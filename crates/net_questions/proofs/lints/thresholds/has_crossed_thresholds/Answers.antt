@@ -1,7 +1,6 @@
 use Rattle.std.specs.Prelude.{slice_get}
 use Rattle.net_tables.specs.Repositories.{records_of}
-use Rattle.net_questions.specs.Sensors.{AreOfCrossed}
-use Rattle.net_questions.proofs.Exists.{of_some, of_none}
+use Rattle.net_questions.{specs.Sensors.{AreOfCrossed}, proofs.Exists.{of_some, of_none}}
 use Rattle.net_questions.proofs.lints.thresholds.has_crossed_thresholds.Goals as goal
 
 pub returns-in-Some : goal.returns-in-Some

@@ -1,8 +1,6 @@
 use Rattle.std.proofs.Common.{arith, below_more}
 use Rattle.pdr_record.specs.NumericValues.{numeric_value}
-use Rattle.net_questions.specs.Sensors.{CrossesLater}
-use Rattle.net_questions.proofs.Exists.{found, not_found}
-use Rattle.net_questions.proofs.Crossing.{within}
+use Rattle.net_questions.{specs.Sensors.{CrossesLater}, proofs.Exists.{found, not_found}, proofs.Crossing.{within}}
 use Rattle.net_questions.proofs.lints.thresholds.some_crosses.Goals as goal
 
 pub returns-then-crosses_later : goal.returns-then-crosses_later

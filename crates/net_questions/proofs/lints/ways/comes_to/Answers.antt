@@ -1,9 +1,6 @@
 use Rattle.std.proofs.Common.{ℕ, refl, subst, arith, add-one, length}
-use Rattle.net_rules.specs.Moves.{Leads}
-use Rattle.net_rules.proofs.Circling.{one_more}
-use Rattle.net_questions.specs.Lint.{IsForwardedTo}
-use Rattle.net_questions.proofs.FirstRows.{goes_only, goes_within}
-use Rattle.net_questions.proofs.Walks.{short_walk, not_within_more, ends_elsewhere}
+use Rattle.net_rules.{specs.Moves.{Leads}, proofs.Circling.{one_more}}
+use Rattle.net_questions.{specs.Lint.{IsForwardedTo}, proofs.FirstRows.{goes_only, goes_within}, proofs.Walks.{short_walk, not_within_more, ends_elsewhere}}
 use Rattle.net_questions.proofs.lints.ways.comes_to.Goals as goal
 
 pub returns-then-at-to : goal.returns-then-at-to

@@ -1,6 +1,5 @@
 use Rattle.net_rules.specs.Moves.{Leads}
-use Rattle.net_questions.specs.Lint.{IsForwardedTo}
-use Rattle.net_questions.proofs.Walks.{NotWithin}
+use Rattle.net_questions.{specs.Lint.{IsForwardedTo}, proofs.Walks.{NotWithin}}
 use Rattle.net_questions.proofs.lints.ways.comes_to.Given as goal
 
 abbrev pub invariant-loop-moves : goal.invariant-loop-moves

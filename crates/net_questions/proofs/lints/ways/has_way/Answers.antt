@@ -1,8 +1,7 @@
-use Rattle.std.proofs.Common.{◌≡◌, ℕ, sym, ◌∙◌, subst, arith}
-use Rattle.std.proofs.lemmas.Option.{same_Some}
+use Rattle.std.{proofs.Common.{◌≡◌, ℕ, sym, ◌∙◌, subst, arith}, proofs.lemmas.Option.{same_Some}}
 use Rattle.net_questions.specs.Lint.{ComesTo}
-use Rattle.net_questions.proofs.lints.ways.has_way.Goals as goal
 use Rattle.net_tables.proofs.Elements.{holder_within}
+use Rattle.net_questions.proofs.lints.ways.has_way.Goals as goal
 
 pub returns-then-to-len : goal.returns-then-to-len
 returns-then-to-len c =

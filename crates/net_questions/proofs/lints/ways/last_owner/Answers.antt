@@ -1,12 +1,7 @@
-use Rattle.std.proofs.Common.{ℕ, sym, subst, ap, ◌∙◌, Some, arith, add-one, length}
-use Rattle.std.proofs.lemmas.Option.{same_Some, none-some}
-use Rattle.net_rules.specs.Moves.{IsEnd}
+use Rattle.std.{proofs.Common.{ℕ, sym, subst, ap, ◌∙◌, Some, arith, add-one, length}, proofs.lemmas.Option.{same_Some, none-some}}
+use Rattle.net_rules.{specs.Moves.{IsEnd}, proofs.Circling.{one_more}, proofs.LevelLaws.{one_owner, owner_within}, proofs.Lines.{end_is_near}}
 use Rattle.net_tables.specs.Ownership.{IsOwnedBy}
-use Rattle.net_rules.proofs.Circling.{one_more}
-use Rattle.net_rules.proofs.LevelLaws.{one_owner, owner_within}
-use Rattle.net_rules.proofs.Lines.{end_is_near}
-use Rattle.net_questions.specs.Lint.{OwnersEndAt}
-use Rattle.net_questions.proofs.Walks.{leads_on, one_end}
+use Rattle.net_questions.{specs.Lint.{OwnersEndAt}, proofs.Walks.{leads_on, one_end}}
 use Rattle.net_questions.proofs.lints.ways.last_owner.Goals as goal
 
 pub returns-in-None : goal.returns-in-None

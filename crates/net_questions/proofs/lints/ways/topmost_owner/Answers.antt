@@ -1,8 +1,6 @@
-use Rattle.std.proofs.Common.{◌≡◌, ℕ, sym, subst, ◌∙◌}
-use Rattle.std.proofs.lemmas.Option.{none-some}
-use Rattle.net_rules.specs.Moves.{Leads}
+use Rattle.std.{proofs.Common.{◌≡◌, ℕ, sym, subst, ◌∙◌}, proofs.lemmas.Option.{none-some}}
+use Rattle.net_rules.{specs.Moves.{Leads}, proofs.LevelLaws.{one_owner, owner_within}}
 use Rattle.net_tables.specs.Ownership.{IsOwnedBy}
-use Rattle.net_rules.proofs.LevelLaws.{one_owner, owner_within}
 use Rattle.net_questions.proofs.lints.ways.topmost_owner.Goals as goal
 
 pub last_owner-requires : goal.last_owner-requires

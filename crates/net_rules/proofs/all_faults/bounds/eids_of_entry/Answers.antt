@@ -1,6 +1,5 @@
 use Rattle.std.proofs.Common.{sym, subst, Some, inl, inr}
-use Rattle.net_rules.specs.declared.rule.Rule.{Rule}
-use Rattle.net_rules.specs.Rules.{PlanDemands, CertificateDemands}
+use Rattle.net_rules.{specs.declared.rule.Rule.{Rule}, specs.Rules.{PlanDemands, CertificateDemands}}
 use Rattle.net_rules.proofs.all_faults.bounds.eids_of_entry.Goals as goal
 
 pub returns-in-C10-clause-plan : goal.returns-in-C10-clause-plan

@@ -1,7 +1,5 @@
 use Rattle.std.proofs.Common.{sym, subst, arith, Some, None, inl, inr}
-use Rattle.net_rules.specs.declared.rule.Rule.{Rule}
-use Rattle.net_rules.specs.Rules.{CertificateDemands}
-use Rattle.net_rules.specs.Superfluous.{NeedsItsRank}
+use Rattle.net_rules.{specs.declared.rule.Rule.{Rule}, specs.Rules.{CertificateDemands}, specs.Superfluous.{NeedsItsRank}}
 use Rattle.net_rules.proofs.all_faults.bounds.eids_of_node.Goals as goal
 
 pub returns-in-C16-clause-certificate : goal.returns-in-C16-clause-certificate

@@ -1,10 +1,7 @@
-use Rattle.std.proofs.Common.{Some, None, sym, subst}
-use Rattle.std.specs.Prelude.{IsTrue, ◌↔◌}
+use Rattle.std.{proofs.Common.{Some, None, sym, subst}, specs.Prelude.{IsTrue, ◌↔◌}}
 use Rattle.plan_values.specs.declared.certificate.Certificate.{Certificate}
-use Rattle.net_rules.specs.declared.rule.Rule.{Rule}
-use Rattle.net_tables.specs.Routing.{OfItem}
-use Rattle.net_tables.specs.Repositories.{records_of, places_of, IsChained}
-use Rattle.net_rules.specs.Rules.{CertificateDemands}
+use Rattle.net_rules.{specs.declared.rule.Rule.{Rule}, specs.Rules.{CertificateDemands}}
+use Rattle.net_tables.{specs.Routing.{OfItem}, specs.Repositories.{records_of, places_of, IsChained}}
 use Rattle.net_rules.proofs.all_faults.by_certificate.is_met_at_entry.Goals as goal
 
 pub returns-in-C14 : goal.returns-in-C14

@@ -1,6 +1,5 @@
 use Rattle.std.proofs.Common.{List, ℕ, [], ◌∷◌, sym, subst}
-use Rattle.net_rules.specs.Locators.{IsEidLocator}
-use Rattle.net_rules.proofs.LocatorLaws.{not_located}
+use Rattle.net_rules.{specs.Locators.{IsEidLocator}, proofs.LocatorLaws.{not_located}}
 use Rattle.net_rules.proofs.all_faults.locators.located_eid.Goals as goal
 
 pub returns-in-Some : goal.returns-in-Some

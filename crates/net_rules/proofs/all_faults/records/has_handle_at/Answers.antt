@@ -1,5 +1,4 @@
-use Rattle.std.proofs.Common.{◌<◌, length, refl, arith, below_more}
-use Rattle.std.proofs.lemmas.Option.{slice_get_within}
+use Rattle.std.{proofs.Common.{◌<◌, length, refl, arith, below_more}, proofs.lemmas.Option.{slice_get_within}}
 use Rattle.net_rules.proofs.all_faults.records.has_handle_at.Goals as goal
 
 pub returns-then-is_handle_at : goal.returns-then-is_handle_at

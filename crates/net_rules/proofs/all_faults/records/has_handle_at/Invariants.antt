@@ -1,5 +1,4 @@
-use Rattle.std.proofs.Common.{◌≡◌, ℕ, ◌<◌, Some, map}
-use Rattle.std.specs.Prelude.{slice_get}
+use Rattle.std.{proofs.Common.{◌≡◌, ℕ, ◌<◌, Some, map}, specs.Prelude.{slice_get}}
 use Rattle.plan_values.specs.declared.terminus.PlannedRecord as listed
 use Rattle.net_rules.proofs.all_faults.records.has_handle_at.Given as goal
 

@@ -1,8 +1,7 @@
-use Rattle.std.proofs.Common.{◌≡◌, Some, None, map, sym, arith}
-use Rattle.std.specs.Prelude.{slice_get}
+use Rattle.std.{proofs.Common.{◌≡◌, Some, None, map, sym, arith}, specs.Prelude.{slice_get}}
 use Rattle.net_rules.proofs.EntryLaws.{chained_by, place_of_chained, unchained}
-use Rattle.net_rules.proofs.all_faults.records.is_chained.Goals as goal
 use Rattle.net_tables.proofs.Elements.{element}
+use Rattle.net_rules.proofs.all_faults.records.is_chained.Goals as goal
 
 pub returns-in-Some : goal.returns-in-Some
 returns-in-Some c =

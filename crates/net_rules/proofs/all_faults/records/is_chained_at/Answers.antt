@@ -1,8 +1,7 @@
-use Rattle.std.proofs.Common.{◌≡◌, ◌+◌, ◌⊎◌, length, map, refl, sym, subst, arith}
-use Rattle.std.specs.Prelude.{IsTrue, ◌↔◌}
-use Rattle.plan_values.specs.declared.terminus.PlannedRecord as listed
+use Rattle.std.{proofs.Common.{◌≡◌, ◌+◌, ◌⊎◌, length, map, refl, sym, subst, arith}, specs.Prelude.{IsTrue, ◌↔◌}}
 use Rattle.net_tables.specs.Repositories.{IsHandleAt}
 use Rattle.net_rules.proofs.EntryLaws.{of_read}
+use Rattle.plan_values.specs.declared.terminus.PlannedRecord as listed
 use Rattle.net_rules.proofs.all_faults.records.is_chained_at.Goals as goal
 
 pub returns-then-has_own_place : goal.returns-then-has_own_place

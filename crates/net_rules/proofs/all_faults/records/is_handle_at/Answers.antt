@@ -1,6 +1,4 @@
-use Rattle.std.proofs.Common.{◌≡◌, length, refl, sym, ◌∙◌, ap, Some, arith}
-use Rattle.std.specs.Prelude.{slice_get}
-use Rattle.std.proofs.lemmas.Option.{same_Some, slice_get_read}
+use Rattle.std.{proofs.Common.{◌≡◌, length, refl, sym, ◌∙◌, ap, Some, arith}, specs.Prelude.{slice_get}, proofs.lemmas.Option.{same_Some, slice_get_read}}
 use Rattle.plan_values.specs.declared.terminus.PlannedRecord as listed
 use Rattle.net_rules.proofs.all_faults.records.is_handle_at.Goals as goal
 

@@ -1,8 +1,6 @@
-use Rattle.std.proofs.Common.{List, subst, sym}
-use Rattle.std.proofs.lemmas.Bool.{le-leb}
+use Rattle.std.{proofs.Common.{List, subst, sym}, proofs.lemmas.Bool.{le-leb}}
 use Rattle.plan_values.specs.declared.terminus.PlannedRecord.{PlannedRecord}
-use Rattle.net_tables.specs.Routing.{OfItem}
-use Rattle.net_tables.specs.Repositories.{records_of, HasNewHandle}
+use Rattle.net_tables.{specs.Routing.{OfItem}, specs.Repositories.{records_of, HasNewHandle}}
 use Rattle.net_rules.proofs.EntryLaws.{of_nothing}
 use Rattle.net_rules.proofs.all_faults.records.is_handle_new.Goals as goal
 

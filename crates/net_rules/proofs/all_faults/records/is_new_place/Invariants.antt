@@ -1,5 +1,4 @@
-use Rattle.std.proofs.Common.{◌≢◌, ℕ, ◌<◌, Some, map}
-use Rattle.std.specs.Prelude.{slice_get}
+use Rattle.std.{proofs.Common.{◌≢◌, ℕ, ◌<◌, Some, map}, specs.Prelude.{slice_get}}
 use Rattle.net_rules.proofs.all_faults.records.is_new_place.Given as goal
 
 abbrev pub invariant-loop-earlier : goal.invariant-loop-earlier

@@ -1,8 +1,6 @@
-use Rattle.std.proofs.Common.{ℕ, List, sym, subst}
-use Rattle.std.proofs.lemmas.Bool.{le-leb}
+use Rattle.std.{proofs.Common.{ℕ, List, sym, subst}, proofs.lemmas.Bool.{le-leb}}
 use Rattle.plan_values.specs.declared.terminus.PlannedRecord.{PlannedRecord}
-use Rattle.net_tables.specs.Routing.{OfItem}
-use Rattle.net_tables.specs.Repositories.{records_of, places_of, IsChained}
+use Rattle.net_tables.{specs.Routing.{OfItem}, specs.Repositories.{records_of, places_of, IsChained}}
 use Rattle.net_rules.proofs.EntryLaws.{of_nothing}
 use Rattle.net_rules.proofs.all_faults.records.is_record_chained.Goals as goal
 

@@ -1,6 +1,5 @@
 use Rattle.std.proofs.Common.{arith}
-use Rattle.net_tables.specs.Routing.{rows_of}
-use Rattle.net_tables.specs.Rows.{IsApartFromEarlier}
+use Rattle.net_tables.{specs.Routing.{rows_of}, specs.Rows.{IsApartFromEarlier}}
 use Rattle.net_rules.proofs.EntryLaws.{of_read}
 use Rattle.net_rules.proofs.all_faults.rows.is_row_apart.Goals as goal
 

@@ -1,8 +1,7 @@
 use Rattle.std.proofs.Common.{◌≡◌, List, sym, ◌∙◌, ap, subst, arith, rules, inl, inr}
 use Rattle.plan_values.specs.declared.certificate.RankRange.{RankRange}
-use Rattle.net_tables.specs.Ranks.{ranges_of}
+use Rattle.net_tables.{specs.Ranks.{ranges_of}, proofs.Elements.{in_push}}
 use Rattle.net_rules.specs.RanksByEid.{AreRangesByNode}
-use Rattle.net_tables.proofs.Elements.{in_push}
 use Rattle.net_rules.proofs.certified_ranks.CertifiedRanks.of.Goals as goal
 
 pub loop-node-preserved : goal.loop-node-preserved

@@ -1,5 +1,4 @@
-use Rattle.std.proofs.Common.{◌≡◌, ℕ, arith, ap, Some, None, length, subst, ◌∙◌}
-use Rattle.std.proofs.lemmas.Option.{slice_get-get_or}
+use Rattle.std.{proofs.Common.{◌≡◌, ℕ, arith, ap, Some, None, length, subst, ◌∙◌}, proofs.lemmas.Option.{slice_get-get_or}}
 use Rattle.net_rules.proofs.ChainPlaces.{AreAllSoFar, one_so_far, first_left_circles, all_are_places}
 use Rattle.net_rules.proofs.certifying.chains.all_places.Goals as goal
 

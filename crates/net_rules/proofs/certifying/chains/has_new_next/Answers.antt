@@ -1,5 +1,4 @@
-use Rattle.std.proofs.Common.{get_or}
-use Rattle.std.proofs.lemmas.Option.{slice_get-get_or}
+use Rattle.std.{proofs.Common.{get_or}, proofs.lemmas.Option.{slice_get-get_or}}
 use Rattle.net_rules.proofs.ChainPlaces.{first_next_tells, no_next_is_none}
 use Rattle.net_rules.proofs.certifying.chains.has_new_next.Goals as goal
 

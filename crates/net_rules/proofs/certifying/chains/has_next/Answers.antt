@@ -1,8 +1,6 @@
-use Rattle.std.proofs.Common.{get_or, subst, sym, IsTrue, Bool, ◌↔◌}
-use Rattle.std.proofs.lemmas.Option.{slice_get-get_or}
+use Rattle.std.{proofs.Common.{get_or, subst, sym, IsTrue, Bool, ◌↔◌}, proofs.lemmas.Option.{slice_get-get_or}}
 use Rattle.net_tables.specs.Routing.{OfItem}
-use Rattle.net_rules.specs.RecordChains.{HasNext}
-use Rattle.net_rules.proofs.ChainPlaces.{has_next_tells}
+use Rattle.net_rules.{specs.RecordChains.{HasNext}, proofs.ChainPlaces.{has_next_tells}}
 use Rattle.net_rules.proofs.certifying.chains.has_next.Goals as goal
 
 pub returns : goal.returns

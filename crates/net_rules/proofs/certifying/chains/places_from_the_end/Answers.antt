@@ -1,5 +1,4 @@
-use Rattle.std.proofs.Common.{◌≡◌, ℕ, ◌-◌, ◌+◌, arith, Some, length, subst, sym, List, Option, slice_set}
-use Rattle.std.proofs.lemmas.Option.{slice_get_within}
+use Rattle.std.{proofs.Common.{◌≡◌, ℕ, ◌-◌, ◌+◌, arith, Some, length, subst, sym, List, Option, slice_set}, proofs.lemmas.Option.{slice_get_within}}
 use Rattle.plan_values.specs.declared.terminus.PlannedRecord.{PlannedRecord}
 use Rattle.net_rules.proofs.ChainPlaces.{AreFromTheEndBelow, none_given, one_given, given_all, given_enough, index_some, index_none}
 use Rattle.net_rules.proofs.certifying.chains.places_from_the_end.Goals as goal

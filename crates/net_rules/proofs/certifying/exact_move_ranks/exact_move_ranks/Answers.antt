@@ -1,13 +1,7 @@
 use Rattle.std.proofs.Common.{◌≡◌, ℕ, ◌+◌, ◌≤◌, length, arith, List, sym, ◌∙◌, subst}
-use Rattle.net_rules.specs.declared.certifying.longest_ways.Longest.{Longest}
-use Rattle.net_rules.specs.declared.certifying.longest_ways.Longest.TheVariants.{Ended}
+use Rattle.net_rules.{specs.declared.certifying.longest_ways.Longest.{Longest}, specs.declared.certifying.longest_ways.Longest.TheVariants.{Ended}, specs.LongestWays.{IsLongestOrLoop}, specs.RankRuns.{AreNone, AreGrown}, proofs.KnownEnds.{written_whole}, proofs.MoveRankLaws.{AreMixedBelow, mixed_start, mixed_step, mixed_all, longest_small}, proofs.certifying.exact_move_ranks.exact_move_ranks.Goals.{After-stretch_of_both-stretch, In-Ended}}
 use Rattle.plan_values.specs.declared.certificate.NodeRanks.{NodeRanks}
 use Rattle.net_tables.specs.Routing.{MovesTo}
-use Rattle.net_rules.specs.LongestWays.{IsLongestOrLoop}
-use Rattle.net_rules.specs.RankRuns.{AreNone, AreGrown}
-use Rattle.net_rules.proofs.KnownEnds.{written_whole}
-use Rattle.net_rules.proofs.MoveRankLaws.{AreMixedBelow, mixed_start, mixed_step, mixed_all, longest_small}
-use Rattle.net_rules.proofs.certifying.exact_move_ranks.exact_move_ranks.Goals.{After-stretch_of_both-stretch, In-Ended}
 use Rattle.net_rules.proofs.certifying.exact_move_ranks.exact_move_ranks.Goals as goal
 
 -- all EIDs below the stretch are done

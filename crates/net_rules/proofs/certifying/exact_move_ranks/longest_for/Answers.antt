@@ -1,6 +1,5 @@
 use Rattle.std.proofs.Common.{length}
-use Rattle.net_rules.specs.RoutingLoops.{AreNexts}
-use Rattle.net_rules.proofs.MoveRankLaws.{longest_same}
+use Rattle.net_rules.{specs.RoutingLoops.{AreNexts}, proofs.MoveRankLaws.{longest_same}}
 use Rattle.net_rules.proofs.certifying.exact_move_ranks.longest_for.Goals as goal
 
 pub returns : goal.returns

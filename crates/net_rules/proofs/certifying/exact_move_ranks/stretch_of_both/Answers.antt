@@ -1,5 +1,4 @@
-use Rattle.std.proofs.Common.{arith, refl, sym, ◌∙◌}
-use Rattle.std.proofs.Math.Nat.{min-le_left, min-le_right}
+use Rattle.std.{proofs.Common.{arith, refl, sym, ◌∙◌}, proofs.Math.Nat.{min-le_left, min-le_right}}
 use Rattle.net_rules.proofs.MoveRankLaws.{shorter_alike}
 use Rattle.net_rules.proofs.certifying.exact_move_ranks.stretch_of_both.Goals as goal
 

@@ -1,14 +1,7 @@
 use Rattle.std.proofs.Common.{◌≡◌, ℕ, ◌+◌, ◌≤◌, length, arith, List, sym, ◌∙◌, subst}
-use Rattle.net_rules.specs.declared.certifying.walks.Walked.{Walked}
-use Rattle.net_rules.specs.declared.certifying.walks.Walked.TheVariants.{Ended}
+use Rattle.net_rules.{specs.declared.certifying.walks.Walked.{Walked}, specs.declared.certifying.walks.Walked.TheVariants.{Ended}, specs.Circles.{IsWalked}, specs.RankRuns.{AreNone, AreGrown}, specs.Certificates.{AreRoutedBelow}, proofs.KnownEnds.{written_whole}, proofs.RankLaws.{routed_start, routed_step, routed_all, counts_small}, proofs.certifying.exact_ranks.exact_ranks.Goals.{After-stretch_from-stretch, In-Ended}}
 use Rattle.plan_values.specs.declared.certificate.NodeRanks.{NodeRanks}
 use Rattle.net_tables.specs.Routing.{MovesTo}
-use Rattle.net_rules.specs.Circles.{IsWalked}
-use Rattle.net_rules.specs.RankRuns.{AreNone, AreGrown}
-use Rattle.net_rules.specs.Certificates.{AreRoutedBelow}
-use Rattle.net_rules.proofs.KnownEnds.{written_whole}
-use Rattle.net_rules.proofs.RankLaws.{routed_start, routed_step, routed_all, counts_small}
-use Rattle.net_rules.proofs.certifying.exact_ranks.exact_ranks.Goals.{After-stretch_from-stretch, In-Ended}
 use Rattle.net_rules.proofs.certifying.exact_ranks.exact_ranks.Goals as goal
 
 -- all EIDs below the stretch are done

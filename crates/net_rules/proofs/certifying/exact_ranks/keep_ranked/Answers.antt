@@ -1,5 +1,4 @@
-use Rattle.std.proofs.Common.{rules, of_calls}
-use Rattle.std.proofs.lemmas.List.Elements.{filter_from_retain}
+use Rattle.std.{proofs.Common.{rules, of_calls}, proofs.lemmas.List.Elements.{filter_from_retain}}
 use Rattle.net_rules.specs.Certificates.{has_ranges}
 use Rattle.net_rules.proofs.certifying.exact_ranks.keep_ranked.Goals as goal
 

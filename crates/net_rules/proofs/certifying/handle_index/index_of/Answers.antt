@@ -1,8 +1,6 @@
-use Rattle.std.proofs.Common.{ℕ, Option, arith, sym, subst, ◌∙◌, get_or}
-use Rattle.std.proofs.lemmas.Option.{slice_get-get_or}
-use Rattle.net_rules.proofs.IndexLaws.{SaysBelow, index_new, index_kept, index_done, is_none_tells}
+use Rattle.std.{proofs.Common.{ℕ, Option, arith, sym, subst, ◌∙◌, get_or}, proofs.lemmas.Option.{slice_get-get_or}}
+use Rattle.net_rules.{proofs.IndexLaws.{SaysBelow, index_new, index_kept, index_done, is_none_tells}, proofs.certifying.handle_index.index_of.Goals.{then-is_none+in_ok-insert, else-is_none}}
 use Rattle.net_rules.proofs.certifying.handle_index.index_of.Goals as goal
-use Rattle.net_rules.proofs.certifying.handle_index.index_of.Goals.{then-is_none+in_ok-insert, else-is_none}
 
 pub loop-at-init : goal.loop-at-init
 loop-at-init c = λ key. (

@@ -1,9 +1,6 @@
 use Rattle.std.proofs.Common.{◌∙◌, sym, subst, All, List, ℕ, ◌<◌, length}
-use Rattle.net_rules.specs.declared.certifying.walks.Walked.{Walked}
-use Rattle.net_rules.specs.declared.certifying.walks.Walked.TheVariants.{Ended}
+use Rattle.net_rules.{specs.declared.certifying.walks.Walked.{Walked}, specs.declared.certifying.walks.Walked.TheVariants.{Ended}, specs.Circles.{IsWalked}, proofs.LevelLaws.{counts_small, are_levels}}
 use Rattle.net_tables.specs.Ownership.{IsOwnedBy}
-use Rattle.net_rules.specs.Circles.{IsWalked}
-use Rattle.net_rules.proofs.LevelLaws.{counts_small, are_levels}
 use Rattle.net_rules.proofs.certifying.levels.levels_of.Goals as goal
 
 pub levels_from-requires : goal.levels_from-requires

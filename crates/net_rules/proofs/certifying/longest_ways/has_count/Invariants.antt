@@ -1,5 +1,4 @@
-use Rattle.std.proofs.Common.{◌≢◌, ℕ, ◌<◌, Some}
-use Rattle.std.specs.Prelude.{slice_get}
+use Rattle.std.{proofs.Common.{◌≢◌, ℕ, ◌<◌, Some}, specs.Prelude.{slice_get}}
 use Rattle.net_rules.proofs.certifying.longest_ways.has_count.Given as goal
 
 abbrev pub invariant-loop-index : goal.invariant-loop-index

@@ -1,7 +1,5 @@
 use Rattle.std.proofs.Common.{length}
-use Rattle.net_rules.specs.Circles.{HasCircle, HasNoCircle}
-use Rattle.net_rules.specs.LongestWays.{AreLongest, MovesByEither}
-use Rattle.net_rules.proofs.WayLaws.{either_within, longest_circle_none}
+use Rattle.net_rules.{specs.Circles.{HasCircle, HasNoCircle}, specs.LongestWays.{AreLongest, MovesByEither}, proofs.WayLaws.{either_within, longest_circle_none}}
 use Rattle.net_rules.proofs.certifying.longest_ways.longest_or_loop.Goals as goal
 
 pub returns-in-Some : goal.returns-in-Some

@@ -1,10 +1,5 @@
-use Rattle.std.proofs.Common.{◌≡◌, ℕ, ◌+◌, List, length, arith, subst, refl, ap, ◌∙◌, sym}
-use Rattle.std.specs.Prelude.{slice_get}
-use Rattle.std.proofs.lemmas.Bool.{false≢true}
-use Rattle.std.proofs.lemmas.List.{length-replicate}
-use Rattle.net_rules.specs.LongestWays.{MovesByEither, AreLongestWithin, HasWayOf}
-use Rattle.net_rules.proofs.WayLaws.{none_within, all_none, none_longer, way_of_count, circle_of_way}
-use Rattle.net_rules.proofs.certifying.longest_ways.longest_ways.Goals.{In_ok-more}
+use Rattle.std.{proofs.Common.{◌≡◌, ℕ, ◌+◌, List, length, arith, subst, refl, ap, ◌∙◌, sym}, specs.Prelude.{slice_get}, proofs.lemmas.Bool.{false≢true}, proofs.lemmas.List.{length-replicate}}
+use Rattle.net_rules.{specs.LongestWays.{MovesByEither, AreLongestWithin, HasWayOf}, proofs.WayLaws.{none_within, all_none, none_longer, way_of_count, circle_of_way}, proofs.certifying.longest_ways.longest_ways.Goals.{In_ok-more}}
 use Rattle.net_rules.proofs.certifying.longest_ways.longest_ways.Goals as goal
 
 pub loop-most-init : goal.loop-most-init

@@ -1,11 +1,6 @@
-use Rattle.std.proofs.Common.{arith, inl, inr}
-use Rattle.std.proofs.lemmas.Bool.{cases_lt}
+use Rattle.std.{proofs.Common.{arith, inl, inr}, proofs.lemmas.Bool.{cases_lt}}
 use borrow.Author.Count.{below_more}
-use Rattle.net_rules.specs.Circles.{IsOnCircle}
-use Rattle.net_rules.specs.LongestWays.{MovesByEither}
-use Rattle.net_rules.specs.MixedLoops.{IsFirstReturn}
-use Rattle.net_rules.proofs.WayLaws.{either_within}
-use Rattle.net_rules.proofs.LoopLaws.{on_circle}
+use Rattle.net_rules.{specs.Circles.{IsOnCircle}, specs.LongestWays.{MovesByEither}, specs.MixedLoops.{IsFirstReturn}, proofs.WayLaws.{either_within}, proofs.LoopLaws.{on_circle}}
 use Rattle.net_rules.proofs.certifying.mixed_loops.first_loop.Goals as goal
 
 pub loop_along-requires-clause-least : goal.loop_along-requires-clause-least

@@ -1,6 +1,5 @@
 use Rattle.std.proofs.Common.{ℕ, ◌<◌}
-use Rattle.net_rules.specs.Circles.{IsOnCircle}
-use Rattle.net_rules.specs.LongestWays.{MovesByEither}
+use Rattle.net_rules.{specs.Circles.{IsOnCircle}, specs.LongestWays.{MovesByEither}}
 use Rattle.net_rules.proofs.certifying.mixed_loops.first_loop.Given as goal
 
 abbrev pub invariant-loop-start : goal.invariant-loop-start

@@ -1,12 +1,5 @@
-use Rattle.std.proofs.Common.{◌≡◌, ℕ, suc, ◌+◌, ◌-◌, ◌<◌, List, Bool, Some, length, arith, subst, sym, ◌∙◌, ap}
-use Rattle.std.specs.Prelude.{slice_get}
-use Rattle.std.proofs.lemmas.Option.{slice_get-get_or}
-use Rattle.net_rules.specs.Moves.{Leads}
-use Rattle.net_rules.specs.Circles.{MovesBy}
-use Rattle.net_rules.specs.LongestWays.{MovesByEither}
-use Rattle.net_rules.specs.MixedLoops.{AreMarked}
-use Rattle.net_rules.proofs.LoopLaws.{IsOnTheWay, left_over, one_hop_more, closes}
-use Rattle.net_rules.proofs.certifying.mixed_loops.loop_along.Goals.{After-deref}
+use Rattle.std.{proofs.Common.{◌≡◌, ℕ, suc, ◌+◌, ◌-◌, ◌<◌, List, Bool, Some, length, arith, subst, sym, ◌∙◌, ap}, specs.Prelude.{slice_get}, proofs.lemmas.Option.{slice_get-get_or}}
+use Rattle.net_rules.{specs.Moves.{Leads}, specs.Circles.{MovesBy}, specs.LongestWays.{MovesByEither}, specs.MixedLoops.{AreMarked}, proofs.LoopLaws.{IsOnTheWay, left_over, one_hop_more, closes}, proofs.certifying.mixed_loops.loop_along.Goals.{After-deref}}
 use Rattle.net_rules.proofs.certifying.mixed_loops.loop_along.Goals as goal
 
 -- the marks of the moves that are left after the next one

@@ -1,6 +1,5 @@
 use Rattle.std.proofs.Common.{◌-◌, length}
-use Rattle.net_rules.specs.Circles.{MovesBy}
-use Rattle.net_rules.proofs.LoopLaws.{IsOnTheWay}
+use Rattle.net_rules.{specs.Circles.{MovesBy}, proofs.LoopLaws.{IsOnTheWay}}
 use Rattle.net_rules.proofs.certifying.mixed_loops.loop_along.Given as goal
 
 abbrev pub invariant-loop-left : goal.invariant-loop-left

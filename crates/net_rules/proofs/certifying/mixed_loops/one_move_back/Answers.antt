@@ -1,7 +1,5 @@
 use Rattle.std.proofs.Common.{◌≡◌, ℕ, Bool, ◌||◌, length, arith, subst, ◌∙◌, refl}
-use Rattle.net_rules.specs.Circles.{next_in}
-use Rattle.net_rules.specs.MixedLoops.{leads_to_mark}
-use Rattle.net_rules.proofs.LoopLaws.{AreTested, tested_pushed, back_is_marked}
+use Rattle.net_rules.{specs.Circles.{next_in}, specs.MixedLoops.{leads_to_mark}, proofs.LoopLaws.{AreTested, tested_pushed, back_is_marked}}
 use Rattle.net_rules.proofs.certifying.mixed_loops.one_move_back.Goals as goal
 
 pub returns-clause-marked : goal.returns-clause-marked

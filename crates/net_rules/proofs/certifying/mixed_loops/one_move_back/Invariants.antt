@@ -1,7 +1,5 @@
 use Rattle.std.specs.Prelude.{◌||◌}
-use Rattle.net_rules.specs.Circles.{next_in}
-use Rattle.net_rules.specs.MixedLoops.{leads_to_mark}
-use Rattle.net_rules.proofs.LoopLaws.{AreTested}
+use Rattle.net_rules.{specs.Circles.{next_in}, specs.MixedLoops.{leads_to_mark}, proofs.LoopLaws.{AreTested}}
 use Rattle.net_rules.proofs.certifying.mixed_loops.one_move_back.Given as goal
 
 abbrev pub invariant-loop-index : goal.invariant-loop-index

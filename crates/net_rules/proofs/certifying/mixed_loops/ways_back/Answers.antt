@@ -1,12 +1,5 @@
-use Rattle.std.proofs.Common.{◌≡◌, ℕ, ◌+◌, ◌<◌, ◌∷◌, [], ◌++◌, List, Bool, Some, length, arith, subst, sym, ◌∙◌, ap, refl, false, true}
-use Rattle.std.specs.Prelude.{slice_get}
-use Rattle.std.proofs.lemmas.List.{length_push}
-use Rattle.std.proofs.lemmas.Option.{slice_get-get_or}
-use Rattle.net_rules.specs.Moves.{Leads}
-use Rattle.net_rules.specs.LongestWays.{MovesByEither}
-use Rattle.net_rules.specs.MixedLoops.{AreMarked, is_marked}
-use Rattle.net_rules.proofs.LoopLaws.{IsOneBack, first_ways, ways_next, ways_pushed, returned, not_back_yet, never_back_either}
-use Rattle.net_rules.proofs.certifying.mixed_loops.ways_back.Goals.{In_ok-marks}
+use Rattle.std.{proofs.Common.{◌≡◌, ℕ, ◌+◌, ◌<◌, ◌∷◌, [], ◌++◌, List, Bool, Some, length, arith, subst, sym, ◌∙◌, ap, refl, false, true}, specs.Prelude.{slice_get}, proofs.lemmas.List.{length_push}, proofs.lemmas.Option.{slice_get-get_or}}
+use Rattle.net_rules.{specs.Moves.{Leads}, specs.LongestWays.{MovesByEither}, specs.MixedLoops.{AreMarked, is_marked}, proofs.LoopLaws.{IsOneBack, first_ways, ways_next, ways_pushed, returned, not_back_yet, never_back_either}, proofs.certifying.mixed_loops.ways_back.Goals.{In_ok-marks}}
 use Rattle.net_rules.proofs.certifying.mixed_loops.ways_back.Goals as goal
 
 pub loop-moves-init : goal.loop-moves-init

@@ -1,7 +1,5 @@
 use Rattle.std.proofs.Common.{◌≡◌, ℕ, ◌+◌, ◌<◌, ◌≤◌, length}
-use Rattle.net_rules.specs.Moves.{Leads}
-use Rattle.net_rules.specs.LongestWays.{MovesByEither}
-use Rattle.net_rules.specs.MixedLoops.{AreWaysBack}
+use Rattle.net_rules.{specs.Moves.{Leads}, specs.LongestWays.{MovesByEither}, specs.MixedLoops.{AreWaysBack}}
 use Rattle.net_rules.proofs.certifying.mixed_loops.ways_back.Given as goal
 
 abbrev pub invariant-loop-moves : goal.invariant-loop-moves

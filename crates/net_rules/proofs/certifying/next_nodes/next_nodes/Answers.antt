@@ -1,5 +1,4 @@
-use Rattle.std.proofs.Common.{◌≡◌, ◌+◌, sym, arith, subst, inl, inr, ◌++◌, ◌∷◌, []}
-use Rattle.std.proofs.lemmas.List.{length_push}
+use Rattle.std.{proofs.Common.{◌≡◌, ◌+◌, sym, arith, subst, inl, inr, ◌++◌, ◌∷◌, []}, proofs.lemmas.List.{length_push}}
 use Rattle.net_rules.specs.RoutingLoops.{IsNext, AreNexts}
 use Rattle.net_tables.proofs.Elements.{in_push}
 use Rattle.net_rules.proofs.certifying.next_nodes.next_nodes.Goals as goal

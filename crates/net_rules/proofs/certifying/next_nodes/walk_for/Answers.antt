@@ -1,6 +1,5 @@
 use Rattle.std.proofs.Common.{length}
-use Rattle.net_rules.specs.RoutingLoops.{AreNexts}
-use Rattle.net_rules.proofs.EidMoves.{walked_same}
+use Rattle.net_rules.{specs.RoutingLoops.{AreNexts}, proofs.EidMoves.{walked_same}}
 use Rattle.net_rules.proofs.certifying.next_nodes.walk_for.Goals as goal
 
 pub returns : goal.returns

@@ -1,10 +1,6 @@
-use Rattle.std.proofs.Common.{◌≡◌, ℕ, List, ◌+◌, ◌-◌, ◌<◌, ◌≤◌, length, sym, ◌∙◌, ap, arith, subst}
-use Rattle.std.specs.Prelude.{slice_set}
-use Rattle.std.proofs.lemmas.Bool.{false≢true}
+use Rattle.std.{proofs.Common.{◌≡◌, ℕ, List, ◌+◌, ◌-◌, ◌<◌, ◌≤◌, length, sym, ◌∙◌, ap, arith, subst}, specs.Prelude.{slice_set}, proofs.lemmas.Bool.{false≢true}}
 use Rattle.plan_values.specs.declared.certificate.RankRange.{RankRange}
-use Rattle.net_rules.specs.RankRuns.{AreLongestRuns, Continues, below}
-use Rattle.net_rules.proofs.RankRunLaws.{skipped, pushed, extended, read_last, precedes_ends}
-use Rattle.net_rules.proofs.certifying.rank_ranges.add_rank.Goals.{After-index}
+use Rattle.net_rules.{specs.RankRuns.{AreLongestRuns, Continues, below}, proofs.RankRunLaws.{skipped, pushed, extended, read_last, precedes_ends}, proofs.certifying.rank_ranges.add_rank.Goals.{After-index}}
 use Rattle.net_rules.proofs.certifying.rank_ranges.add_rank.Goals as goal
 
 -- the rank of each EID of the stretch, up to the one before its end

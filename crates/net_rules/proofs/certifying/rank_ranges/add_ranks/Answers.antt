@@ -1,7 +1,4 @@
-use Rattle.std.proofs.Common.{◌≡◌, ◌<◌, length, Some, sym, ◌∙◌, ap, arith, subst, inl, inr, get_or}
-use Rattle.std.specs.Prelude.{slice_get}
-use Rattle.std.proofs.lemmas.Option.{slice_get_within, get_or_from_slice_get}
-use Rattle.std.proofs.lemmas.List.{length-set}
+use Rattle.std.{proofs.Common.{◌≡◌, ◌<◌, length, Some, sym, ◌∙◌, ap, arith, subst, inl, inr, get_or}, specs.Prelude.{slice_get}, proofs.lemmas.Option.{slice_get_within, get_or_from_slice_get}, proofs.lemmas.List.{length-set}}
 use Rattle.plan_values.specs.declared.certificate.NodeRanks.{NodeRanks}
 use Rattle.net_rules.specs.RankRuns.{IsGrown, AreLongestRuns, below}
 use Rattle.net_tables.proofs.Elements.{in_set, set_elsewhere}

@@ -1,5 +1,4 @@
-use Rattle.std.proofs.Common.{◌≡◌, ℕ, ◌<◌, ◌≤◌, length, Some}
-use Rattle.std.specs.Prelude.{slice_get}
+use Rattle.std.{proofs.Common.{◌≡◌, ℕ, ◌<◌, ◌≤◌, length, Some}, specs.Prelude.{slice_get}}
 use Rattle.plan_values.specs.declared.certificate.NodeRanks.{NodeRanks}
 use Rattle.net_rules.specs.RankRuns.{IsGrown}
 use Rattle.net_rules.proofs.certifying.rank_ranges.add_ranks.Given as goal

@@ -1,5 +1,4 @@
-use Rattle.std.proofs.Common.{sym, subst, ◌∙◌}
-use Rattle.std.proofs.lemmas.Option.{same_Some}
+use Rattle.std.{proofs.Common.{sym, subst, ◌∙◌}, proofs.lemmas.Option.{same_Some}}
 use Rattle.plan_values.specs.declared.certificate.RankRange.{RankRange}
 use Rattle.net_rules.specs.RankRuns.{Precedes}
 use Rattle.net_rules.proofs.certifying.rank_ranges.continues.Goals as goal

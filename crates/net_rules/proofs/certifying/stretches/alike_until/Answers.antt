@@ -1,7 +1,5 @@
-use Rattle.std.proofs.Common.{◌≡◌, ◌⊎◌, ℕ, arith}
-use Rattle.std.proofs.Math.Nat.{min-le_left, min-le_right, le-min}
-use Rattle.net_rules.specs.MovingAlike.{IsCutAt}
-use Rattle.net_rules.proofs.AlikeLaws.{alike, of_lesser, cut_by_held, cut_by_row}
+use Rattle.std.{proofs.Common.{◌≡◌, ◌⊎◌, ℕ, arith}, proofs.Math.Nat.{min-le_left, min-le_right, le-min}}
+use Rattle.net_rules.{specs.MovingAlike.{IsCutAt}, proofs.AlikeLaws.{alike, of_lesser, cut_by_held, cut_by_row}}
 use Rattle.net_rules.proofs.certifying.stretches.alike_until.Goals as goal
 
 pub returns-clause-alike : goal.returns-clause-alike

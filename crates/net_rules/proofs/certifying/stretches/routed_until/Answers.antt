@@ -1,7 +1,6 @@
 use Rattle.std.proofs.Common.{ℕ, List, ◌∷◌, subst, arith}
 use Rattle.mctp_routing.specs.Pieces.{PieceValue, piece_value, ArePieces}
-use Rattle.net_rules.proofs.AlikeLaws.{piece_inside, piece_hop, piece_ends, some_piece}
-use Rattle.net_rules.proofs.certifying.stretches.routed_until.Goals.{In-Some}
+use Rattle.net_rules.{proofs.AlikeLaws.{piece_inside, piece_hop, piece_ends, some_piece}, proofs.certifying.stretches.routed_until.Goals.{In-Some}}
 use Rattle.net_rules.proofs.certifying.stretches.routed_until.Goals as goal
 
 pieces : (c : In-Some) → ArePieces c.args.table.now c.args.first.value 254 (piece_value c.in-Some.piece ∷ c.next.new.self)

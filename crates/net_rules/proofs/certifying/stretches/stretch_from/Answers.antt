@@ -1,9 +1,5 @@
-use Rattle.std.proofs.Common.{◌≡◌, ◌⊎◌, ℕ, ◌<◌, length, Some, sym, ◌∙◌, ap, subst, arith, inl, inr}
-use Rattle.std.proofs.Math.Nat.{min-le_left, min-le_right, le-min}
-use Rattle.std.proofs.lemmas.Bool.{cases_lt}
-use Rattle.std.proofs.lemmas.Option.{slice_get-get_or}
-use Rattle.net_rules.specs.MovingAlike.{MovesAlike, IsCut}
-use Rattle.net_rules.proofs.AlikeLaws.{all_alike, of_lesser, cut_by_node}
+use Rattle.std.{proofs.Common.{◌≡◌, ◌⊎◌, ℕ, ◌<◌, length, Some, sym, ◌∙◌, ap, subst, arith, inl, inr}, proofs.Math.Nat.{min-le_left, min-le_right, le-min}, proofs.lemmas.Bool.{cases_lt}, proofs.lemmas.Option.{slice_get-get_or}}
+use Rattle.net_rules.{specs.MovingAlike.{MovesAlike, IsCut}, proofs.AlikeLaws.{all_alike, of_lesser, cut_by_node}}
 use Rattle.net_rules.proofs.certifying.stretches.stretch_from.Goals as goal
 
 pub loop-node-preserved : goal.loop-node-preserved

@@ -1,7 +1,5 @@
-use Rattle.std.proofs.Common.{length}
-use Rattle.std.proofs.lemmas.Result.{IfOk-weaker}
-use Rattle.net_tables.specs.Tables.{AreTabled, AreTables}
-use Rattle.net_tables.proofs.TableLaws.{tabled_sends}
+use Rattle.std.{proofs.Common.{length}, proofs.lemmas.Result.{IfOk-weaker}}
+use Rattle.net_tables.{specs.Tables.{AreTabled, AreTables}, proofs.TableLaws.{tabled_sends}}
 use Rattle.net_rules.proofs.certifying.tables.certifying_tables.Goals as goal
 
 pub returns : goal.returns

@@ -1,8 +1,6 @@
-use Rattle.std.proofs.Common.{sym, ◌∙◌, arith, inl, inr}
-use Rattle.std.proofs.lemmas.Bool.{false≢true, cases_lt}
+use Rattle.std.{proofs.Common.{sym, ◌∙◌, arith, inl, inr}, proofs.lemmas.Bool.{false≢true, cases_lt}}
 use borrow.Author.Count.{below_more}
-use Rattle.net_rules.specs.Circles.{MovesBy, IsOnCircle}
-use Rattle.net_rules.proofs.Circling.{table_within}
+use Rattle.net_rules.{specs.Circles.{MovesBy, IsOnCircle}, proofs.Circling.{table_within}}
 use Rattle.net_rules.proofs.certifying.walks.first_on_circle.Goals as goal
 
 pub returns-then-is_on_circle : goal.returns-then-is_on_circle

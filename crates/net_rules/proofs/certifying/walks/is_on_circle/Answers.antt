@@ -1,7 +1,5 @@
-use Rattle.std.proofs.Common.{sym, ◌∙◌, refl, ap, arith, add-one, Some}
-use Rattle.std.proofs.lemmas.Bool.{false≢true}
-use Rattle.net_rules.specs.Circles.{MovesBy}
-use Rattle.net_rules.proofs.Circling.{not_back_more, never_back, ended_not_back, one_more}
+use Rattle.std.{proofs.Common.{sym, ◌∙◌, refl, ap, arith, add-one, Some}, proofs.lemmas.Bool.{false≢true}}
+use Rattle.net_rules.{specs.Circles.{MovesBy}, proofs.Circling.{not_back_more, never_back, ended_not_back, one_more}}
 use Rattle.net_rules.proofs.certifying.walks.is_on_circle.Goals as goal
 
 pub returns-in_default : goal.returns-in_default

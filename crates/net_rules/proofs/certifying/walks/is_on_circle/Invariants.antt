@@ -1,6 +1,4 @@
-use Rattle.net_rules.specs.Moves.{Leads}
-use Rattle.net_rules.specs.Circles.{MovesBy}
-use Rattle.net_rules.proofs.Circling.{NotBackWithin}
+use Rattle.net_rules.{specs.Moves.{Leads}, specs.Circles.{MovesBy}, proofs.Circling.{NotBackWithin}}
 use Rattle.net_rules.proofs.certifying.walks.is_on_circle.Given as goal
 
 abbrev pub invariant-loop-count : goal.invariant-loop-count

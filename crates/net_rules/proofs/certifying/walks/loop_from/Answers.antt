@@ -1,7 +1,5 @@
-use Rattle.std.proofs.Common.{length, sym, arith, ◌-◌}
-use Rattle.net_rules.specs.Circles.{MovesBy}
-use Rattle.net_rules.proofs.Circling.{one_place_more, under_way_within, stands_there, ended_not_back}
-use Rattle.std.proofs.lemmas.List.{length_push}
+use Rattle.std.{proofs.Common.{length, sym, arith, ◌-◌}, proofs.lemmas.List.{length_push}}
+use Rattle.net_rules.{specs.Circles.{MovesBy}, proofs.Circling.{one_place_more, under_way_within, stands_there, ended_not_back}}
 use Rattle.net_rules.proofs.certifying.walks.loop_from.Goals as goal
 
 pub loop-next-smaller : goal.loop-next-smaller

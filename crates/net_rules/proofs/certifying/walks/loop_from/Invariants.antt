@@ -1,6 +1,5 @@
 use Rattle.std.proofs.Common.{◌-◌, ◌+◌, length}
-use Rattle.net_rules.specs.Circles.{MovesBy}
-use Rattle.net_rules.proofs.Circling.{IsUnderWay}
+use Rattle.net_rules.{specs.Circles.{MovesBy}, proofs.Circling.{IsUnderWay}}
 use Rattle.net_rules.proofs.certifying.walks.loop_from.Given as goal
 
 abbrev pub invariant-loop-next : goal.invariant-loop-next

@@ -1,7 +1,5 @@
 use Rattle.std.proofs.Common.{◌+◌, sym, arith, add-one}
-use Rattle.net_rules.specs.Circles.{MovesBy}
-use Rattle.net_rules.proofs.Circling.{one_more}
-use Rattle.net_rules.proofs.KnownEnds.{long_way, ends_soon, ends_behind}
+use Rattle.net_rules.{specs.Circles.{MovesBy}, proofs.Circling.{one_more}, proofs.KnownEnds.{long_way, ends_soon, ends_behind}}
 use Rattle.net_rules.proofs.certifying.walks.moves_to_end.Goals as goal
 
 pub overflow_add-result : goal.overflow_add-result

@@ -1,8 +1,6 @@
-use Rattle.std.proofs.Common.{◌≡◌, ℕ, ◌+◌, List, [], ◌∷◌, ◌++◌, length, Option, subst, sym, inl, inr, arith}
-use Rattle.std.proofs.lemmas.List.{length_push}
-use Rattle.net_rules.specs.Circles.{MovesBy, EndsAfter, AreKnown, AreMovesToEnds}
+use Rattle.std.{proofs.Common.{◌≡◌, ℕ, ◌+◌, List, [], ◌∷◌, ◌++◌, length, Option, subst, sym, inl, inr, arith}, proofs.lemmas.List.{length_push}}
+use Rattle.net_rules.{specs.Circles.{MovesBy, EndsAfter, AreKnown, AreMovesToEnds}, proofs.KnownEnds.{written_whole}}
 use Rattle.net_tables.proofs.Elements.{in_push}
-use Rattle.net_rules.proofs.KnownEnds.{written_whole}
 use Rattle.net_rules.proofs.certifying.walks.moves_to_ends.Goals as goal
 
 pub loop-index-preserved : goal.loop-index-preserved

@@ -1,7 +1,5 @@
-use Rattle.std.proofs.Common.{◌<◌, length, Some, sym, ◌∙◌, rules}
-use Rattle.std.proofs.lemmas.List.{length-set}
-use Rattle.net_rules.specs.Circles.{MovesBy}
-use Rattle.net_rules.proofs.KnownEnds.{knows_more, ends_nearer}
+use Rattle.std.{proofs.Common.{◌<◌, length, Some, sym, ◌∙◌, rules}, proofs.lemmas.List.{length-set}}
+use Rattle.net_rules.{specs.Circles.{MovesBy}, proofs.KnownEnds.{knows_more, ends_nearer}}
 use Rattle.net_rules.proofs.certifying.walks.note_moves.Goals as goal
 
 pub loop-known-preserved : goal.loop-known-preserved

@@ -1,6 +1,5 @@
 use Rattle.std.proofs.Common.{length}
-use Rattle.net_rules.specs.Circles.{MovesBy, HasCircle, AreMovesToEnds}
-use Rattle.net_rules.proofs.KnownEnds.{ends_circle_none}
+use Rattle.net_rules.{specs.Circles.{MovesBy, HasCircle, AreMovesToEnds}, proofs.KnownEnds.{ends_circle_none}}
 use Rattle.net_rules.proofs.certifying.walks.walk.Goals as goal
 
 pub returns-in-Some : goal.returns-in-Some

@@ -1,10 +1,6 @@
-use Rattle.std.proofs.Common.{◌≡◌, List, length, get_or, Some, None, refl, sym, subst}
-use Rattle.std.specs.Prelude.{slice_get}
-use Rattle.std.proofs.lemmas.Option.{slice_get-get_or}
+use Rattle.std.{proofs.Common.{◌≡◌, List, length, get_or, Some, None, refl, sym, subst}, specs.Prelude.{slice_get}, proofs.lemmas.Option.{slice_get-get_or}}
 use Rattle.plan_values.specs.declared.plan.Plan.{Plan}
-use Rattle.net_rules.specs.declared.holders.Holder.{Holder}
-use Rattle.net_rules.specs.Holders.{IsFirstHolder, AreFirstHolders}
-use Rattle.net_rules.proofs.HolderLaws.{stands_within, first_there, first_none}
+use Rattle.net_rules.{specs.declared.holders.Holder.{Holder}, specs.Holders.{IsFirstHolder, AreFirstHolders}, proofs.HolderLaws.{stands_within, first_there, first_none}}
 use Rattle.net_rules.proofs.holders.Holders.first.Goals as goal
 
 pub bounds-holders-index : goal.bounds-holders-index

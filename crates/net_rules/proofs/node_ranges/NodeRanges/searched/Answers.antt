@@ -1,11 +1,7 @@
-use Rattle.std.proofs.Common.{◌≡◌, ℕ, List, length, Some, None, refl, sym, subst, arith}
-use Rattle.std.specs.Prelude.{slice_get}
-use Rattle.std.proofs.lemmas.Option.{slice_get_read, slice_get_past}
+use Rattle.std.{proofs.Common.{◌≡◌, ℕ, List, length, Some, None, refl, sym, subst, arith}, specs.Prelude.{slice_get}, proofs.lemmas.Option.{slice_get_read, slice_get_past}}
 use Rattle.plan_values.specs.declared.certificate.RankRange.{RankRange}
 use Rattle.net_tables.specs.Ranks.{rank_in}
-use Rattle.net_rules.specs.Stretches.{IsAlong}
-use Rattle.net_rules.specs.RanksByEid.{RangesFollow}
-use Rattle.net_rules.proofs.RanksByEid.{along_within, along_before, along_after}
+use Rattle.net_rules.{specs.Stretches.{IsAlong}, specs.RanksByEid.{RangesFollow}, proofs.RanksByEid.{along_within, along_before, along_after}}
 use Rattle.net_rules.proofs.node_ranges.NodeRanges.searched.Goals as goal
 
 pub returns-in-Some : goal.returns-in-Some

@@ -1,13 +1,8 @@
-use Rattle.std.proofs.Common.{◌≡◌, ℕ, List, length, Some, None, refl, subst}
-use Rattle.std.specs.Prelude.{slice_get}
-use Rattle.std.proofs.lemmas.Option.{slice_get_read}
+use Rattle.std.{proofs.Common.{◌≡◌, ℕ, List, length, Some, None, refl, subst}, specs.Prelude.{slice_get}, proofs.lemmas.Option.{slice_get_read}}
 use Rattle.plan_values.specs.declared.certificate.RankRange.{RankRange}
 use Rattle.net_tables.specs.Ranks.{rank_in}
-use Rattle.net_rules.specs.Stretches.{IsAlong}
-use Rattle.net_rules.specs.RanksByEid.{RangesFollow}
-use Rattle.mctp_transport.specs.declared.eid_run.EidRun.{EidRun}
-use Rattle.mctp_transport.specs.EidRuns.{IsInRun}
-use Rattle.net_rules.proofs.RanksByEid.{along_within}
+use Rattle.net_rules.{specs.Stretches.{IsAlong}, specs.RanksByEid.{RangesFollow}, proofs.RanksByEid.{along_within}}
+use Rattle.mctp_transport.{specs.declared.eid_run.EidRun.{EidRun}, specs.EidRuns.{IsInRun}}
 use Rattle.net_rules.proofs.node_ranges.NodeRanges.stretch.Goals as goal
 
 pub returns-in-Some : goal.returns-in-Some

@@ -1,9 +1,6 @@
 use Rattle.std.proofs.Common.{ℕ, List, subst}
 use Rattle.plan_values.specs.declared.nodes.Row.{Row}
-use Rattle.net_rules.specs.declared.span.Span.{Span}
-use Rattle.net_rules.specs.Spans.{IsCovered, IsInSpans}
-use Rattle.net_rules.specs.Stretches.{IsStretch}
-use Rattle.net_rules.proofs.SpanLaws.{stretch_of}
+use Rattle.net_rules.{specs.declared.span.Span.{Span}, specs.Spans.{IsCovered, IsInSpans}, specs.Stretches.{IsStretch}, proofs.SpanLaws.{stretch_of}}
 use Rattle.net_rules.proofs.node_rows.NodeRows.border.Goals as goal
 
 pub returns : goal.returns

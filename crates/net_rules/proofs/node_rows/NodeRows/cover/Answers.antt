@@ -1,8 +1,6 @@
-use Rattle.std.proofs.Common.{ℕ, List, subst}
+use Rattle.std.{proofs.Common.{ℕ, List, subst}, specs.Prelude.{◌↔◌, IsTrue}}
 use Rattle.plan_values.specs.declared.nodes.Row.{Row}
-use Rattle.net_rules.specs.declared.span.Span.{Span}
-use Rattle.net_rules.specs.Spans.{IsCovered, IsInSpans}
-use Rattle.std.specs.Prelude.{◌↔◌, IsTrue}
+use Rattle.net_rules.{specs.declared.span.Span.{Span}, specs.Spans.{IsCovered, IsInSpans}}
 use Rattle.net_rules.proofs.node_rows.NodeRows.cover.Goals as goal
 
 pub returns : goal.returns

@@ -1,7 +1,6 @@
 use Rattle.std.proofs.Common.{List, subst}
 use Rattle.plan_values.specs.declared.nodes.Row.{Row}
-use Rattle.net_rules.specs.Spans.{IsJoined}
-use Rattle.net_rules.proofs.SpanLaws.{joined_moved}
+use Rattle.net_rules.{specs.Spans.{IsJoined}, proofs.SpanLaws.{joined_moved}}
 use Rattle.net_rules.proofs.node_rows.NodeRows.of.Goals as goal
 
 pub invariant_of-result-2 : goal.invariant_of-result-2

@@ -1,7 +1,6 @@
 use Rattle.std.proofs.Common.{ℕ, List, subst}
 use Rattle.plan_values.specs.declared.nodes.Row.{Row}
-use Rattle.net_rules.specs.declared.span.Span.{Span}
-use Rattle.net_rules.specs.Spans.{IsCovered, IsInSpan, IsInSpans}
+use Rattle.net_rules.{specs.declared.span.Span.{Span}, specs.Spans.{IsCovered, IsInSpan, IsInSpans}}
 use Rattle.net_rules.proofs.node_rows.NodeRows.span_from.Goals as goal
 
 pub returns : goal.returns

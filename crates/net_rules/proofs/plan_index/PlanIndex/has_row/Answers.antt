@@ -1,8 +1,5 @@
-use Rattle.std.proofs.Common.{◌≡◌, ℕ, List, length, Some, refl, subst}
-use Rattle.std.specs.Prelude.{◌↔◌, IsTrue, slice_get}
-use Rattle.std.proofs.lemmas.Option.{slice_get_read}
-use Rattle.plan_values.specs.declared.plan.Plan.{Plan}
-use Rattle.plan_values.specs.declared.nodes.Row.{Row}
+use Rattle.std.{proofs.Common.{◌≡◌, ℕ, List, length, Some, refl, subst}, specs.Prelude.{◌↔◌, IsTrue, slice_get}, proofs.lemmas.Option.{slice_get_read}}
+use Rattle.plan_values.{specs.declared.plan.Plan.{Plan}, specs.declared.nodes.Row.{Row}}
 use Rattle.net_tables.specs.Routing.{HasRow, rows_of}
 use Rattle.net_rules.proofs.CoveredLaws.{covered_has}
 use Rattle.net_rules.proofs.plan_index.PlanIndex.has_row.Goals as goal

@@ -1,14 +1,7 @@
-use Rattle.std.proofs.Common.{◌≡◌, ℕ, List, length, Some, refl, subst, arith}
-use Rattle.std.specs.Prelude.{slice_get}
-use Rattle.std.proofs.lemmas.Option.{slice_get_read}
-use Rattle.plan_values.specs.declared.plan.Plan.{Plan}
-use Rattle.plan_values.specs.declared.nodes.Row.{Row}
+use Rattle.std.{proofs.Common.{◌≡◌, ℕ, List, length, Some, refl, subst, arith}, specs.Prelude.{slice_get}, proofs.lemmas.Option.{slice_get_read}}
+use Rattle.plan_values.{specs.declared.plan.Plan.{Plan}, specs.declared.nodes.Row.{Row}}
 use Rattle.net_tables.specs.Routing.{HasRow, rows_of}
-use Rattle.net_rules.specs.Spans.{IsCovered}
-use Rattle.net_rules.proofs.CoveredLaws.{covered_has}
-use Rattle.net_rules.specs.Stretches.{IsStretch}
-use Rattle.net_rules.proofs.SpanLaws.{stretch_of}
-use Rattle.net_rules.proofs.StretchLaws.{one_alike}
+use Rattle.net_rules.{specs.Spans.{IsCovered}, proofs.CoveredLaws.{covered_has}, specs.Stretches.{IsStretch}, proofs.SpanLaws.{stretch_of}, proofs.StretchLaws.{one_alike}}
 use Rattle.net_rules.proofs.plan_index.PlanIndex.row_border.Goals as goal
 
 pub returns-in-Some : goal.returns-in-Some

@@ -1,5 +1,4 @@
-use Rattle.std.proofs.Common.{arith}
-use Rattle.std.proofs.lemmas.Grind.{common_steps}
+use Rattle.std.{proofs.Common.{arith}, proofs.lemmas.Grind.{common_steps}}
 use Rattle.net_rules.proofs.RowsInForce.{both_alike, either_alike}
 use Rattle.net_rules.proofs.plans.Plans.row_border.Goals as goal
 

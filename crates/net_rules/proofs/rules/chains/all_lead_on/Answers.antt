@@ -1,12 +1,8 @@
-use Rattle.std.proofs.Common.{◌≡◌, Some, length, sym, ◌∙◌, subst, arith, rules, refl}
-use Rattle.std.specs.Prelude.{slice_get}
-use Rattle.std.proofs.lemmas.Option.{slice_get_read, slice_get_within, same_Some}
+use Rattle.std.{proofs.Common.{◌≡◌, Some, length, sym, ◌∙◌, subst, arith, rules, refl}, specs.Prelude.{slice_get}, proofs.lemmas.Option.{slice_get_read, slice_get_within, same_Some}}
 use borrow.Author.Count.{below_more}
 use Rattle.plan_values.specs.declared.terminus.PlannedRecord.{PlannedRecord}
-use Rattle.net_tables.specs.Routing.{OfItem}
-use Rattle.net_tables.specs.Repositories.{IsChained}
-use Rattle.net_rules.proofs.Handles.{values, value_of_place}
-use Rattle.net_rules.proofs.Filed.{filed_chained}
+use Rattle.net_tables.{specs.Routing.{OfItem}, specs.Repositories.{IsChained}}
+use Rattle.net_rules.{proofs.Handles.{values, value_of_place}, proofs.Filed.{filed_chained}}
 use Rattle.net_rules.proofs.rules.chains.all_lead_on.Goals as goal
 
 pub loop-j-preserved : goal.loop-j-preserved

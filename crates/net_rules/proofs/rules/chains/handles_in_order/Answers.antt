@@ -1,8 +1,5 @@
-use Rattle.std.proofs.Common.{◌≡◌, Some, length, sym, ◌∙◌, ap, arith, rules, refl}
-use Rattle.std.specs.Prelude.{slice_get}
-use Rattle.std.proofs.lemmas.Option.{slice_get_read}
-use Rattle.net_rules.proofs.Handles.{values, value_of_place}
-use Rattle.net_rules.proofs.Filed.{one_filed}
+use Rattle.std.{proofs.Common.{◌≡◌, Some, length, sym, ◌∙◌, ap, arith, rules, refl}, specs.Prelude.{slice_get}, proofs.lemmas.Option.{slice_get_read}}
+use Rattle.net_rules.{proofs.Handles.{values, value_of_place}, proofs.Filed.{one_filed}}
 use Rattle.net_rules.proofs.rules.chains.handles_in_order.Goals as goal
 
 pub loop-j-preserved : goal.loop-j-preserved

@@ -1,5 +1,4 @@
-use Rattle.net_rules.specs.Handles.{AreFiled}
-use Rattle.net_rules.proofs.Handles.{values}
+use Rattle.net_rules.{specs.Handles.{AreFiled}, proofs.Handles.{values}}
 use Rattle.net_rules.proofs.rules.chains.handles_in_order.Given as goal
 
 abbrev pub invariant-loop-j : goal.invariant-loop-j

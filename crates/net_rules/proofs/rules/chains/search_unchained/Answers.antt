@@ -1,13 +1,9 @@
-use Rattle.std.proofs.Common.{◌≡◌, ◌≤◌, Some, length, refl, sym, ◌∙◌, subst, arith, rules}
-use Rattle.std.specs.Prelude.{slice_get}
-use Rattle.std.proofs.lemmas.Option.{slice_get_read, slice_get_within, same_Some}
+use Rattle.std.{proofs.Common.{◌≡◌, ◌≤◌, Some, length, refl, sym, ◌∙◌, subst, arith, rules}, specs.Prelude.{slice_get}, proofs.lemmas.Option.{slice_get_read, slice_get_within, same_Some}}
 use borrow.Author.Count.{below_more}
 use Rattle.plan_values.specs.declared.terminus.PlannedRecord.{PlannedRecord}
-use Rattle.net_tables.specs.Routing.{OfItem}
-use Rattle.net_tables.specs.Repositories.{IsChained}
-use Rattle.net_rules.proofs.Handles.{values, value_of_place, has_one_more, missed, had, is_chained, not_given, not_new, not_led_on}
+use Rattle.net_tables.{specs.Routing.{OfItem}, specs.Repositories.{IsChained}}
+use Rattle.net_rules.{proofs.Handles.{values, value_of_place, has_one_more, missed, had, is_chained, not_given, not_new, not_led_on}, proofs.rules.chains.search_unchained.Goals.{then-not-is_new-via-then-not-is_new, then-not-is_new-via-else-not-is_new+then-not-leads_on}}
 use Rattle.net_rules.proofs.rules.chains.search_unchained.Goals as goal
-use Rattle.net_rules.proofs.rules.chains.search_unchained.Goals.{then-not-is_new-via-then-not-is_new, then-not-is_new-via-else-not-is_new+then-not-leads_on}
 
 pub returns-in_default : goal.returns-in_default
 returns-in_default c =

@@ -1,6 +1,5 @@
 use Rattle.std.proofs.Common.{ℕ, ◌<◌}
-use Rattle.net_tables.specs.Routing.{OfItem}
-use Rattle.net_tables.specs.Repositories.{IsChained}
+use Rattle.net_tables.{specs.Routing.{OfItem}, specs.Repositories.{IsChained}}
 use Rattle.net_rules.proofs.Handles.{HasBefore, values}
 use Rattle.net_rules.proofs.rules.chains.search_unchained.Given as goal
 

@@ -1,7 +1,6 @@
 use Rattle.std.proofs.Common.{ℕ, List, subst}
 use Rattle.net_tables.specs.Repositories.{records_of, places_of, IsChained}
-use Rattle.net_rules.specs.Search.{IsFirstItem}
-use Rattle.net_rules.proofs.RecordSpots.{record_spot}
+use Rattle.net_rules.{specs.Search.{IsFirstItem}, proofs.RecordSpots.{record_spot}}
 use Rattle.net_rules.proofs.rules.chains.unchained_record.Goals as goal
 
 pub returns : goal.returns

@@ -1,5 +1,4 @@
-use Rattle.std.proofs.Common.{length, arith, inl, inr}
-use Rattle.std.proofs.lemmas.Bool.{cases_lt}
+use Rattle.std.{proofs.Common.{length, arith, inl, inr}, proofs.lemmas.Bool.{cases_lt}}
 use Rattle.net_rules.proofs.MoveOrder.{same_node_beyond}
 use Rattle.net_rules.proofs.rules.frames.first_unlike_node.Goals as goal
 

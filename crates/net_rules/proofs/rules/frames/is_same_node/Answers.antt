@@ -1,6 +1,5 @@
-use Rattle.plan_values.specs.NodeValues.{but_rows}
+use Rattle.plan_values.{specs.NodeValues.{but_rows}, proofs.SameItems.{same_here, value_here}}
 use Rattle.net_rules.specs.MoveRules.{IsSameNode}
-use Rattle.plan_values.proofs.SameItems.{same_here, value_here}
 use Rattle.net_rules.proofs.rules.frames.is_same_node.Goals as goal
 
 pub returns : goal.returns

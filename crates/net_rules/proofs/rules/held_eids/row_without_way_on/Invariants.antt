@@ -1,7 +1,6 @@
 use Rattle.std.proofs.Common.{ℕ, ◌<◌}
 use Rattle.net_tables.specs.Routing.{OfItem, Covers}
-use Rattle.net_rules.specs.PlanTables.{plans_value}
-use Rattle.net_rules.specs.HeldEids.{IsLedOn}
+use Rattle.net_rules.{specs.PlanTables.{plans_value}, specs.HeldEids.{IsLedOn}}
 use Rattle.net_rules.proofs.rules.held_eids.row_without_way_on.Given as goal
 
 abbrev pub invariant-loop-r : goal.invariant-loop-r

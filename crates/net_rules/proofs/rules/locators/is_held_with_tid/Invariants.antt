@@ -1,7 +1,5 @@
-use Rattle.std.proofs.Common.{◌≡◌, ℕ, ◌<◌, Some}
-use Rattle.std.specs.Prelude.{option_map}
-use Rattle.net_tables.specs.Routing.{Holds}
-use Rattle.net_tables.specs.Repositories.{terminus_of}
+use Rattle.std.{proofs.Common.{◌≡◌, ℕ, ◌<◌, Some}, specs.Prelude.{option_map}}
+use Rattle.net_tables.{specs.Routing.{Holds}, specs.Repositories.{terminus_of}}
 use Rattle.net_rules.proofs.rules.locators.is_held_with_tid.Given as goal
 
 abbrev pub invariant-loop-node : goal.invariant-loop-node

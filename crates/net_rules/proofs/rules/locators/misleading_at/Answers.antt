@@ -1,6 +1,5 @@
 use Rattle.std.proofs.Common.{ℕ, List, sym, subst}
-use Rattle.net_rules.specs.Locators.{IsEidLocator}
-use Rattle.net_rules.proofs.OtherSearches.{locator_spot, no_locator_spot}
+use Rattle.net_rules.{specs.Locators.{IsEidLocator}, proofs.OtherSearches.{locator_spot, no_locator_spot}}
 use Rattle.net_rules.proofs.rules.locators.misleading_at.Goals as goal
 
 pub returns-in-Some : goal.returns-in-Some

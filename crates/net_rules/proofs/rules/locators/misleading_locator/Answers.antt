@@ -1,10 +1,7 @@
 use Rattle.std.proofs.Common.{ℕ, arith}
+use Rattle.net_tables.{specs.Repositories.{records_of}, proofs.RowSearches.{of_one_more}}
+use Rattle.net_rules.{specs.Locators.{HasOneByteAsEid, LocatesTerminus}, proofs.OtherSpots.{meets_everywhere}, proofs.OtherSearches.{found_item, found_no_item}}
 use Rattle.plan_values.specs.declared.terminus.PlannedRecord as plan
-use Rattle.net_tables.specs.Repositories.{records_of}
-use Rattle.net_rules.specs.Locators.{HasOneByteAsEid, LocatesTerminus}
-use Rattle.net_rules.proofs.OtherSpots.{meets_everywhere}
-use Rattle.net_tables.proofs.RowSearches.{of_one_more}
-use Rattle.net_rules.proofs.OtherSearches.{found_item, found_no_item}
 use Rattle.net_rules.proofs.rules.locators.misleading_locator.Goals as goal
 
 pub returns-in-Some : goal.returns-in-Some

@@ -1,9 +1,5 @@
-use Rattle.std.proofs.Common.{◌≡◌, ℕ, ◌<◌, length, get_or, Some, sym, ap, ◌∙◌, string_bytes}
-use Rattle.std.specs.Prelude.{option_map}
-use Rattle.std.specs.Cmp.Lexicographic.{bytes_decides}
-use Rattle.std.proofs.lemmas.Option.{slice_get-get_or, same_Some}
-use Rattle.plan_values.specs.declared.plan.Plan.{Plan}
-use Rattle.plan_values.specs.declared.nodes.Node.{Node}
+use Rattle.std.{proofs.Common.{◌≡◌, ℕ, ◌<◌, length, get_or, Some, sym, ap, ◌∙◌, string_bytes}, specs.Prelude.{option_map}, specs.Cmp.Lexicographic.{bytes_decides}, proofs.lemmas.Option.{slice_get-get_or, same_Some}}
+use Rattle.plan_values.{specs.declared.plan.Plan.{Plan}, specs.declared.nodes.Node.{Node}}
 use Rattle.net_rules.specs.Names.{name_of, HaveOneName}
 use Rattle.net_rules.proofs.rules.names.have_one_name.Goals as goal
 

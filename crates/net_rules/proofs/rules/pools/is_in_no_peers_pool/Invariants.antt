@@ -1,6 +1,5 @@
 use Rattle.std.proofs.Common.{◌≡◌, ℕ, ◌<◌}
-use Rattle.net_tables.specs.Routing.{IsBridge}
-use Rattle.net_tables.specs.Ownership.{owner_of, IsInPoolOf}
+use Rattle.net_tables.{specs.Routing.{IsBridge}, specs.Ownership.{owner_of, IsInPoolOf}}
 use Rattle.net_rules.proofs.rules.pools.is_in_no_peers_pool.Given as goal
 
 abbrev pub invariant-loop-peer : goal.invariant-loop-peer

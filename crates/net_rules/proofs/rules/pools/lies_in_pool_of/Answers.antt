@@ -1,5 +1,4 @@
-use Rattle.std.proofs.Common.{◌≡◌, ℕ, arith, inl, inr}
-use Rattle.std.proofs.lemmas.Bool.Decides.{eqb_tells, Decides-eqb}
+use Rattle.std.{proofs.Common.{◌≡◌, ℕ, arith, inl, inr}, proofs.lemmas.Bool.Decides.{eqb_tells, Decides-eqb}}
 use Rattle.net_tables.proofs.PoolsOf.{in_pool_of, in_no_pool}
 use Rattle.net_rules.proofs.rules.pools.lies_in_pool_of.Goals as goal
 

@@ -1,6 +1,5 @@
 use Rattle.std.proofs.Common.{ℕ, ◌<◌}
-use Rattle.net_tables.specs.Routing.{OfItem, Covers}
-use Rattle.net_tables.specs.Ranks.{Falls}
+use Rattle.net_tables.{specs.Routing.{OfItem, Covers}, specs.Ranks.{Falls}}
 use Rattle.net_rules.proofs.rules.ranks.do_all_fall.Given as goal
 
 abbrev pub invariant-loop-row : goal.invariant-loop-row

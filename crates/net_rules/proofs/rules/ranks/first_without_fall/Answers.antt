@@ -1,9 +1,6 @@
-use Rattle.std.proofs.Common.{◌≡◌, ℕ, refl, subst, arith}
-use Rattle.std.proofs.lemmas.Grind.{common_steps}
-use Rattle.net_tables.specs.Routing.{Covers, Holds}
-use Rattle.net_tables.specs.Ranks.{rank}
-use Rattle.net_rules.specs.Stretches.{IsAlong}
-use Rattle.net_rules.proofs.FallLaws.{falls_on, falls_held, no_fall}
+use Rattle.std.{proofs.Common.{◌≡◌, ℕ, refl, subst, arith}, proofs.lemmas.Grind.{common_steps}}
+use Rattle.net_tables.{specs.Routing.{Covers, Holds}, specs.Ranks.{rank}}
+use Rattle.net_rules.{specs.Stretches.{IsAlong}, proofs.FallLaws.{falls_on, falls_held, no_fall}}
 use Rattle.net_rules.proofs.rules.ranks.first_without_fall.Goals as goal
 
 pub loop-start-preserved-then-next-own : goal.loop-start-preserved-then-next-own

@@ -1,6 +1,5 @@
 use Rattle.std.proofs.Common.{ℕ, ◌-◌, ◌<◌, ◌≤◌}
-use Rattle.net_tables.specs.Routing.{Covers}
-use Rattle.net_tables.specs.Ranks.{Falls}
+use Rattle.net_tables.{specs.Routing.{Covers}, specs.Ranks.{Falls}}
 use Rattle.net_rules.proofs.rules.ranks.first_without_fall.Given as goal
 
 abbrev pub invariant-loop-start : goal.invariant-loop-start

@@ -1,5 +1,4 @@
-use Rattle.std.proofs.Common.{subst}
-use Rattle.std.specs.List.Sorted.{IsPermutation}
+use Rattle.std.{proofs.Common.{subst}, specs.List.Sorted.{IsPermutation}}
 use Rattle.plan_values.specs.declared.plan.Plan.{Plan}
 use Rattle.net_tables.specs.Routing.{rows_of}
 use Rattle.net_rules.proofs.FallLaws.{fall_everywhere}

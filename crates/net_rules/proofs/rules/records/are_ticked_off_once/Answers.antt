@@ -1,6 +1,4 @@
-use Rattle.std.proofs.Common.{◌≡◌, Bool, false, List, Some, length, subst, arith}
-use Rattle.std.specs.Prelude.{slice_get}
-use Rattle.std.proofs.lemmas.Option.{slice_get_read, slice_get_within}
+use Rattle.std.{proofs.Common.{◌≡◌, Bool, false, List, Some, length, subst, arith}, specs.Prelude.{slice_get}, proofs.lemmas.Option.{slice_get_read, slice_get_within}}
 use Rattle.net_rules.proofs.NewHandles.{one_ticked}
 use Rattle.net_rules.proofs.rules.records.are_ticked_off_once.Goals as goal
 

@@ -1,10 +1,7 @@
-use Rattle.std.proofs.Common.{◌≡◌, Some, length, sym, ◌∙◌, subst, arith, rules}
-use Rattle.std.specs.Prelude.{slice_get}
-use Rattle.std.proofs.lemmas.Option.{slice_get_read, slice_get_within, same_Some}
+use Rattle.std.{proofs.Common.{◌≡◌, Some, length, sym, ◌∙◌, subst, arith, rules}, specs.Prelude.{slice_get}, proofs.lemmas.Option.{slice_get_read, slice_get_within, same_Some}}
 use borrow.Author.Count.{below_more}
 use Rattle.plan_values.specs.declared.terminus.PlannedRecord.{PlannedRecord}
-use Rattle.net_tables.specs.Routing.{OfItem}
-use Rattle.net_tables.specs.Repositories.{HasNewHandle}
+use Rattle.net_tables.{specs.Routing.{OfItem}, specs.Repositories.{HasNewHandle}}
 use Rattle.net_rules.proofs.Handles.{handles_of, handle_of_record, has_one_more, is_new, is_not_new}
 use Rattle.net_rules.proofs.rules.records.first_with_old_handle.Goals as goal
 

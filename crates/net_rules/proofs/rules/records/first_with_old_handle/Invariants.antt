@@ -1,6 +1,5 @@
 use Rattle.std.proofs.Common.{ℕ, ◌<◌}
-use Rattle.net_tables.specs.Routing.{OfItem}
-use Rattle.net_tables.specs.Repositories.{HasNewHandle}
+use Rattle.net_tables.{specs.Routing.{OfItem}, specs.Repositories.{HasNewHandle}}
 use Rattle.net_rules.proofs.Handles.{HasBefore, handles_of}
 use Rattle.net_rules.proofs.rules.records.first_with_old_handle.Given as goal
 

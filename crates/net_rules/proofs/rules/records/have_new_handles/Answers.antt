@@ -1,9 +1,6 @@
-use Rattle.std.proofs.Common.{ℕ, List, ◌∷◌, sym, subst, refl}
-use Rattle.std.specs.List.Sorted.{IsStrictlyIncreasing, IsPermutation, IsNonDecreasing}
-use Rattle.std.proofs.lemmas.List.Sorted.{IsNonDecreasingBy-from_sort}
-use Rattle.net_rules.proofs.Handles.{handles_of}
+use Rattle.std.{proofs.Common.{ℕ, List, ◌∷◌, sym, subst, refl}, specs.List.Sorted.{IsStrictlyIncreasing, IsPermutation, IsNonDecreasing}, proofs.lemmas.List.Sorted.{IsNonDecreasingBy-from_sort}}
+use Rattle.net_rules.{proofs.Handles.{handles_of}, proofs.NewHandles.{apart_new, new_apart}}
 use Rattle.pdr_repository.proofs.Ascending.{ascending_apart, sorted_apart, apart_sorted}
-use Rattle.net_rules.proofs.NewHandles.{apart_new, new_apart}
 use Rattle.net_rules.proofs.rules.records.have_new_handles.Goals as goal
 
 pub returns-then-ascend : goal.returns-then-ascend

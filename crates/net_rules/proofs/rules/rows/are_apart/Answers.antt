@@ -1,8 +1,6 @@
 use Rattle.std.proofs.Common.{ℕ, ◌↔◌, IsTrue, subst, arith}
-use Rattle.mctp_transport.specs.declared.eid_run.EidRun.{EidRun}
-use Rattle.mctp_transport.specs.EidRuns.{IsInRun}
+use Rattle.mctp_transport.{specs.declared.eid_run.EidRun.{EidRun}, specs.EidRuns.{IsInRun}, proofs.EidRuns.{apart_everywhere}}
 use Rattle.net_tables.specs.Rows.{AreApart}
-use Rattle.mctp_transport.proofs.EidRuns.{apart_everywhere}
 use Rattle.net_rules.proofs.rules.rows.are_apart.Goals as goal
 
 pub returns : goal.returns

@@ -1,6 +1,5 @@
 use Rattle.std.proofs.Common.{ℕ, ◌<◌}
-use Rattle.net_tables.specs.Routing.{OfItem}
-use Rattle.net_tables.specs.Rows.{IsApartFromEarlier}
+use Rattle.net_tables.{specs.Routing.{OfItem}, specs.Rows.{IsApartFromEarlier}}
 use Rattle.net_rules.proofs.rules.rows.first_overlapping.Given as goal
 
 abbrev pub invariant-loop-r : goal.invariant-loop-r

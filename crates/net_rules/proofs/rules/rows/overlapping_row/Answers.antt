@@ -1,10 +1,7 @@
 use Rattle.std.proofs.Common.{subst}
 use Rattle.plan_values.specs.declared.plan.Plan.{Plan}
-use Rattle.net_tables.specs.Routing.{rows_of}
-use Rattle.net_tables.specs.Rows.{IsApartFromEarlier}
-use Rattle.net_rules.specs.Spans.{PairsApart}
-use Rattle.net_rules.proofs.Spots.{items_meet}
-use Rattle.net_rules.proofs.PairsMoved.{apart_from_earlier}
+use Rattle.net_tables.{specs.Routing.{rows_of}, specs.Rows.{IsApartFromEarlier}}
+use Rattle.net_rules.{specs.Spans.{PairsApart}, proofs.Spots.{items_meet}, proofs.PairsMoved.{apart_from_earlier}}
 use Rattle.net_rules.proofs.rules.rows.overlapping_row.Goals as goal
 
 pub returns-then-are_rows_apart : goal.returns-then-are_rows_apart

@@ -1,5 +1,4 @@
-use Rattle.std.proofs.Common.{ℕ, List, length, sym, ap, ◌∙◌}
-use Rattle.std.proofs.lemmas.List.{length-map}
+use Rattle.std.{proofs.Common.{ℕ, List, length, sym, ap, ◌∙◌}, proofs.lemmas.List.{length-map}}
 use Rattle.plan_values.specs.declared.certificate.RecordPlace.{RecordPlace}
 use Rattle.net_rules.proofs.rules.superfluous.given_places.Goals as goal
 

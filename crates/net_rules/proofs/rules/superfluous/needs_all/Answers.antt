@@ -1,17 +1,7 @@
-use Rattle.std.proofs.Common.{◌≡◌, ℕ, ◌≤◌, length, Some, refl, sym, ◌∙◌, subst, arith, inl, inr}
-use Rattle.std.specs.Prelude.{slice_get}
-use Rattle.std.proofs.lemmas.Bool.{cases_lt}
-use Rattle.std.proofs.lemmas.Option.{same_Some, slice_get_read}
-use Rattle.plan_values.specs.declared.plan.Plan.{Plan}
-use Rattle.plan_values.specs.declared.certificate.RankRange.{RankRange}
-use Rattle.net_tables.specs.Routing.{Holds, eid_of, eid_number}
-use Rattle.net_tables.specs.TwoPlans.{HasRowEver}
-use Rattle.net_rules.specs.declared.span.Span.{Span}
-use Rattle.net_rules.specs.PlanTables.{plans_value}
-use Rattle.net_rules.specs.Spans.{IsInSpan}
-use Rattle.net_rules.proofs.RanksByEid.{Has}
-use Rattle.net_rules.proofs.RowsInForce.{all_needed}
-use Rattle.net_rules.proofs.rules.superfluous.needs_all.Goals.{then-not-has_all_of, else-not-has_all_of}
+use Rattle.std.{proofs.Common.{◌≡◌, ℕ, ◌≤◌, length, Some, refl, sym, ◌∙◌, subst, arith, inl, inr}, specs.Prelude.{slice_get}, proofs.lemmas.Bool.{cases_lt}, proofs.lemmas.Option.{same_Some, slice_get_read}}
+use Rattle.plan_values.{specs.declared.plan.Plan.{Plan}, specs.declared.certificate.RankRange.{RankRange}}
+use Rattle.net_tables.{specs.Routing.{Holds, eid_of, eid_number}, specs.TwoPlans.{HasRowEver}}
+use Rattle.net_rules.{specs.declared.span.Span.{Span}, specs.PlanTables.{plans_value}, specs.Spans.{IsInSpan}, proofs.RanksByEid.{Has}, proofs.RowsInForce.{all_needed}, proofs.rules.superfluous.needs_all.Goals.{then-not-has_all_of, else-not-has_all_of}}
 use Rattle.net_rules.proofs.rules.superfluous.needs_all.Goals as goal
 
 pub loop-range-preserved : goal.loop-range-preserved

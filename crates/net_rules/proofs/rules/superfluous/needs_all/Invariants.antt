@@ -1,9 +1,6 @@
 use Rattle.std.proofs.Common.{ℕ, ◌<◌}
-use Rattle.net_tables.specs.Routing.{Holds, OfItem}
-use Rattle.net_tables.specs.TwoPlans.{HasRowEver}
-use Rattle.net_rules.specs.PlanTables.{plans_value}
-use Rattle.net_rules.specs.Spans.{IsInSpan}
-use Rattle.net_rules.proofs.RanksByEid.{Has}
+use Rattle.net_tables.{specs.Routing.{Holds, OfItem}, specs.TwoPlans.{HasRowEver}}
+use Rattle.net_rules.{specs.PlanTables.{plans_value}, specs.Spans.{IsInSpan}, proofs.RanksByEid.{Has}}
 use Rattle.net_rules.proofs.rules.superfluous.needs_all.Given as goal
 
 abbrev pub invariant-loop-range : goal.invariant-loop-range

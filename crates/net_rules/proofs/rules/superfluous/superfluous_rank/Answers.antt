@@ -1,10 +1,7 @@
 use Rattle.std.proofs.Common.{List, None, subst}
 use Rattle.plan_values.specs.declared.certificate.RankRange.{RankRange}
 use Rattle.net_tables.specs.Routing.{eid_number}
-use Rattle.net_rules.specs.PlanTables.{plans_value}
-use Rattle.net_rules.specs.Stretches.{IsLeastFailure}
-use Rattle.net_rules.specs.Superfluous.{NeedsRankBy}
-use Rattle.net_rules.proofs.RowsInForce.{first_of_all_eids}
+use Rattle.net_rules.{specs.PlanTables.{plans_value}, specs.Stretches.{IsLeastFailure}, specs.Superfluous.{NeedsRankBy}, proofs.RowsInForce.{first_of_all_eids}}
 use Rattle.net_rules.proofs.rules.superfluous.superfluous_rank.Goals as goal
 
 pub returns-then-needs_all : goal.returns-then-needs_all

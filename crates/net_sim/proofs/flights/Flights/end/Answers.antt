@@ -1,12 +1,5 @@
-use Rattle.std.proofs.Common.{◌≡◌, ℕ, true, false, is_some, is_none, cond, get_or, Option, option_map, ◌-◌, sym, ◌∙◌, ap, subst, arith}
-use Rattle.std.specs.Prelude.{slice_set}
-use Rattle.std.specs.List.{HoldsAt}
-use Rattle.std.proofs.lemmas.List.{get_or_default}
-use Rattle.net_sim.specs.declared.flights.Flight.{Flight}
-use Rattle.net_sim.specs.declared.flights.Slot.{Slot}
-use Rattle.net_sim.specs.Flights.{flight_value, slots_of}
-use Rattle.net_sim.proofs.Keeping.{none_at, slot_at, is_filled, set_ascend, set_given, set_counted, set_means}
-use Rattle.net_sim.proofs.Tallying.{Counts, end_tallied}
+use Rattle.std.{proofs.Common.{◌≡◌, ℕ, true, false, is_some, is_none, cond, get_or, Option, option_map, ◌-◌, sym, ◌∙◌, ap, subst, arith}, specs.Prelude.{slice_set}, specs.List.{HoldsAt}, proofs.lemmas.List.{get_or_default}}
+use Rattle.net_sim.{specs.declared.flights.Flight.{Flight}, specs.declared.flights.Slot.{Slot}, specs.Flights.{flight_value, slots_of}, proofs.Keeping.{none_at, slot_at, is_filled, set_ascend, set_given, set_counted, set_means}, proofs.Tallying.{Counts, end_tallied}}
 use Rattle.net_sim.proofs.flights.Flights.end.Goals as goal
 
 pub returns-in_err-index-clause-flight : goal.returns-in_err-index-clause-flight

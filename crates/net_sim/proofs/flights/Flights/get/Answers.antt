@@ -1,8 +1,5 @@
-use Rattle.std.proofs.Common.{Bor, sym, ◌∙◌, ap}
-use Rattle.std.specs.Prelude.{option_map}
-use Rattle.net_sim.specs.declared.flights.Flight.{Flight}
-use Rattle.net_sim.specs.Flights.{flight_value}
-use Rattle.net_sim.proofs.Keeping.{none_at, slot_at, lent_value}
+use Rattle.std.{proofs.Common.{Bor, sym, ◌∙◌, ap}, specs.Prelude.{option_map}}
+use Rattle.net_sim.{specs.declared.flights.Flight.{Flight}, specs.Flights.{flight_value}, proofs.Keeping.{none_at, slot_at, lent_value}}
 use Rattle.net_sim.proofs.flights.Flights.get.Goals as goal
 
 pub returns-in_err-index : goal.returns-in_err-index

@@ -1,14 +1,7 @@
-use Rattle.std.proofs.Common.{◌≡◌, ℕ, ◌<◌, true, false, is_some, Option, option_map, get_or, sym, ◌∙◌, ap, subst}
-use Rattle.std.specs.Prelude.{slice_set, IfSome}
-use Rattle.std.specs.List.{HoldsAt}
-use Rattle.net_runs.specs.States as state
-use Rattle.net_sim.specs.declared.flights.Slot.{Slot}
-use Rattle.net_sim.specs.Flights.{flight_value, slots_of, gone_on}
-use Rattle.net_sim.proofs.Keeping.{none_at, slot_at, set_ascend, set_given, set_means, few_hops}
+use Rattle.std.{proofs.Common.{◌≡◌, ℕ, ◌<◌, true, false, is_some, Option, option_map, get_or, sym, ◌∙◌, ap, subst}, specs.Prelude.{slice_set, IfSome}, specs.List.{HoldsAt}, proofs.lemmas.List.{get_or_default}}
+use Rattle.net_sim.{specs.declared.flights.Slot.{Slot}, specs.Flights.{flight_value, slots_of, gone_on}, proofs.Keeping.{none_at, slot_at, set_ascend, set_given, set_means, few_hops}, specs.Tallies.{slot_goes_to}, proofs.Tallying.{same_tallied, still_goes, still_counted}}
 use Rattle.mctp_transport.specs.PacketValues.{KeyValue}
-use Rattle.std.proofs.lemmas.List.{get_or_default}
-use Rattle.net_sim.specs.Tallies.{slot_goes_to}
-use Rattle.net_sim.proofs.Tallying.{same_tallied, still_goes, still_counted}
+use Rattle.net_runs.specs.States as state
 use Rattle.net_sim.proofs.flights.Flights.go_on.Goals as goal
 
 pub go_on-requires : goal.go_on-requires

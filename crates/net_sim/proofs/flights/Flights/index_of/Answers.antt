@@ -1,7 +1,5 @@
-use Rattle.std.proofs.Common.{rules}
-use Rattle.std.proofs.lemmas.List.Sorted.{answers_always}
-use Rattle.net_sim.specs.declared.flights.Slot.{Slot}
-use Rattle.net_sim.proofs.Keeping.{found_index, found_none}
+use Rattle.std.{proofs.Common.{rules}, proofs.lemmas.List.Sorted.{answers_always}}
+use Rattle.net_sim.{specs.declared.flights.Slot.{Slot}, proofs.Keeping.{found_index, found_none}}
 use Rattle.net_sim.proofs.flights.Flights.index_of.Goals as goal
 
 pub returns-in-Ok-clause-found : goal.returns-in-Ok-clause-found

@@ -1,12 +1,7 @@
-use Rattle.std.proofs.Common.{rules, of_calls, sym, ◌∙◌, ◌↔◌, All, IsTrue, Option, option_map}
+use Rattle.std.{proofs.Common.{rules, of_calls, sym, ◌∙◌, ◌↔◌, All, IsTrue, Option, option_map}, proofs.lemmas.Bool.Decides.{Decides-eqb}}
 use Rattle.mctp_transport.specs.Packets.{key_value}
+use Rattle.net_sim.{specs.Flights.{flight_value}, specs.Settling.{IsNotTo}, specs.declared.flights.Slot.{Slot}, proofs.Keeping.{each_number, each_slot}, proofs.Tallying.{none_counted, counted_none}}
 use Rattle.net_runs.specs.States as state
-use Rattle.net_sim.specs.Flights.{flight_value}
-use Rattle.net_sim.specs.Settling.{IsNotTo}
-use Rattle.net_sim.specs.declared.flights.Slot.{Slot}
-use Rattle.net_sim.proofs.Keeping.{each_number, each_slot}
-use Rattle.std.proofs.lemmas.Bool.Decides.{Decides-eqb}
-use Rattle.net_sim.proofs.Tallying.{none_counted, counted_none}
 use Rattle.net_sim.proofs.flights.Flights.none_is_to.Goals as goal
 
 pub returns-in-None : goal.returns-in-None

@@ -1,8 +1,5 @@
 use Rattle.std.proofs.Common.{List, refl, sym, ◌∙◌, ◌+◌, ap, subst, arith}
-use Rattle.net_sim.specs.declared.flights.Slot.{Slot}
-use Rattle.net_sim.proofs.Keeping.{Ascend, AreGiven, HasEmpty, meant, one_if_none, meant_length, push_ascend, push_given, push_counted, push_means}
-use Rattle.net_sim.specs.Tallies.{AreTallied}
-use Rattle.net_sim.proofs.Tallying.{push_tallied, count_fits}
+use Rattle.net_sim.{specs.declared.flights.Slot.{Slot}, proofs.Keeping.{Ascend, AreGiven, HasEmpty, meant, one_if_none, meant_length, push_ascend, push_given, push_counted, push_means}, specs.Tallies.{AreTallied}, proofs.Tallying.{push_tallied, count_fits}}
 use Rattle.net_sim.proofs.flights.Flights.push.Goals as goal
 
 pub overflow_cast-self : goal.overflow_cast-self

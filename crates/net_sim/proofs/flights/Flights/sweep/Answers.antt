@@ -1,9 +1,5 @@
-use Rattle.std.proofs.Common.{List, rules, of_calls, sym, ◌∙◌, ap, subst, is_some}
-use Rattle.std.proofs.lemmas.List.Elements.{filter_from_retain}
-use Rattle.net_sim.specs.declared.flights.Slot.{Slot}
-use Rattle.net_sim.proofs.Keeping.{Ascend, AreGiven, HasEmpty, meant, sweep_ascend, sweep_given, sweep_counted, sweep_means}
-use Rattle.net_sim.specs.Tallies.{AreTallied}
-use Rattle.net_sim.proofs.Tallying.{sweep_tallied}
+use Rattle.std.{proofs.Common.{List, rules, of_calls, sym, ◌∙◌, ap, subst, is_some}, proofs.lemmas.List.Elements.{filter_from_retain}}
+use Rattle.net_sim.{specs.declared.flights.Slot.{Slot}, proofs.Keeping.{Ascend, AreGiven, HasEmpty, meant, sweep_ascend, sweep_given, sweep_counted, sweep_means}, specs.Tallies.{AreTallied}, proofs.Tallying.{sweep_tallied}}
 use Rattle.net_sim.proofs.flights.Flights.sweep.Goals as goal
 
 pub invariant_of-self : goal.invariant_of-self

@@ -1,5 +1,4 @@
-use Rattle.std.proofs.Common.{◌≡◌, ◌+◌, get_or, sym, ap, ◌∙◌}
-use Rattle.std.proofs.lemmas.Grind.{get_or_default_zero}
+use Rattle.std.{proofs.Common.{◌≡◌, ◌+◌, get_or, sym, ap, ◌∙◌}, proofs.lemmas.Grind.{get_or_default_zero}}
 use Rattle.mctp_transport.specs.Packets.{key_value}
 use Rattle.net_sim.proofs.Counting.{counted, not_counted}
 use Rattle.net_sim.proofs.key_counts.KeyCounts.enter.Goals as goal

@@ -1,5 +1,4 @@
-use Rattle.std.proofs.Common.{◌≡◌, ◌<◌, length, refl, sym, ap, ◌∙◌, arith}
-use Rattle.std.proofs.lemmas.List.{length-set}
+use Rattle.std.{proofs.Common.{◌≡◌, ◌<◌, length, refl, sym, ap, ◌∙◌, arith}, proofs.lemmas.List.{length-set}}
 use Rattle.mctp_transport.specs.declared.address.Eid.{Eid}
 use Rattle.net_sim.proofs.Counting.{hint_more, all_known}
 use Rattle.net_sim.proofs.key_counts.KnownEids.of.Goals as goal

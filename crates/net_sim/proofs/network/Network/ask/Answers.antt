@@ -1,22 +1,7 @@
-use Rattle.std.proofs.Common.{◌≡◌, ◌<◌, length, map, Some, refl, sym, ◌∙◌, ap, subst, inl, inr, arith}
-use Rattle.std.specs.Prelude.{All, slice_get, slice_set, option_map}
-use Rattle.std.proofs.lemmas.List.{length-map, map-set}
-use Rattle.std.proofs.lemmas.Option.{slice_get_read, slice_get-map, same_Some}
-use Rattle.plan_values.specs.declared.plan.Plan.{Plan}
-use Rattle.plan_values.specs.declared.certificate.Certificate.{Certificate}
+use Rattle.std.{proofs.Common.{◌≡◌, ◌<◌, length, map, Some, refl, sym, ◌∙◌, ap, subst, inl, inr, arith}, specs.Prelude.{All, slice_get, slice_set, option_map}, proofs.lemmas.List.{length-map, map-set}, proofs.lemmas.Option.{slice_get_read, slice_get-map, same_Some}}
+use Rattle.plan_values.{specs.declared.plan.Plan.{Plan}, specs.declared.certificate.Certificate.{Certificate}}
 use Rattle.net_tables.specs.TwoPlans.{Tables}
-use Rattle.net_sim.specs.declared.network_walker.NetworkWalker.{NetworkWalker}
-use Rattle.net_sim.specs.NetworkWalkers.{walker_value}
-use Rattle.net_sim.specs.Outcomes.{walk_refusal_value}
-use Rattle.net_sim.specs.Requests.{MayAsk}
-use Rattle.net_sim.specs.Routers.{RouterValue}
-use Rattle.net_sim.proofs.Slots.{same_means}
-use Rattle.net_sim.proofs.Changes.{same_marks, same_stands}
-use Rattle.net_sim.proofs.Dealt.{all_at}
-use Rattle.net_sim.proofs.Finding.{no_walker, held_by}
-use Rattle.net_sim.proofs.Walking.{err_told}
-use Rattle.net_sim.proofs.Noting.{all_set, keeps_put, noted_set}
-use Rattle.net_sim.proofs.Asks.{puts_in, asks_none, asks_in_vain, ask_wants, asks}
+use Rattle.net_sim.{specs.declared.network_walker.NetworkWalker.{NetworkWalker}, specs.NetworkWalkers.{walker_value}, specs.Outcomes.{walk_refusal_value}, specs.Requests.{MayAsk}, specs.Routers.{RouterValue}, proofs.Slots.{same_means}, proofs.Changes.{same_marks, same_stands}, proofs.Dealt.{all_at}, proofs.Finding.{no_walker, held_by}, proofs.Walking.{err_told}, proofs.Noting.{all_set, keeps_put, noted_set}, proofs.Asks.{puts_in, asks_none, asks_in_vain, ask_wants, asks}}
 use Rattle.net_sim.proofs.network.Network.ask.Goals as goal
 
 pub returns-in_default-clause-plays : goal.returns-in_default-clause-plays

@@ -1,13 +1,6 @@
-use Rattle.std.proofs.Common.{◌≡◌, ◌∷◌, ◌++◌, ◌<◌, [], ℕ, List, All, length, map, Some, ap, sym, subst, ◌∙◌, arith}
-use Rattle.std.proofs.lemmas.List.{length-map, map-append}
-use Rattle.std.proofs.lemmas.List.Elements.{All-push}
+use Rattle.std.{proofs.Common.{◌≡◌, ◌∷◌, ◌++◌, ◌<◌, [], ℕ, List, All, length, map, Some, ap, sym, subst, ◌∙◌, arith}, proofs.lemmas.List.{length-map, map-append}, proofs.lemmas.List.Elements.{All-push}}
 use Rattle.net_runs.specs.Walkers.{WalkerValue}
-use Rattle.net_sim.specs.declared.network_walker.NetworkWalker.{NetworkWalker}
-use Rattle.net_sim.specs.NetworkWalkers.{walker_value}
-use Rattle.net_sim.specs.WalkerIndexes.{AreNoted}
-use Rattle.net_sim.proofs.Walking.{err_told}
-use Rattle.net_sim.proofs.Noting.{noted_push}
-use Rattle.net_sim.proofs.Begins.{begins, begin_wants}
+use Rattle.net_sim.{specs.declared.network_walker.NetworkWalker.{NetworkWalker}, specs.NetworkWalkers.{walker_value}, specs.WalkerIndexes.{AreNoted}, proofs.Walking.{err_told}, proofs.Noting.{noted_push}, proofs.Begins.{begins, begin_wants}}
 use Rattle.net_sim.proofs.network.Network.begin.Goals as goal
 
 pub returns-clause-plays : goal.returns-clause-plays

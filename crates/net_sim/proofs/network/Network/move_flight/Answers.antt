@@ -1,24 +1,9 @@
-use Rattle.std.proofs.Common.{◌≡◌, ◌<◌, ◌+◌, All, length, inl, inr, List, map, Some, refl, sym, ◌∙◌, ap, subst, arith}
-use Rattle.std.specs.Prelude.{slice_get, slice_set, option_map}
-use Rattle.std.proofs.lemmas.List.{length-set, map-set}
-use Rattle.std.proofs.lemmas.Option.{slice_get_read, slice_get-map, same_Some}
+use Rattle.std.{proofs.Common.{◌≡◌, ◌<◌, ◌+◌, All, length, inl, inr, List, map, Some, refl, sym, ◌∙◌, ap, subst, arith}, specs.Prelude.{slice_get, slice_set, option_map}, proofs.lemmas.List.{length-set, map-set}, proofs.lemmas.Option.{slice_get_read, slice_get-map, same_Some}}
 use Rattle.mctp_transport.specs.Packets.{key_value}
 use Rattle.mctp_routing.specs.declared.decision.Decision.TheVariants.{Here}
-use Rattle.net_runs.specs.Events.{Move}
-use Rattle.net_runs.specs.Walkers.{WalkerValue, Happening}
+use Rattle.net_runs.{specs.Events.{Move}, specs.Walkers.{WalkerValue, Happening}}
 use Rattle.net_tables.proofs.Elements.{set_there}
-use Rattle.net_sim.specs.Effects.{effect_value}
-use Rattle.net_sim.specs.Outcomes.{handed_value}
-use Rattle.net_sim.specs.declared.network_walker.NetworkWalker.{NetworkWalker}
-use Rattle.net_sim.specs.Routers.{RouterValue}
-use Rattle.net_sim.specs.NetworkWalkers.{walker_value, HandsOver, Listens}
-use Rattle.net_sim.proofs.Dealt.{all_at}
-use Rattle.net_sim.proofs.Entering.{map_set_same}
-use Rattle.net_sim.proofs.Walking.{err_told, walked_as, happens_wants}
-use Rattle.net_sim.proofs.Hands.{refuses, listener_wants, comes_to_none, hands}
-use Rattle.net_sim.proofs.Lacking.{err_lacks}
-use Rattle.net_sim.proofs.Moving.{decided_as}
-use Rattle.net_sim.proofs.Noting.{keeps_same, keeps_handed, noted_set, all_set}
+use Rattle.net_sim.{specs.Effects.{effect_value}, specs.Outcomes.{handed_value}, specs.declared.network_walker.NetworkWalker.{NetworkWalker}, specs.Routers.{RouterValue}, specs.NetworkWalkers.{walker_value, HandsOver, Listens}, proofs.Dealt.{all_at}, proofs.Entering.{map_set_same}, proofs.Walking.{err_told, walked_as, happens_wants}, proofs.Hands.{refuses, listener_wants, comes_to_none, hands}, proofs.Lacking.{err_lacks}, proofs.Moving.{decided_as}, proofs.Noting.{keeps_same, keeps_handed, noted_set, all_set}}
 use Rattle.net_sim.proofs.network.Network.move_flight.Goals as goal
 
 -- the walker keeps its place

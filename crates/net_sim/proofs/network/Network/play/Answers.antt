@@ -1,12 +1,7 @@
 use Rattle.std.proofs.Common.{ℕ, List, refl, sym, ◌∙◌, ap, subst}
-use Rattle.net_runs.specs.Events.{Put, Lose, Expire, AnswerAt, Switch}
-use Rattle.net_runs.specs.Walkers.{Happening}
+use Rattle.net_runs.{specs.Events.{Put, Lose, Expire, AnswerAt, Switch}, specs.Walkers.{Happening}}
 use Rattle.mctp_transport.specs.Packets.{key_value}
-use Rattle.net_sim.specs.Effects.{effect_value}
-use Rattle.net_sim.specs.Outcomes.{event_value}
-use Rattle.net_sim.proofs.Walking.{err_told, walked_as, wants_as, happens_apart, happens_wants}
-use Rattle.net_sim.specs.LackingRooms.{LacksRoom, NetworkLacksRoom}
-use Rattle.net_sim.proofs.Lacking.{err_lacks}
+use Rattle.net_sim.{specs.Effects.{effect_value}, specs.Outcomes.{event_value}, proofs.Walking.{err_told, walked_as, wants_as, happens_apart, happens_wants}, specs.LackingRooms.{LacksRoom, NetworkLacksRoom}, proofs.Lacking.{err_lacks}}
 use Rattle.net_sim.proofs.network.Network.play.Goals as goal
 
 pub returns-in_err-put-in-Put-clause-plays : goal.returns-in_err-put-in-Put-clause-plays

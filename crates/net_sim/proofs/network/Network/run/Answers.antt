@@ -1,12 +1,6 @@
 use Rattle.std.proofs.Common.{refl, ◌∙◌, ap, arith}
 use Rattle.net_runs.specs.States.{unit_of}
-use Rattle.net_sim.specs.Networks.{checked_of}
-use Rattle.net_sim.specs.LackingRooms.{NetworkLacksRoom}
-use Rattle.net_sim.specs.Outcomes.{event_value}
-use Rattle.net_sim.proofs.PlayedRuns.{holds_of_next, played_start, played_plays, played_next, stopped_plays, stopped_after}
-use Rattle.net_sim.proofs.AsSent.{plays_as_sent}
-use Rattle.net_sim.proofs.PlayedWalks.{plays_walks, promised}
-use Rattle.net_sim.proofs.PutInBefore.{plays_what_was_put_in}
+use Rattle.net_sim.{specs.Networks.{checked_of}, specs.LackingRooms.{NetworkLacksRoom}, specs.Outcomes.{event_value}, proofs.PlayedRuns.{holds_of_next, played_start, played_plays, played_next, stopped_plays, stopped_after}, proofs.AsSent.{plays_as_sent}, proofs.PlayedWalks.{plays_walks, promised}, proofs.PutInBefore.{plays_what_was_put_in}}
 use Rattle.net_sim.proofs.network.Network.run.Goals as goal
 
 pub loop-event-init : goal.loop-event-init

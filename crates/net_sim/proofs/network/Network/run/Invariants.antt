@@ -1,6 +1,5 @@
 use Rattle.std.proofs.Common.{◌≡◌, ◌≤◌, length, vec_capacity}
-use Rattle.net_sim.specs.Networks.{network_value, checked_of}
-use Rattle.net_sim.proofs.PlayedRuns.{HasPlayed}
+use Rattle.net_sim.{specs.Networks.{network_value, checked_of}, proofs.PlayedRuns.{HasPlayed}}
 use Rattle.net_sim.proofs.network.Network.run.Given as goal
 
 abbrev pub invariant-loop-event : goal.invariant-loop-event

@@ -1,5 +1,4 @@
-use Rattle.net_sim.specs.Networks.{checked_of}
-use Rattle.net_sim.proofs.PlayedWalks.{one_walks, promised}
+use Rattle.net_sim.{specs.Networks.{checked_of}, proofs.PlayedWalks.{one_walks, promised}}
 use Rattle.net_sim.proofs.network.Network.step.Goals as goal
 
 pub returns-clause-walks : goal.returns-clause-walks

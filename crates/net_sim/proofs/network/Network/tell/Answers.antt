@@ -1,10 +1,5 @@
-use Rattle.std.proofs.Common.{◌≡◌, ◌+◌, length, map, Some, refl, sym, ◌∙◌, ap, inl, inr, arith}
-use Rattle.std.specs.Prelude.{slice_get, option_map}
-use Rattle.std.proofs.lemmas.List.{length-map}
-use Rattle.std.proofs.lemmas.Option.{slice_get_read, slice_get-map}
-use Rattle.net_sim.specs.NetworkWalkers.{walker_value}
-use Rattle.net_sim.proofs.Finding.{no_walker}
-use Rattle.net_sim.proofs.Telling.{tells_none, tells}
+use Rattle.std.{proofs.Common.{◌≡◌, ◌+◌, length, map, Some, refl, sym, ◌∙◌, ap, inl, inr, arith}, specs.Prelude.{slice_get, option_map}, proofs.lemmas.List.{length-map}, proofs.lemmas.Option.{slice_get_read, slice_get-map}}
+use Rattle.net_sim.{specs.NetworkWalkers.{walker_value}, proofs.Finding.{no_walker}, proofs.Telling.{tells_none, tells}}
 use Rattle.net_sim.proofs.network.Network.tell.Goals as goal
 
 pub returns-in_default : goal.returns-in_default

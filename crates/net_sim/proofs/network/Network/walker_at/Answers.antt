@@ -1,9 +1,5 @@
-use Rattle.std.proofs.Common.{◌≡◌, List, length, Some, refl, sym, ◌∙◌, subst}
-use Rattle.std.specs.Prelude.{slice_get}
-use Rattle.std.proofs.lemmas.Option.{slice_get_read, same_Some}
-use Rattle.net_sim.specs.declared.network_walker.NetworkWalker.{NetworkWalker}
-use Rattle.net_sim.specs.NetworkWalkers.{walker_value, IsAt}
-use Rattle.net_sim.proofs.Noting.{none_but}
+use Rattle.std.{proofs.Common.{◌≡◌, List, length, Some, refl, sym, ◌∙◌, subst}, specs.Prelude.{slice_get}, proofs.lemmas.Option.{slice_get_read, same_Some}}
+use Rattle.net_sim.{specs.declared.network_walker.NetworkWalker.{NetworkWalker}, specs.NetworkWalkers.{walker_value, IsAt}, proofs.Noting.{none_but}}
 use Rattle.net_sim.proofs.network.Network.walker_at.Goals as goal
 
 pub returns-then-is_at : goal.returns-then-is_at

@@ -2,9 +2,8 @@ use Rattle.std.proofs.Common.{◌≡◌, ℕ, None, refl, ap, inl, inr, arith}
 use Rattle.plan_values.specs.declared.plan.Plan.{Plan}
 use Rattle.net_tables.specs.Routing.{Holds}
 use Rattle.net_runs.specs.Walkers.{IsThere}
-use Rattle.net_sim.proofs.Begins.{is_there, is_among, begins_twice, begins_without_terminus, begins_with_wrong_count, may_begin}
+use Rattle.net_sim.{proofs.Begins.{is_there, is_among, begins_twice, begins_without_terminus, begins_with_wrong_count, may_begin}, proofs.network.Network.why_not_begin.Goals.{then-count-lt-LEAST_COUNT-via-then-count-lt-LEAST_COUNT, then-count-lt-LEAST_COUNT-via-else-count-lt-LEAST_COUNT+then-five_packets-count}}
 use Rattle.net_sim.proofs.network.Network.why_not_begin.Goals as goal
-use Rattle.net_sim.proofs.network.Network.why_not_begin.Goals.{then-count-lt-LEAST_COUNT-via-then-count-lt-LEAST_COUNT, then-count-lt-LEAST_COUNT-via-else-count-lt-LEAST_COUNT+then-five_packets-count}
 
 pub returns-then-has_walker-clause-first : goal.returns-then-has_walker-clause-first
 returns-then-has_walker-clause-first g c = λ w s.

@@ -1,7 +1,6 @@
 use Rattle.pldm_message.specs.InstanceIdValues.{id_value, ids_of}
 use Rattle.pdr_repository.specs.WalkerStates.{state_of}
-use Rattle.net_sim.specs.NetworkWalkers.{walker_value}
-use Rattle.net_sim.proofs.Handing.{took_answer, none_after_answer}
+use Rattle.net_sim.{specs.NetworkWalkers.{walker_value}, proofs.Handing.{took_answer, none_after_answer}}
 use Rattle.net_sim.proofs.network_walker.NetworkWalker.take.Goals as goal
 
 pub returns-in-Ok : goal.returns-in-Ok

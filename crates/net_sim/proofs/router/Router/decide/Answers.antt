@@ -1,10 +1,6 @@
-use Rattle.std.proofs.Common.{◌≡◌, ◌<◌, length, Some, refl, sym, subst}
-use Rattle.std.specs.Prelude.{slice_get}
-use Rattle.std.proofs.lemmas.Option.{slice_get_read}
+use Rattle.std.{proofs.Common.{◌≡◌, ◌<◌, length, Some, refl, sym, subst}, specs.Prelude.{slice_get}, proofs.lemmas.Option.{slice_get_read}}
 use Rattle.plan_values.specs.declared.plan.Plan.{Plan}
-use Rattle.net_sim.specs.Flights.{flight_value}
-use Rattle.net_sim.specs.Routers.{has_switched, rows_in_force}
-use Rattle.net_sim.proofs.Deciding.{decided_by, goes_on}
+use Rattle.net_sim.{specs.Flights.{flight_value}, specs.Routers.{has_switched, rows_in_force}, proofs.Deciding.{decided_by, goes_on}}
 use Rattle.net_sim.proofs.router.Router.decide.Goals as goal
 
 pub returns-clause-decided : goal.returns-clause-decided

@@ -1,8 +1,7 @@
 use Rattle.std.proofs.Common.{List, Bool, sym, ◌∙◌, ap, subst}
 use Rattle.plan_values.specs.declared.plan.Plan.{Plan}
 use Rattle.net_tables.specs.Rows.{RowsAreApart, RowsAreInRange}
-use Rattle.net_sim.specs.Routers.{has_switched}
-use Rattle.net_sim.proofs.Tabled.{are_rows_before, none_marked}
+use Rattle.net_sim.{specs.Routers.{has_switched}, proofs.Tabled.{are_rows_before, none_marked}}
 use Rattle.net_sim.proofs.router.Router.new.Goals as goal
 
 pub routing_tables-requires : goal.routing_tables-requires

@@ -1,7 +1,5 @@
-use Rattle.std.proofs.Common.{◌<◌, length, refl, sym, ◌∙◌, subst, arith}
-use Rattle.std.proofs.lemmas.Option.{slice_get_read}
-use Rattle.net_sim.specs.Routers.{RouterValue, RoutesAs, has_switched}
-use Rattle.net_sim.proofs.Tabled.{routes_before, routes_after, marked_within}
+use Rattle.std.{proofs.Common.{◌<◌, length, refl, sym, ◌∙◌, subst, arith}, proofs.lemmas.Option.{slice_get_read}}
+use Rattle.net_sim.{specs.Routers.{RouterValue, RoutesAs, has_switched}, proofs.Tabled.{routes_before, routes_after, marked_within}}
 use Rattle.net_sim.proofs.router.Router.table_in_force.Goals as goal
 
 pub returns-then-has_switched : goal.returns-then-has_switched

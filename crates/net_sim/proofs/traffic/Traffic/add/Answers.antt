@@ -1,9 +1,6 @@
-use Rattle.std.proofs.Common.{Option}
-use Rattle.std.specs.Prelude.{option_map}
+use Rattle.std.{proofs.Common.{Option}, specs.Prelude.{option_map}}
 use Rattle.net_runs.specs.States.{Flight}
-use Rattle.net_sim.specs.Flights.{slots_of, flight_value}
-use Rattle.net_sim.specs.Placing.{IsPlaced}
-use Rattle.net_sim.proofs.Slots.{each_push, mapped_some}
+use Rattle.net_sim.{specs.Flights.{slots_of, flight_value}, specs.Placing.{IsPlaced}, proofs.Slots.{each_push, mapped_some}}
 use Rattle.net_sim.proofs.traffic.Traffic.add.Goals as goal
 
 pub invariant_of-self : goal.invariant_of-self

@@ -1,17 +1,7 @@
-use Rattle.std.proofs.Common.{◌≡◌, ℕ, ◌<◌, length, List, Option, Some, refl, sym, ◌∙◌, ap, subst, arith}
-use Rattle.std.specs.Prelude.{slice_get}
-use Rattle.std.proofs.lemmas.Bool.{not-true, not-false}
-use Rattle.std.proofs.lemmas.Option.{slice_get_read}
+use Rattle.std.{proofs.Common.{◌≡◌, ℕ, ◌<◌, length, List, Option, Some, refl, sym, ◌∙◌, ap, subst, arith}, specs.Prelude.{slice_get}, proofs.lemmas.Bool.{not-true, not-false}, proofs.lemmas.Option.{slice_get_read}}
 use Rattle.net_runs.specs.States.{Flight}
 use Rattle.mctp_transport.specs.Packets.{key_value}
-use Rattle.net_sim.specs.Flights.{slots_of}
-use Rattle.net_sim.specs.Effects.{effect_value}
-use Rattle.net_sim.specs.Routers.{RouterValue}
-use Rattle.net_sim.specs.Sending.{Sends}
-use Rattle.net_sim.proofs.Slots.{same_means}
-use Rattle.net_sim.proofs.Changes.{same_marks}
-use Rattle.net_sim.proofs.Entering.{queue_there}
-use Rattle.net_sim.proofs.Packing.{silent_by, sent_by, queue_set, some_out}
+use Rattle.net_sim.{specs.Flights.{slots_of}, specs.Effects.{effect_value}, specs.Routers.{RouterValue}, specs.Sending.{Sends}, proofs.Slots.{same_means}, proofs.Changes.{same_marks}, proofs.Entering.{queue_there}, proofs.Packing.{silent_by, sent_by, queue_set, some_out}}
 use Rattle.net_sim.proofs.traffic.Traffic.answer.Goals as goal
 
 pub send-requires-clause-some : goal.send-requires-clause-some

@@ -1,14 +1,6 @@
-use Rattle.std.proofs.Common.{◌≡◌, ◌+◌, ◌<◌, true, length, Option, Some, sym, ◌∙◌, ap, subst, arith}
-use Rattle.std.specs.Prelude.{slice_get, slice_set, is_some, option_map, IfSome}
-use Rattle.std.proofs.lemmas.Option.{same_Some, none-some}
+use Rattle.std.{proofs.Common.{◌≡◌, ◌+◌, ◌<◌, true, length, Option, Some, sym, ◌∙◌, ap, subst, arith}, specs.Prelude.{slice_get, slice_set, is_some, option_map, IfSome}, proofs.lemmas.Option.{same_Some, none-some}}
 use Rattle.net_runs.specs.States.{Flight, destination}
-use Rattle.net_sim.specs.Routers.{RouterValue, GoesOnWithinRank}
-use Rattle.net_sim.specs.Placing.{IsPlaced}
-use Rattle.net_sim.specs.Flights.{flight_value, gone_on, slots_of}
-use Rattle.net_sim.proofs.Slots.{same_means}
-use Rattle.net_sim.proofs.Entering.{rank_most}
-use Rattle.net_sim.proofs.Changes.{same_marks}
-use Rattle.net_sim.proofs.Moving.{decided_as, stops, goes, enters, receives_same}
+use Rattle.net_sim.{specs.Routers.{RouterValue, GoesOnWithinRank}, specs.Placing.{IsPlaced}, specs.Flights.{flight_value, gone_on, slots_of}, proofs.Slots.{same_means}, proofs.Entering.{rank_most}, proofs.Changes.{same_marks}, proofs.Moving.{decided_as, stops, goes, enters, receives_same}}
 use Rattle.net_sim.proofs.traffic.Traffic.carry_out.Goals as goal
 
 pub end-requires : goal.end-requires

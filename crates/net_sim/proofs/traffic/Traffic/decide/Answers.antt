@@ -1,8 +1,7 @@
 use Rattle.std.proofs.Common.{sym, ◌∙◌, ap, refl, arith, true≢false}
 use Rattle.mctp_transport.specs.PacketValues.{key_of}
-use Rattle.net_sim.specs.Flights.{flight_value}
+use Rattle.net_sim.{specs.Flights.{flight_value}, proofs.traffic.Traffic.decide.Goals.{else-keep-via-then-keep+else-left-lt1, else-keep-via-else-keep}}
 use Rattle.net_sim.proofs.traffic.Traffic.decide.Goals as goal
-use Rattle.net_sim.proofs.traffic.Traffic.decide.Goals.{else-keep-via-then-keep+else-left-lt1, else-keep-via-else-keep}
 
 pub decide-requires : goal.decide-requires
 decide-requires g c = (c.args.self.now.placed c.args.number (flight_value c.in-Some.flight.now) (sym c.in-Some.ensures)).0

@@ -1,8 +1,6 @@
 use Rattle.std.proofs.Common.{None}
 use Rattle.net_runs.specs.States.{Flight}
-use Rattle.net_sim.specs.Flights.{slots_of, flight_at}
-use Rattle.net_sim.specs.Placing.{IsPlaced}
-use Rattle.net_sim.proofs.Slots.{each_set, some_by, some_within}
+use Rattle.net_sim.{specs.Flights.{slots_of, flight_at}, specs.Placing.{IsPlaced}, proofs.Slots.{each_set, some_by, some_within}}
 use Rattle.net_sim.proofs.traffic.Traffic.end.Goals as goal
 
 pub invariant_of-self : goal.invariant_of-self

@@ -1,9 +1,5 @@
-use Rattle.std.proofs.Common.{◌≡◌, ℕ, ◌<◌, ◌↔◌, true, length, Some, refl, subst, arith}
-use Rattle.std.specs.Prelude.{slice_get}
-use Rattle.std.proofs.lemmas.Option.{slice_get_read}
-use Rattle.mctp_transport.specs.Packets.{key_value}
-use Rattle.mctp_transport.specs.Histories.{IsOpen}
-use Rattle.mctp_transport.specs.Assembly.{assembler_slots}
+use Rattle.std.{proofs.Common.{◌≡◌, ℕ, ◌<◌, ◌↔◌, true, length, Some, refl, subst, arith}, specs.Prelude.{slice_get}, proofs.lemmas.Option.{slice_get_read}}
+use Rattle.mctp_transport.{specs.Packets.{key_value}, specs.Histories.{IsOpen}, specs.Assembly.{assembler_slots}}
 use Rattle.net_sim.proofs.Expiring.{expires}
 use Rattle.net_sim.proofs.traffic.Traffic.expire.Goals as goal
 

@@ -1,11 +1,8 @@
-use Rattle.std.proofs.Common.{ℕ, ◌≡◌, length, refl, sym, ◌∙◌, ap, arith, below_more}
-use Rattle.std.proofs.lemmas.List.{map-id}
+use Rattle.std.{proofs.Common.{ℕ, ◌≡◌, length, refl, sym, ◌∙◌, ap, arith, below_more}, proofs.lemmas.List.{map-id}}
 use Rattle.mctp_transport.specs.Packets.{key_value}
 use Rattle.plan_values.specs.declared.plan.Plan.{Plan}
 use Rattle.net_tables.specs.Routing.{Holds}
-use Rattle.net_sim.specs.Flights.{slots_of}
-use Rattle.net_sim.specs.Settling.{IsClearAt}
-use Rattle.net_sim.proofs.Settled.{settles, settled_clear, settled_places}
+use Rattle.net_sim.{specs.Flights.{slots_of}, specs.Settling.{IsClearAt}, proofs.Settled.{settles, settled_clear, settled_places}}
 use Rattle.net_sim.proofs.traffic.Traffic.is_settled.Goals as goal
 
 pub returns-then-not-none_is_to : goal.returns-then-not-none_is_to

@@ -2,9 +2,7 @@ use Rattle.std.proofs.Common.{ℕ, ◌<◌}
 use Rattle.mctp_transport.specs.Packets.{key_value}
 use Rattle.net_tables.specs.Routing.{Holds}
 use Rattle.net_runs.specs.States.{NetworkState}
-use Rattle.net_sim.specs.Traffics.{traffic_value}
-use Rattle.net_sim.specs.Standing.{HasNetworkState}
-use Rattle.net_sim.specs.Settling.{IsClearAt}
+use Rattle.net_sim.{specs.Traffics.{traffic_value}, specs.Standing.{HasNetworkState}, specs.Settling.{IsClearAt}}
 use Rattle.net_sim.proofs.traffic.Traffic.is_settled.Given as goal
 
 abbrev pub invariant-loop-node : goal.invariant-loop-node

@@ -1,9 +1,5 @@
 use Rattle.std.proofs.Common.{sym, ◌∙◌}
-use Rattle.net_sim.specs.Flights.{slots_of}
-use Rattle.net_sim.specs.Standing.{at_place}
-use Rattle.net_sim.proofs.Slots.{some_by, same_means}
-use Rattle.net_sim.proofs.Changes.{same_marks}
-use Rattle.net_sim.proofs.Losing.{loses}
+use Rattle.net_sim.{specs.Flights.{slots_of}, specs.Standing.{at_place}, proofs.Slots.{some_by, same_means}, proofs.Changes.{same_marks}, proofs.Losing.{loses}}
 use Rattle.net_sim.proofs.traffic.Traffic.lose.Goals as goal
 
 pub returns-clause-plays : goal.returns-clause-plays

@@ -1,18 +1,8 @@
-use Rattle.std.proofs.Common.{◌≡◌, ◌<◌, ◌≤◌, ◌++◌, ◌∷◌, [], List, length, Option, Some, inl, inr, sym, ◌∙◌, ap, subst}
-use Rattle.std.specs.Prelude.{is_some, IfSome, slice_get}
+use Rattle.std.{proofs.Common.{◌≡◌, ◌<◌, ◌≤◌, ◌++◌, ◌∷◌, [], List, length, Option, Some, inl, inr, sym, ◌∙◌, ap, subst}, specs.Prelude.{is_some, IfSome, slice_get}}
 use Rattle.mctp_routing.specs.declared.decision.Decision.TheVariants.{Here}
 use Rattle.net_tables.specs.Routing.{Holds}
-use Rattle.net_runs.specs.States.{Flight, destination}
-use Rattle.net_runs.specs.Events.{most_flights}
-use Rattle.net_sim.specs.Flights.{slots_of, flight_at}
-use Rattle.net_sim.specs.Routers.{RouterValue}
-use Rattle.net_sim.specs.Moves.{IsDecidedOn}
-use Rattle.net_sim.specs.Traffics.{HasRoomAt}
-use Rattle.net_sim.proofs.Slots.{same_means}
-use Rattle.net_sim.proofs.Changes.{same_marks}
-use Rattle.net_sim.proofs.Lacking.{err_lacks}
-use Rattle.net_sim.proofs.Moving.{decided_as, pushed_there, wants_move, plays_itself, plays_copy}
-use Rattle.net_sim.proofs.Walking.{err_told}
+use Rattle.net_runs.{specs.States.{Flight, destination}, specs.Events.{most_flights}}
+use Rattle.net_sim.{specs.Flights.{slots_of, flight_at}, specs.Routers.{RouterValue}, specs.Moves.{IsDecidedOn}, specs.Traffics.{HasRoomAt}, proofs.Slots.{same_means}, proofs.Changes.{same_marks}, proofs.Lacking.{err_lacks}, proofs.Moving.{decided_as, pushed_there, wants_move, plays_itself, plays_copy}, proofs.Walking.{err_told}}
 use Rattle.net_sim.proofs.traffic.Traffic.move_flight.Goals as goal
 
 pub room_for-requires : goal.room_for-requires

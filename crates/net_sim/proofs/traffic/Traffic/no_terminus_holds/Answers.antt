@@ -1,7 +1,6 @@
 use Rattle.std.proofs.Common.{ℕ, ◌≡◌, ◌≢◌, length, Option, Some, None, refl, ◌∙◌, ap, arith, below_more}
 use Rattle.plan_values.specs.declared.plan.Plan.{Plan}
-use Rattle.net_tables.specs.Routing.{Holds}
-use Rattle.net_tables.proofs.Elements.{holder_within}
+use Rattle.net_tables.{specs.Routing.{Holds}, proofs.Elements.{holder_within}}
 use Rattle.net_sim.proofs.traffic.Traffic.no_terminus_holds.Goals as goal
 
 none_of : {A : Type 0} (o : Option A) → ¬ (o ≢ None) → o ≡ None

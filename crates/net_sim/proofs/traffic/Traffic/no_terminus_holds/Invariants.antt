@@ -1,8 +1,7 @@
 use Rattle.std.proofs.Common.{ℕ, ◌≡◌, ◌<◌, None}
 use Rattle.net_tables.specs.Routing.{Holds}
 use Rattle.net_runs.specs.States.{NetworkState}
-use Rattle.net_sim.specs.Traffics.{traffic_value}
-use Rattle.net_sim.specs.Standing.{HasNetworkState}
+use Rattle.net_sim.{specs.Traffics.{traffic_value}, specs.Standing.{HasNetworkState}}
 use Rattle.net_sim.proofs.traffic.Traffic.no_terminus_holds.Given as goal
 
 abbrev pub invariant-loop-node : goal.invariant-loop-node

@@ -1,11 +1,7 @@
 use Rattle.std.proofs.Common.{◌∷◌, ◌++◌, [], List, Option, Some, length, ◌∙◌, ap, subst, arith}
-use Rattle.mctp_transport.specs.Packets.{packet_value_of}
-use Rattle.mctp_transport.specs.PacketValues.{Spelled}
+use Rattle.mctp_transport.{specs.Packets.{packet_value_of}, specs.PacketValues.{Spelled}}
 use Rattle.net_runs.specs.States.{Flight}
-use Rattle.net_sim.specs.Flights.{slots_of, flight_value}
-use Rattle.net_sim.proofs.Slots.{same_means}
-use Rattle.net_sim.proofs.Changes.{same_marks}
-use Rattle.net_sim.proofs.Putting.{put_no_number, puts, put_wants}
+use Rattle.net_sim.{specs.Flights.{slots_of, flight_value}, proofs.Slots.{same_means}, proofs.Changes.{same_marks}, proofs.Putting.{put_no_number, puts, put_wants}}
 use Rattle.net_sim.proofs.traffic.Traffic.put.Goals as goal
 
 pub returns-then-left-lt1-clause-plays : goal.returns-then-left-lt1-clause-plays

@@ -1,12 +1,7 @@
-use Rattle.std.proofs.Common.{◌≡◌, ◌<◌, ◌++◌, ◌∷◌, [], List, length, map, Option, Some, sym, ◌∙◌, ap, subst, arith}
-use Rattle.std.proofs.lemmas.List.{append_assoc, length_push}
-use Rattle.mctp_transport.specs.PacketValues.{PacketValue}
-use Rattle.mctp_transport.specs.Packets.{packet_value_of}
-use Rattle.mctp_transport.specs.PacketsLeft.{frames_left}
+use Rattle.std.{proofs.Common.{◌≡◌, ◌<◌, ◌++◌, ◌∷◌, [], List, length, map, Option, Some, sym, ◌∙◌, ap, subst, arith}, proofs.lemmas.List.{append_assoc, length_push}}
+use Rattle.mctp_transport.{specs.PacketValues.{PacketValue}, specs.Packets.{packet_value_of}, specs.PacketsLeft.{frames_left}}
 use Rattle.net_runs.specs.States.{Flight}
-use Rattle.net_sim.specs.Flights.{slots_of, begun}
-use Rattle.net_sim.specs.Payloads.{HaveRooms}
-use Rattle.net_sim.specs.Routers.{RouterValue}
+use Rattle.net_sim.{specs.Flights.{slots_of, begun}, specs.Payloads.{HaveRooms}, specs.Routers.{RouterValue}}
 use Rattle.net_sim.proofs.traffic.Traffic.put_all.Goals as goal
 
 pub put_in-requires : goal.put_in-requires

@@ -1,8 +1,7 @@
 use Rattle.std.proofs.Common.{◌≡◌, ◌+◌, ◌<◌, ◌≤◌, ◌++◌, length, map}
 use Rattle.mctp_transport.specs.PacketsLeft.{frames_left}
 use Rattle.net_runs.specs.Events.{most_flights}
-use Rattle.net_sim.specs.Flights.{slots_of, room_of, begun}
-use Rattle.net_sim.specs.Payloads.{HaveRooms}
+use Rattle.net_sim.{specs.Flights.{slots_of, room_of, begun}, specs.Payloads.{HaveRooms}}
 use Rattle.net_sim.proofs.traffic.Traffic.put_all.Given as goal
 
 abbrev pub invariant-loop-packet : goal.invariant-loop-packet

@@ -1,8 +1,6 @@
 use Rattle.std.proofs.Common.{sym, subst}
 use Rattle.net_runs.specs.States.{Flight}
-use Rattle.net_sim.specs.Flights.{flight_value}
-use Rattle.net_sim.specs.Placing.{IsPlaced}
-use Rattle.net_sim.specs.Routers.{RouterValue}
+use Rattle.net_sim.{specs.Flights.{flight_value}, specs.Placing.{IsPlaced}, specs.Routers.{RouterValue}}
 use Rattle.net_sim.proofs.traffic.Traffic.put_copy.Goals as goal
 
 pub add-requires-clause-placed : goal.add-requires-clause-placed

@@ -1,15 +1,7 @@
 use Rattle.std.proofs.Common.{◌≤◌, length, subst, arith}
-use Rattle.mctp_transport.specs.Packets.{key_value}
-use Rattle.mctp_transport.specs.PacketsLeft.{frames_left}
-use Rattle.mctp_transport.specs.Cutting.{ArePacketsOf}
-use Rattle.mctp_transport.proofs.Sending.{few_packets}
-use Rattle.net_sim.proofs.Slots.{same_means}
-use Rattle.net_sim.proofs.Rooms.{short_needs_none}
-use Rattle.net_sim.proofs.Changes.{same_marks}
-use Rattle.net_sim.proofs.Requesting.{puts_one}
-use Rattle.net_runs.specs.States.{unit_of}
-use Rattle.net_runs.proofs.Units.{least_unit}
-use Rattle.net_sim.proofs.Requesting.{as_cut}
+use Rattle.mctp_transport.{specs.Packets.{key_value}, specs.PacketsLeft.{frames_left}, specs.Cutting.{ArePacketsOf}, proofs.Sending.{few_packets}}
+use Rattle.net_sim.{proofs.Slots.{same_means}, proofs.Rooms.{short_needs_none}, proofs.Changes.{same_marks}, proofs.Requesting.{puts_one, as_cut}}
+use Rattle.net_runs.{specs.States.{unit_of}, proofs.Units.{least_unit}}
 use Rattle.net_sim.proofs.traffic.Traffic.put_one.Goals as goal
 
 pub put_all-requires-clause-few : goal.put_all-requires-clause-few

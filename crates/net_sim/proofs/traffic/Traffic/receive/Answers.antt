@@ -1,12 +1,7 @@
-use Rattle.std.proofs.Common.{◌≡◌, ◌<◌, length, Some, refl, sym, ◌∙◌, ap, arith}
-use Rattle.std.specs.Prelude.{slice_get}
-use Rattle.std.proofs.lemmas.Option.{slice_get_read}
-use Rattle.mctp_transport.specs.PacketValues.{key_of}
-use Rattle.mctp_transport.specs.Packets.{key_value}
-use Rattle.mctp_transport.specs.Hearing.{Whole, Held, Dropped}
+use Rattle.std.{proofs.Common.{◌≡◌, ◌<◌, length, Some, refl, sym, ◌∙◌, ap, arith}, specs.Prelude.{slice_get}, proofs.lemmas.Option.{slice_get_read}}
+use Rattle.mctp_transport.{specs.PacketValues.{key_of}, specs.Packets.{key_value}, specs.Hearing.{Whole, Held, Dropped}}
 use Rattle.net_runs.specs.Termini.{WaitingMessage}
-use Rattle.net_sim.specs.Flights.{flight_value}
-use Rattle.net_sim.proofs.Entering.{receives_held, receives_dropped, receives_whole, queue_waits, queue_there, short_map, at_bytes, as_sized}
+use Rattle.net_sim.{specs.Flights.{flight_value}, proofs.Entering.{receives_held, receives_dropped, receives_whole, queue_waits, queue_there, short_map, at_bytes, as_sized}}
 use Rattle.net_sim.proofs.traffic.Traffic.receive.Goals as goal
 
 pub returns-in-Held-clause-receives : goal.returns-in-Held-clause-receives

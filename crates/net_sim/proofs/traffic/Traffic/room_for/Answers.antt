@@ -1,8 +1,6 @@
-use Rattle.std.proofs.Common.{◌<◌, length, refl, sym, ◌∙◌, subst, arith}
-use Rattle.std.proofs.lemmas.Option.{slice_get_read, same_Some}
-use Rattle.net_sim.specs.TerminusQueues.{HasRoomFor}
+use Rattle.std.{proofs.Common.{◌<◌, length, refl, sym, ◌∙◌, subst, arith}, proofs.lemmas.Option.{slice_get_read, same_Some}}
+use Rattle.net_sim.{specs.TerminusQueues.{HasRoomFor}, proofs.Entering.{map_set_same}}
 use Rattle.net_tables.proofs.Elements.{set_there}
-use Rattle.net_sim.proofs.Entering.{map_set_same}
 use Rattle.net_sim.proofs.traffic.Traffic.room_for.Goals as goal
 
 pub returns-in_err-reserve_at-clause-termini : goal.returns-in_err-reserve_at-clause-termini

@@ -1,17 +1,8 @@
-use Rattle.std.proofs.Common.{◌≡◌, false, ◌+◌, ◌-◌, ◌<◌, ◌≤◌, length, Some, refl, sym, ◌∙◌, ap, subst, arith}
-use Rattle.std.specs.Prelude.{slice_get, option_map}
-use Rattle.std.proofs.lemmas.Option.{slice_get_read}
-use Rattle.mctp_transport.specs.PacketsLeft.{frames_left}
-use Rattle.mctp_transport.specs.Cutting.{ArePacketsOf}
-use Rattle.mctp_transport.proofs.Sending.{few_packets}
-use Rattle.plan_values.specs.declared.plan.Plan.{Plan}
-use Rattle.plan_values.specs.declared.nodes.Node.{Node}
-use Rattle.net_sim.specs.Flights.{slots_of}
-use Rattle.net_sim.proofs.Packing.{begun_length}
-use Rattle.net_sim.proofs.Rooms.{enough_rooms}
-use Rattle.net_runs.specs.States.{unit_of}
-use Rattle.net_runs.proofs.Units.{least_unit}
-use Rattle.net_sim.proofs.Requesting.{as_cut}
+use Rattle.std.{proofs.Common.{◌≡◌, false, ◌+◌, ◌-◌, ◌<◌, ◌≤◌, length, Some, refl, sym, ◌∙◌, ap, subst, arith}, specs.Prelude.{slice_get, option_map}, proofs.lemmas.Option.{slice_get_read}}
+use Rattle.mctp_transport.{specs.PacketsLeft.{frames_left}, specs.Cutting.{ArePacketsOf}, proofs.Sending.{few_packets}}
+use Rattle.plan_values.{specs.declared.plan.Plan.{Plan}, specs.declared.nodes.Node.{Node}}
+use Rattle.net_sim.{specs.Flights.{slots_of}, proofs.Packing.{begun_length}, proofs.Rooms.{enough_rooms}, proofs.Requesting.{as_cut}}
+use Rattle.net_runs.{specs.States.{unit_of}, proofs.Units.{least_unit}}
 use Rattle.net_sim.proofs.traffic.Traffic.send.Goals as goal
 
 pub put_all-requires-clause-few : goal.put_all-requires-clause-few

@@ -1,7 +1,5 @@
 use Rattle.std.proofs.Common.{Bool, length, refl, sym, ◌∙◌, ap, subst}
-use Rattle.net_sim.specs.Placing.{IsPlaced}
-use Rattle.net_sim.specs.Routers.{RouterValue, TellsIfSwitchable}
-use Rattle.net_sim.proofs.Switching.{switches}
+use Rattle.net_sim.{specs.Placing.{IsPlaced}, specs.Routers.{RouterValue, TellsIfSwitchable}, proofs.Switching.{switches}}
 use Rattle.net_sim.proofs.traffic.Traffic.switch.Goals as goal
 
 pub invariant_of-self : goal.invariant_of-self

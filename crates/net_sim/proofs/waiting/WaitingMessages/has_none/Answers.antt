@@ -1,8 +1,6 @@
-use Rattle.std.proofs.Common.{◌≡◌, Some, sym, ap, ◌∙◌}
-use Rattle.std.proofs.lemmas.Bool.Decides.{Decides-eqb}
+use Rattle.std.{proofs.Common.{◌≡◌, Some, sym, ap, ◌∙◌}, proofs.lemmas.Bool.Decides.{Decides-eqb}}
 use Rattle.mctp_transport.specs.Packets.{key_value}
-use Rattle.net_sim.specs.KeyCounts.{count_of}
-use Rattle.net_sim.proofs.Tallying.{none_waiting, waiting_none}
+use Rattle.net_sim.{specs.KeyCounts.{count_of}, proofs.Tallying.{none_waiting, waiting_none}}
 use Rattle.net_sim.proofs.waiting.WaitingMessages.has_none.Goals as goal
 
 pub returns-in-Some : goal.returns-in-Some

@@ -1,7 +1,6 @@
 use Rattle.std.proofs.Common.{sym, subst}
 use Rattle.mctp_transport.specs.Packets.{key_value}
-use Rattle.net_sim.specs.Tallies.{waits_under, AreCounted}
-use Rattle.net_sim.proofs.Tallying.{push_tally, enters}
+use Rattle.net_sim.{specs.Tallies.{waits_under, AreCounted}, proofs.Tallying.{push_tally, enters}}
 use Rattle.net_sim.proofs.waiting.WaitingMessages.push.Goals as goal
 
 pub invariant_of-self : goal.invariant_of-self

@@ -1,7 +1,6 @@
 use Rattle.std.proofs.Common.{◌≡◌, ◌∷◌, rules, subst}
 use Rattle.mctp_transport.specs.Packets.{key_value}
-use Rattle.net_sim.specs.Tallies.{waits_under, AreCounted}
-use Rattle.net_sim.proofs.Tallying.{rest_tally, leaves}
+use Rattle.net_sim.{specs.Tallies.{waits_under, AreCounted}, proofs.Tallying.{rest_tally, leaves}}
 use Rattle.net_sim.proofs.waiting.WaitingMessages.take_oldest.Goals as goal
 
 pub invariant_of-self-2 : goal.invariant_of-self-2

@@ -1,7 +1,6 @@
 use Rattle.std.proofs.Common.{rules}
 use Rattle.pdr_repository.specs.Records.{entries}
-use Rattle.network_tests.specs.Planned.{IsAlone}
-use Rattle.network_tests.proofs.Alone.{planned_here, lawful_here}
+use Rattle.network_tests.{specs.Planned.{IsAlone}, proofs.Alone.{planned_here, lawful_here}}
 use Rattle.network_tests.proofs.tests.planned.run_of_one_record.Goals as goal
 
 pub run_alone-requires-clause-lawful : goal.run_alone-requires-clause-lawful

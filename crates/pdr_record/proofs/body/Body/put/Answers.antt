@@ -1,6 +1,5 @@
 use Rattle.std.proofs.Common.{◌∙◌, ◌++◌, ap, drop, List, ℕ}
-use Rattle.pdr_record.specs.FieldLaws.{followed-bytes}
-use Rattle.pdr_record.specs.Written.{fields_of}
+use Rattle.pdr_record.{specs.FieldLaws.{followed-bytes}, specs.Written.{fields_of}}
 use Rattle.pdr_record.proofs.body.Body.put.Goals as goal
 
 pub returns-in-State-clause-front : goal.returns-in-State-clause-front

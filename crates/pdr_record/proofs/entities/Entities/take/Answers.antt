@@ -1,7 +1,5 @@
 use Rattle.std.proofs.Common.{◌∙◌, ◌++◌, sym, ap, List, ℕ}
-use Rattle.pdr_record.specs.Layouts.{entities_fields}
-use Rattle.pdr_record.specs.Lists.{entities_value}
-use Rattle.pdr_record.specs.FieldLaws.{followed-bytes}
+use Rattle.pdr_record.{specs.Layouts.{entities_fields}, specs.Lists.{entities_value}, specs.FieldLaws.{followed-bytes}}
 use Rattle.pdr_record.proofs.entities.Entities.take.Goals as goal
 
 pub returns-clause-field : goal.returns-clause-field

@@ -1,11 +1,5 @@
-use Rattle.std.proofs.Common.{◌≡◌, ◌≤◌, ◌∙◌, ap, ◌∷◌, inr, arith}
-use Rattle.std.proofs.lemmas.Result.{err_from_is_err_and}
-use Rattle.pdr_record.specs.Fields.{followed}
-use Rattle.pdr_record.specs.Layouts.{width_of, NumericValue}
-use Rattle.pdr_record.specs.Numbers.{size_code, format_code}
-use Rattle.pdr_record.specs.Values.{sensor_value, units_value, precision_value, timing_value, ranges_value}
-use Rattle.pdr_record.specs.LayoutLaws.{front}
-use Rattle.pdr_record.proofs.Numeric.{other_format, ends_behind, numeric_fits, size_most, format_most}
+use Rattle.std.{proofs.Common.{◌≡◌, ◌≤◌, ◌∙◌, ap, ◌∷◌, inr, arith}, proofs.lemmas.Result.{err_from_is_err_and}}
+use Rattle.pdr_record.{specs.Fields.{followed}, specs.Layouts.{width_of, NumericValue}, specs.Numbers.{size_code, format_code}, specs.Values.{sensor_value, units_value, precision_value, timing_value, ranges_value}, specs.LayoutLaws.{front}, proofs.Numeric.{other_format, ends_behind, numeric_fits, size_most, format_most}}
 use Rattle.pdr_record.proofs.numeric_sensor.NumericSensor.take.Goals as goal
 
 pub returns-in_err-range_field_format-clause-refused : goal.returns-in_err-range_field_format-clause-refused

@@ -1,7 +1,5 @@
-use Rattle.std.proofs.Common.{◌≡◌, ◌∷◌, [], arith}
-use Rattle.std.proofs.lemmas.Result.{err_from_is_err_and}
-use Rattle.pdr_record.specs.Fields.{U8, U16, U32, followed}
-use Rattle.pdr_record.proofs.RecordFaults.{fault_behind}
+use Rattle.std.{proofs.Common.{◌≡◌, ◌∷◌, [], arith}, proofs.lemmas.Result.{err_from_is_err_and}}
+use Rattle.pdr_record.{specs.Fields.{U8, U16, U32, followed}, proofs.RecordFaults.{fault_behind}}
 use Rattle.pdr_record.proofs.record.Record.of.Goals as goal
 
 pub returns-in_err-body-clause-refused : goal.returns-in_err-body-clause-refused

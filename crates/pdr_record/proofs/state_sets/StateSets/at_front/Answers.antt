@@ -1,7 +1,5 @@
-use Rattle.std.proofs.Common.{◌≡◌, ◌++◌, ◌-◌, sym, arith, length, Some}
-use Rattle.std.proofs.lemmas.List.{take-append-drop}
-use Rattle.pdr_record.specs.ListsAt.{after_state_sets}
-use Rattle.pdr_record.proofs.ListsRead.{state_sets_count, shorter_after, own_bytes}
+use Rattle.std.{proofs.Common.{◌≡◌, ◌++◌, ◌-◌, sym, arith, length, Some}, proofs.lemmas.List.{take-append-drop}}
+use Rattle.pdr_record.{specs.ListsAt.{after_state_sets}, proofs.ListsRead.{state_sets_count, shorter_after, own_bytes}}
 use Rattle.pdr_record.proofs.state_sets.StateSets.at_front.Goals as goal
 
 pub overflow_sub-bytes : goal.overflow_sub-bytes

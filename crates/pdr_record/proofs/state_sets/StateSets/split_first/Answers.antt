@@ -1,9 +1,6 @@
 use Rattle.std.proofs.Common.{◌≡◌, ◌∙◌, ◌∷◌, ◌++◌, ℕ, suc, List, ap, subst, arith}
 use Rattle.byteorder.specs.Endian.{little_bytes}
-use Rattle.pdr_record.specs.Fields.{bytes_of}
-use Rattle.pdr_record.specs.Layouts.{StateSetValue, state_sets_fields}
-use Rattle.pdr_record.specs.ListsAt.{after_state_set, state_sets_of}
-use Rattle.pdr_record.proofs.ListsRead.{first_state_set}
+use Rattle.pdr_record.{specs.Fields.{bytes_of}, specs.Layouts.{StateSetValue, state_sets_fields}, specs.ListsAt.{after_state_set, state_sets_of}, proofs.ListsRead.{first_state_set}}
 use Rattle.pdr_record.proofs.state_sets.StateSets.split_first.Goals as goal
 
 pub invariant_of-result : goal.invariant_of-result

@@ -1,7 +1,5 @@
-use Rattle.std.proofs.Common.{rules}
-use Rattle.pdr_repository.specs.declared.handle_index.IndexRow.{IndexRow}
-use Rattle.std.proofs.lemmas.List.Sorted.{answers_always}
-use Rattle.pdr_repository.proofs.Indexing.{sorted_index}
+use Rattle.std.{proofs.Common.{rules}, proofs.lemmas.List.Sorted.{answers_always}}
+use Rattle.pdr_repository.{specs.declared.handle_index.IndexRow.{IndexRow}, proofs.Indexing.{sorted_index}}
 use Rattle.pdr_repository.proofs.handle_index.HandleIndex.of.Goals as goal
 
 pub returns : goal.returns

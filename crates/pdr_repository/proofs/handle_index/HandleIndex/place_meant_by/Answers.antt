@@ -1,5 +1,4 @@
-use Rattle.std.proofs.Common.{arith}
-use Rattle.std.proofs.lemmas.Bool.Decides.{nat_tests}
+use Rattle.std.{proofs.Common.{arith}, proofs.lemmas.Bool.Decides.{nat_tests}}
 use Rattle.pdr_repository.proofs.Indexing.{meant_first, meant_named, meant_none}
 use Rattle.pdr_repository.proofs.handle_index.HandleIndex.place_meant_by.Goals as goal
 

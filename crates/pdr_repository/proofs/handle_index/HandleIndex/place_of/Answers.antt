@@ -1,8 +1,5 @@
-use Rattle.std.proofs.Common.{List, sym, subst, rules}
-use Rattle.pdr_repository.specs.declared.handle_index.IndexRow.{IndexRow}
-use Rattle.pdr_repository.specs.Indexes.{IsIndexOf}
-use Rattle.std.proofs.lemmas.List.Sorted.{answers_always}
-use Rattle.pdr_repository.proofs.Indexing.{found_none, found_row}
+use Rattle.std.{proofs.Common.{List, sym, subst, rules}, proofs.lemmas.List.Sorted.{answers_always}}
+use Rattle.pdr_repository.{specs.declared.handle_index.IndexRow.{IndexRow}, specs.Indexes.{IsIndexOf}, proofs.Indexing.{found_none, found_row}}
 use Rattle.pdr_repository.proofs.handle_index.HandleIndex.place_of.Goals as goal
 
 pub returns-in-Ok : goal.returns-in-Ok

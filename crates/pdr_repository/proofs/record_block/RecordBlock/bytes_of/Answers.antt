@@ -1,7 +1,5 @@
-use Rattle.std.proofs.Common.{sym, ◌∙◌}
-use Rattle.std.proofs.lemmas.Option.{same_Some, slice_get_within}
-use Rattle.pdr_repository.specs.RecordBlocks.{entries_in}
-use Rattle.pdr_repository.proofs.Places.{bytes_there}
+use Rattle.std.{proofs.Common.{sym, ◌∙◌}, proofs.lemmas.Option.{same_Some, slice_get_within}}
+use Rattle.pdr_repository.{specs.RecordBlocks.{entries_in}, proofs.Places.{bytes_there}}
 use Rattle.pdr_repository.proofs.record_block.RecordBlock.bytes_of.Goals as goal
 
 pub bytes_at-requires : goal.bytes_at-requires

@@ -1,7 +1,5 @@
 use Rattle.std.proofs.Common.{◌≡◌, ◌+◌, ◌^◌, ◌<◌, List, ℕ, length, vec_capacity, sym, subst, arith}
-use Rattle.pdr_repository.specs.declared.record_block.Span.{Span}
-use Rattle.pdr_repository.proofs.Headers.{lawful_short}
-use Rattle.pdr_repository.proofs.Blocks.{IsFilledTo, filled_to_more, fits}
+use Rattle.pdr_repository.{specs.declared.record_block.Span.{Span}, proofs.Headers.{lawful_short}, proofs.Blocks.{IsFilledTo, filled_to_more, fits}}
 use Rattle.pdr_repository.proofs.record_block.RecordBlock.new.Goals as goal
 
 pub total_length-requires-clause-short : goal.total_length-requires-clause-short

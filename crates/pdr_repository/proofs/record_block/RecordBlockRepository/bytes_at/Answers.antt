@@ -1,10 +1,5 @@
-use Rattle.std.proofs.Common.{◌≡◌, ◌-◌, List, ℕ, Some, length, take, drop, slice_get, refl, sym, subst, arith}
-use Rattle.std.proofs.lemmas.List.{length-map}
-use Rattle.std.proofs.lemmas.Option.{slice_get_read}
-use Rattle.pdr_repository.specs.Records.{bytes_by_place}
-use Rattle.pdr_repository.specs.RecordBlocks.{entries_in, entry_in}
-use Rattle.pdr_repository.proofs.Places.{bytes_there}
-use Rattle.pdr_repository.proofs.Blocks.{held_there}
+use Rattle.std.{proofs.Common.{◌≡◌, ◌-◌, List, ℕ, Some, length, take, drop, slice_get, refl, sym, subst, arith}, proofs.lemmas.List.{length-map}, proofs.lemmas.Option.{slice_get_read}}
+use Rattle.pdr_repository.{specs.Records.{bytes_by_place}, specs.RecordBlocks.{entries_in, entry_in}, proofs.Places.{bytes_there}, proofs.Blocks.{held_there}}
 use Rattle.pdr_repository.proofs.record_block.RecordBlockRepository.bytes_at.Goals as goal
 
 pub returns-clause-bytes : goal.returns-clause-bytes

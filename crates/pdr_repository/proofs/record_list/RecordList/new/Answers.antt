@@ -1,7 +1,5 @@
 use Rattle.std.proofs.Common.{List, ℕ, Vec, Global, subst}
-use Rattle.pdr_repository.specs.Records.{entries}
-use Rattle.pdr_repository.specs.Indexes.{IsIndexOf}
-use Rattle.pdr_repository.proofs.Headers.{lawful_short}
+use Rattle.pdr_repository.{specs.Records.{entries}, specs.Indexes.{IsIndexOf}, proofs.Headers.{lawful_short}}
 use Rattle.pdr_repository.proofs.record_list.RecordList.new.Goals as goal
 
 pub invariant_of-result : goal.invariant_of-result

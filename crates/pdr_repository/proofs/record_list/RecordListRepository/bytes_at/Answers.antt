@@ -1,8 +1,5 @@
-use Rattle.std.proofs.Common.{◌≡◌, List, ℕ, Some, length, slice_get, refl, sym, subst, arith}
-use Rattle.std.proofs.lemmas.List.{length-map}
-use Rattle.std.proofs.lemmas.Option.{slice_get_read}
-use Rattle.pdr_repository.specs.Records.{bytes_by_place, entries, entry_of}
-use Rattle.pdr_repository.proofs.Places.{bytes_there, entry_there}
+use Rattle.std.{proofs.Common.{◌≡◌, List, ℕ, Some, length, slice_get, refl, sym, subst, arith}, proofs.lemmas.List.{length-map}, proofs.lemmas.Option.{slice_get_read}}
+use Rattle.pdr_repository.{specs.Records.{bytes_by_place, entries, entry_of}, proofs.Places.{bytes_there, entry_there}}
 use Rattle.pdr_repository.proofs.record_list.RecordListRepository.bytes_at.Goals as goal
 
 pub returns-clause-bytes : goal.returns-clause-bytes

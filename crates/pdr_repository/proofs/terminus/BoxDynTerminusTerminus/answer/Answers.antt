@@ -1,6 +1,5 @@
 use Rattle.std.proofs.Common.{◌≡◌, ℕ, List, Option, ap, subst}
-use Rattle.pdr_repository.specs.Records.{Entry}
-use Rattle.pdr_repository.specs.Answers.{Answers}
+use Rattle.pdr_repository.{specs.Records.{Entry}, specs.Answers.{Answers}}
 use Rattle.pdr_repository.proofs.terminus.BoxDynTerminusTerminus.answer.Goals as goal
 
 -- the same answer, of a terminus that is the same

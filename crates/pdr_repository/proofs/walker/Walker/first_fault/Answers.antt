@@ -1,11 +1,6 @@
-use Rattle.std.proofs.Common.{refl, arith}
-use Rattle.std.proofs.lemmas.List.{length-map}
+use Rattle.std.{proofs.Common.{refl, arith}, proofs.lemmas.List.{length-map}}
 use Rattle.pldm_message.specs.PdrValues.{part}
-use Rattle.pdr_repository.specs.Dues.{request_of}
-use Rattle.pdr_repository.specs.Faults.{Room}
-use Rattle.pdr_repository.specs.Walkers.{room_of}
-use Rattle.pdr_repository.specs.WalkerStates.{state_of}
-use Rattle.pdr_repository.proofs.Judging.{judged, same_room}
+use Rattle.pdr_repository.{specs.Dues.{request_of}, specs.Faults.{Room}, specs.Walkers.{room_of}, specs.WalkerStates.{state_of}, proofs.Judging.{judged, same_room}}
 use Rattle.pdr_repository.proofs.walker.Walker.first_fault.Goals as goal
 
 pub returns : goal.returns

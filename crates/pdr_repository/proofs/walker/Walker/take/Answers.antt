@@ -1,6 +1,4 @@
-use Rattle.pdr_repository.proofs.Following.{goes_on}
-use Rattle.pdr_repository.proofs.Telling.{tells}
-use Rattle.pdr_repository.proofs.Wanting.{enough}
+use Rattle.pdr_repository.{proofs.Following.{goes_on}, proofs.Telling.{tells}, proofs.Wanting.{enough}}
 use Rattle.pdr_repository.proofs.walker.Walker.take.Goals as goal
 
 pub returns-clause-tells : goal.returns-clause-tells

@@ -1,6 +1,5 @@
 use Rattle.std.proofs.Common.{ap}
-use Rattle.pldm_message.specs.Heads.{outcome_value}
-use Rattle.pldm_message.specs.PdrValues.{part}
+use Rattle.pldm_message.{specs.Heads.{outcome_value}, specs.PdrValues.{part}}
 use Rattle.pdr_repository.proofs.walker.Walker.take_outcome.Goals as goal
 
 pub returns-in-Ok-clause-wants : goal.returns-in-Ok-clause-wants

@@ -1,10 +1,6 @@
 use Rattle.std.proofs.Common.{Some, None, refl, inl, inr}
 use Rattle.pldm_message.specs.PdrValues.{part}
-use Rattle.pdr_repository.specs.Walks.{first_part}
-use Rattle.pdr_repository.specs.Dues.{request_of}
-use Rattle.pdr_repository.proofs.Judging.{nothing_before}
-use Rattle.pdr_repository.proofs.Taking.{completes_for}
-use Rattle.pdr_repository.proofs.Wanting.{found_otherwise, as_asked, other_fault, lacks_at_last, lacks_before}
+use Rattle.pdr_repository.{specs.Walks.{first_part}, specs.Dues.{request_of}, proofs.Judging.{nothing_before}, proofs.Taking.{completes_for}, proofs.Wanting.{found_otherwise, as_asked, other_fault, lacks_at_last, lacks_before}}
 use Rattle.pdr_repository.proofs.walker.Walker.take_part.Goals as goal
 
 pub returns-in-Some-clause-takes : goal.returns-in-Some-clause-takes

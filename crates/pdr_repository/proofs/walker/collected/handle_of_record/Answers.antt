@@ -1,5 +1,4 @@
-use Rattle.std.proofs.Common.{◌∙◌, ap}
-use Rattle.std.proofs.lemmas.List.{append-nil}
+use Rattle.std.{proofs.Common.{◌∙◌, ap}, proofs.lemmas.List.{append-nil}}
 use Rattle.pdr_repository.specs.Records.{handle_in}
 use Rattle.pdr_repository.proofs.walker.collected.handle_of_record.Goals as goal
 

@@ -1,6 +1,5 @@
 use Rattle.std.proofs.Common.{sym, ap, ◌∙◌, subst}
-use Rattle.plain_json.specs.Plain.{BeginAt, tokens_at}
-use Rattle.plain_json.proofs.Tokens.{begins_behind}
+use Rattle.plain_json.{specs.Plain.{BeginAt, tokens_at}, proofs.Tokens.{begins_behind}}
 use Rattle.plain_json.proofs.reader.PlainReader.begin.Goals as goal
 
 pub returns-in_ok-after_byte-in-AfterValue : goal.returns-in_ok-after_byte-in-AfterValue

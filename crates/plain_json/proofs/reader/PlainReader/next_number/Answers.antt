@@ -1,6 +1,5 @@
 use Rattle.std.proofs.Common.{sym, subst}
-use Rattle.plain_json.specs.Plain.{IsNextNumber}
-use Rattle.plain_json.proofs.Tokens.{next_number}
+use Rattle.plain_json.{specs.Plain.{IsNextNumber}, proofs.Tokens.{next_number}}
 use Rattle.plain_json.proofs.reader.PlainReader.next_number.Goals as goal
 
 pub returns : goal.returns

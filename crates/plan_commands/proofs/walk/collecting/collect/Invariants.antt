@@ -1,8 +1,6 @@
 use Rattle.std.proofs.Common.{◌≡◌, ℕ, ◌-◌, false, List}
 use Rattle.pldm_message.specs.InstanceIdValues.{ids_of}
-use Rattle.pdr_repository.specs.ListTermini.{list_records}
-use Rattle.pdr_repository.specs.Walks.{Exchange, exchanges}
-use Rattle.pdr_repository.specs.WalkerStates.{state_of}
+use Rattle.pdr_repository.{specs.ListTermini.{list_records}, specs.Walks.{Exchange, exchanges}, specs.WalkerStates.{state_of}}
 use Rattle.plan_commands.specs.Collecting.{IsUnderWay}
 use Rattle.plan_commands.proofs.walk.collecting.collect.Given as goal
 

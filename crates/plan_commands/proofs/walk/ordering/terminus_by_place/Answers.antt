@@ -1,5 +1,4 @@
-use Rattle.std.proofs.Common.{arith}
-use Rattle.std.proofs.lemmas.List.{length-map}
+use Rattle.std.{proofs.Common.{arith}, proofs.lemmas.List.{length-map}}
 use Rattle.pdr_repository.specs.Records.{entries, entry_of}
 use Rattle.net_check.proofs.Accepted.{accepted_orders}
 use Rattle.command_answers.proofs.Places.{lawful_records, known_terminus, few_kept, lawful_kept}

@@ -1,6 +1,5 @@
 use Rattle.std.proofs.Common.{◌-◌, List, [], ◌∷◌, ◌++◌, ◌∙◌, get_or, ap, arith}
-use Rattle.plan_texts.specs.declared.drawings.red.Hop.{Hop}
-use Rattle.plan_texts.proofs.Hops.{along_next}
+use Rattle.plan_texts.{specs.declared.drawings.red.Hop.{Hop}, proofs.Hops.{along_next}}
 use Rattle.plan_texts.proofs.drawings.red.hops_along.Goals as goal
 
 pub loop-index-preserved : goal.loop-index-preserved

@@ -1,5 +1,4 @@
-use Rattle.std.proofs.Common.{◌≡◌, string_bytes, take}
-use Rattle.std.specs.List.{flat_map}
+use Rattle.std.{proofs.Common.{◌≡◌, string_bytes, take}, specs.List.{flat_map}}
 use Rattle.plan_texts.specs.MoveSteps.{part_text}
 use Rattle.plan_texts.proofs.moves.steps.parts_lines.Given as goal
 

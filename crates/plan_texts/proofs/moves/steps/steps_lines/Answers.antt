@@ -1,6 +1,5 @@
 use Rattle.std.proofs.Common.{◌≡◌, ◌+◌, ◌<◌, ◌++◌, ◌∙◌, length, string_bytes, take, arith, rules}
-use Rattle.plan_texts.specs.MoveSteps.{change_text, steps_text}
-use Rattle.plan_texts.proofs.StepLines.{one_step_more}
+use Rattle.plan_texts.{specs.MoveSteps.{change_text, steps_text}, proofs.StepLines.{one_step_more}}
 use Rattle.plan_texts.proofs.moves.steps.steps_lines.Goals as goal
 
 pub loop-index-preserved : goal.loop-index-preserved

@@ -1,6 +1,5 @@
 use Rattle.std.proofs.Common.{◌≡◌, ℕ, ◌<◌, length}
-use Rattle.net_tables.specs.Repositories.{records_of}
-use Rattle.net_tables.specs.Routing.{Holds}
+use Rattle.net_tables.{specs.Repositories.{records_of}, specs.Routing.{Holds}}
 use Rattle.play_commands.proofs.script.judging.has_records.Given as goal
 
 abbrev pub invariant-loop-node : goal.invariant-loop-node

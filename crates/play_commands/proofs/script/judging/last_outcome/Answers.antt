@@ -1,11 +1,8 @@
-use Rattle.std.proofs.Common.{◌∙◌, length, map, arith}
-use Rattle.std.proofs.lemmas.List.{length-map}
+use Rattle.std.{proofs.Common.{◌∙◌, length, map, arith}, proofs.lemmas.List.{length-map}}
 use Rattle.net_tables.specs.TwoPlans.{one_plan}
-use Rattle.net_sim.specs.Networks.{checked_of}
-use Rattle.net_sim.specs.Outcomes.{event_value, outcome_value}
+use Rattle.net_sim.{specs.Networks.{checked_of}, specs.Outcomes.{event_value, outcome_value}}
 use Rattle.command_answers.proofs.Places.{starts_in}
-use Rattle.play_commands.proofs.Scripted.{ends_with, last_taken, no_item}
-use Rattle.play_commands.proofs.Simulated.{walks_in}
+use Rattle.play_commands.{proofs.Scripted.{ends_with, last_taken, no_item}, proofs.Simulated.{walks_in}}
 use Rattle.play_commands.proofs.script.judging.last_outcome.Goals as goal
 
 pub returns-clause-ends : goal.returns-clause-ends

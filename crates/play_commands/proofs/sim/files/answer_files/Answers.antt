@@ -2,8 +2,7 @@ use Rattle.std.proofs.Common.{rules, ◌≡◌, List, map, Err, refl, subst}
 use Rattle.plan_values.specs.declared.event.Event.{Event}
 use Rattle.net_sim.specs.Outcomes.{event_value}
 use Rattle.command_answers.specs.Answers.{stream, IsFaultText}
-use Rattle.play_commands.specs.Simulating.{RunsOn, IsPlayText, TellsRun, IsSimFault, IsSimAnswer, AreUnreadAmong, PlaysSo}
-use Rattle.play_commands.proofs.Playing.{plays_unread, plays_also}
+use Rattle.play_commands.{specs.Simulating.{RunsOn, IsPlayText, TellsRun, IsSimFault, IsSimAnswer, AreUnreadAmong, PlaysSo}, proofs.Playing.{plays_unread, plays_also}}
 use Rattle.play_commands.proofs.sim.files.answer_files.Goals as goal
 
 pub returns-in_err-plan-clause-plays : goal.returns-in_err-plan-clause-plays

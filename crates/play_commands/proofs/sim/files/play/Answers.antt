@@ -1,15 +1,11 @@
-use Rattle.std.proofs.Common.{rules, ◌≡◌, ◌∙◌, List, ℕ, map, Err, inr, refl, ap}
-use Rattle.std.specs.Cow.{cow_str_bytes}
-use Rattle.net_check.specs.declared.check_error.CheckError.{CheckError}
-use Rattle.net_check.specs.declared.check_error.CheckError.TheVariants as check_error
-use Rattle.net_check.specs.Errors.{NamesFirstFault}
+use Rattle.std.{proofs.Common.{rules, ◌≡◌, ◌∙◌, List, ℕ, map, Err, inr, refl, ap}, specs.Cow.{cow_str_bytes}}
+use Rattle.net_check.{specs.declared.check_error.CheckError.{CheckError}, specs.Errors.{NamesFirstFault}}
 use Rattle.net_tables.specs.TwoPlans.{one_plan}
-use Rattle.plan_values.specs.declared.certificate.Certificate.{Certificate}
-use Rattle.plan_values.specs.declared.plan.Plan.{Plan}
+use Rattle.plan_values.{specs.declared.certificate.Certificate.{Certificate}, specs.declared.plan.Plan.{Plan}}
 use Rattle.net_sim.specs.Outcomes.{event_value}
 use Rattle.command_answers.specs.Answers.{stream, IsErrorText, IsFaultText}
-use Rattle.play_commands.specs.Simulating.{RunsOn, IsPlayText}
-use Rattle.play_commands.proofs.Playing.{plays_fault, plays_nothing, plays_in}
+use Rattle.play_commands.{specs.Simulating.{RunsOn, IsPlayText}, proofs.Playing.{plays_fault, plays_nothing, plays_in}}
+use Rattle.net_check.specs.declared.check_error.CheckError.TheVariants as check_error
 use Rattle.play_commands.proofs.sim.files.play.Goals as goal
 
 -- the line of an error of `check` is that of the first fault

@@ -1,11 +1,8 @@
 use Rattle.std.proofs.Common.{rules, ◌≡◌, List, map, Err, refl, subst}
 use Rattle.plan_values.specs.declared.event.Event.{Event}
 use Rattle.net_sim.specs.Outcomes.{event_value}
-use Rattle.command_answers.specs.Answers.{stream}
-use Rattle.command_answers.specs.Moves.{IsMoveFaultText}
-use Rattle.play_commands.specs.MoveSimulating.{MovesOn, IsMovePlayText, TellsMovedRun, IsPlayFault, IsPlayAnswer, IsPlayUnread}
-use Rattle.play_commands.specs.Simulating.{PlaysSo}
-use Rattle.play_commands.proofs.Playing.{plays_unread, plays_also}
+use Rattle.command_answers.{specs.Answers.{stream}, specs.Moves.{IsMoveFaultText}}
+use Rattle.play_commands.{specs.MoveSimulating.{MovesOn, IsMovePlayText, TellsMovedRun, IsPlayFault, IsPlayAnswer, IsPlayUnread}, specs.Simulating.{PlaysSo}, proofs.Playing.{plays_unread, plays_also}}
 use Rattle.play_commands.proofs.sim.moves.answer_move_files.Goals as goal
 
 pub returns-in_err-before-clause-plays : goal.returns-in_err-before-clause-plays

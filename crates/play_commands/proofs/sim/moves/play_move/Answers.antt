@@ -1,14 +1,10 @@
-use Rattle.std.proofs.Common.{rules, ◌≡◌, ◌∙◌, map, Err, inr, refl, ap}
-use Rattle.std.specs.Cow.{cow_str_bytes}
+use Rattle.std.{proofs.Common.{rules, ◌≡◌, ◌∙◌, map, Err, inr, refl, ap}, specs.Cow.{cow_str_bytes}}
 use Rattle.net_tables.specs.TwoPlans.{moving}
-use Rattle.plan_values.specs.declared.certificate.Certificate.{Certificate}
-use Rattle.plan_values.specs.declared.plan.Plan.{Plan}
+use Rattle.plan_values.{specs.declared.certificate.Certificate.{Certificate}, specs.declared.plan.Plan.{Plan}}
 use Rattle.net_sim.specs.Outcomes.{event_value}
+use Rattle.command_answers.{specs.Answers.{stream}, specs.Moves.{IsMoveFaultText}}
+use Rattle.play_commands.{specs.MoveSimulating.{MovesOn, IsMovePlayText}, proofs.Playing.{plays_fault, plays_nothing, plays_in}}
 use Rattle.command_answers.specs.declared.refused.Refused.TheVariants as refused
-use Rattle.command_answers.specs.Answers.{stream}
-use Rattle.command_answers.specs.Moves.{IsMoveFaultText}
-use Rattle.play_commands.specs.MoveSimulating.{MovesOn, IsMovePlayText}
-use Rattle.play_commands.proofs.Playing.{plays_fault, plays_nothing, plays_in}
 use Rattle.play_commands.proofs.sim.moves.play_move.Goals as goal
 
 pub returns-in-Ok : goal.returns-in-Ok

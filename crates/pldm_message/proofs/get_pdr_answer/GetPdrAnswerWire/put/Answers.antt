@@ -1,11 +1,6 @@
 use Rattle.std.proofs.Common.{◌++◌, ◌∷◌, [], refl, sym, arith}
+use Rattle.pldm_message.{specs.Headers.{header_bytes}, specs.Messages.{answer_header}, specs.Heads.{answer_head}, specs.Pdrs.{part_bytes}, specs.PdrValues.{part}, proofs.Writing.{written_behind}}
 use Rattle.pldm_message.specs.declared.command.Command.TheVariants as command
-use Rattle.pldm_message.specs.Headers.{header_bytes}
-use Rattle.pldm_message.specs.Messages.{answer_header}
-use Rattle.pldm_message.specs.Heads.{answer_head}
-use Rattle.pldm_message.specs.Pdrs.{part_bytes}
-use Rattle.pldm_message.specs.PdrValues.{part}
-use Rattle.pldm_message.proofs.Writing.{written_behind}
 use Rattle.pldm_message.proofs.get_pdr_answer.GetPdrAnswerWire.put.Goals as goal
 
 pub returns-in-Ok-clause-front : goal.returns-in-Ok-clause-front

@@ -1,6 +1,5 @@
 use Rattle.std.proofs.Common.{arith}
-use Rattle.pldm_message.specs.InstanceIdValues.{ids_of}
-use Rattle.pldm_message.proofs.Turns.{all_out, next_after}
+use Rattle.pldm_message.{specs.InstanceIdValues.{ids_of}, proofs.Turns.{all_out, next_after}}
 use Rattle.pldm_message.proofs.instance_ids.InstanceIds.next_free.Goals as goal
 
 pub returns-then-not-self-from : goal.returns-then-not-self-from

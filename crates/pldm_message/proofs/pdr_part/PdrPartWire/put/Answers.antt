@@ -1,8 +1,5 @@
-use Rattle.std.proofs.Common.{◌++◌, refl, sym, arith}
-use Rattle.std.specs.Option.{option_to_list}
-use Rattle.pldm_message.specs.Pdrs.{part_numbers}
-use Rattle.pldm_message.specs.PdrValues.{part}
-use Rattle.pldm_message.proofs.Writing.{written_behind}
+use Rattle.std.{proofs.Common.{◌++◌, refl, sym, arith}, specs.Option.{option_to_list}}
+use Rattle.pldm_message.{specs.Pdrs.{part_numbers}, specs.PdrValues.{part}, proofs.Writing.{written_behind}}
 use Rattle.pldm_message.proofs.pdr_part.PdrPartWire.put.Goals as goal
 
 pub returns-clause-front : goal.returns-clause-front

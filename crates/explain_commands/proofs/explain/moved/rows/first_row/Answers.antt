@@ -1,5 +1,4 @@
-use Rattle.std.proofs.Common.{string_bytes, subst}
-use Rattle.std.proofs.lemmas.Result.{IfOk-weaker}
+use Rattle.std.{proofs.Common.{string_bytes, subst}, proofs.lemmas.Result.{IfOk-weaker}}
 use Rattle.explain_commands.specs.MoveRows.{IsRowTold, file_of}
 use Rattle.explain_commands.proofs.explain.moved.rows.first_row.Goals as goal
 

@@ -1,9 +1,6 @@
-use Rattle.std.proofs.Common.{List, ℕ, string_bytes, get_or, subst, sym, arith}
-use Rattle.std.proofs.lemmas.Option.{slice_get-get_or}
-use Rattle.net_rules.specs.declared.mixed_loop.Side.{Side}
-use Rattle.net_rules.specs.declared.mixed_loop.Side.TheVariants.{Old}
-use Rattle.explain_commands.specs.MoveRows.{AreHopsTold, IsHopTold, file_of}
-use Rattle.explain_commands.proofs.Hops.{one_more, all_hops}
+use Rattle.std.{proofs.Common.{List, ℕ, string_bytes, get_or, subst, sym, arith}, proofs.lemmas.Option.{slice_get-get_or}}
+use Rattle.net_rules.{specs.declared.mixed_loop.Side.{Side}, specs.declared.mixed_loop.Side.TheVariants.{Old}}
+use Rattle.explain_commands.{specs.MoveRows.{AreHopsTold, IsHopTold, file_of}, proofs.Hops.{one_more, all_hops}}
 use Rattle.explain_commands.proofs.explain.moved.rows.hops_text.Goals as goal
 
 pub loop-hop-init : goal.loop-hop-init

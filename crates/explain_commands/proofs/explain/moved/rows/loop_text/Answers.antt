@@ -1,7 +1,6 @@
 use Rattle.std.proofs.Common.{List, ℕ, length, string_bytes, subst}
 use Rattle.net_rules.specs.declared.mixed_loop.Side.{Side}
-use Rattle.explain_commands.specs.MoveRows.{AreHopsTold, file_of}
-use Rattle.explain_commands.proofs.MovedTexts.{loop_told}
+use Rattle.explain_commands.{specs.MoveRows.{AreHopsTold, file_of}, proofs.MovedTexts.{loop_told}}
 use Rattle.explain_commands.proofs.explain.moved.rows.loop_text.Goals as goal
 
 pub returns : goal.returns

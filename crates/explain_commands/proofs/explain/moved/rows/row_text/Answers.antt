@@ -1,9 +1,7 @@
-use Rattle.std.proofs.Common.{◌∙◌, List, string_bytes, ap, subst}
-use Rattle.std.specs.Prelude.{map}
+use Rattle.std.{proofs.Common.{◌∙◌, List, string_bytes, ap, subst}, specs.Prelude.{map}}
 use Rattle.net_plan.specs.Finding.{Step, step_value}
 use Rattle.fault_texts.specs.Places.{IsPlaceTold}
-use Rattle.explain_commands.specs.MoveRows.{file_of}
-use Rattle.explain_commands.proofs.MovedTexts.{row_told}
+use Rattle.explain_commands.{specs.MoveRows.{file_of}, proofs.MovedTexts.{row_told}}
 use Rattle.explain_commands.proofs.explain.moved.rows.row_text.Goals as goal
 
 pub returns : goal.returns

@@ -1,6 +1,5 @@
 use Rattle.std.proofs.Common.{string_bytes}
-use Rattle.explain_commands.specs.MoveRows.{file_of, side_file}
-use Rattle.explain_commands.proofs.MovedTexts.{row_then}
+use Rattle.explain_commands.{specs.MoveRows.{file_of, side_file}, proofs.MovedTexts.{row_then}}
 use Rattle.explain_commands.proofs.explain.moved.rows.way_on_text.Goals as goal
 
 pub returns : goal.returns

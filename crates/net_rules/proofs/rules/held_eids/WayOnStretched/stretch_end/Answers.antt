@@ -1,10 +1,7 @@
-use Rattle.std.proofs.Common.{ℕ, subst, arith}
+use Rattle.std.{proofs.Common.{ℕ, subst, arith}, proofs.lemmas.Grind.{common_steps}}
 use Rattle.plan_values.specs.declared.plan.Plan.{Plan}
 use Rattle.net_tables.specs.Routing.{Holds}
-use Rattle.net_rules.specs.Stretches.{IsStretch}
-use Rattle.std.proofs.lemmas.Grind.{common_steps}
-use Rattle.net_rules.specs.PlanTables.{plans_value}
-use Rattle.net_rules.proofs.RowsInForce.{led_alike, led_along_rows}
+use Rattle.net_rules.{specs.Stretches.{IsStretch}, specs.PlanTables.{plans_value}, proofs.RowsInForce.{led_alike, led_along_rows}}
 use Rattle.net_rules.proofs.rules.held_eids.WayOnStretched.stretch_end.Goals as goal
 
 pub returns-then-is_routing_bridge : goal.returns-then-is_routing_bridge

@@ -1,10 +1,7 @@
-use Rattle.std.proofs.Common.{ℕ, subst, arith}
-use Rattle.std.proofs.lemmas.Grind.{common_steps}
+use Rattle.std.{proofs.Common.{ℕ, subst, arith}, proofs.lemmas.Grind.{common_steps}}
 use Rattle.plan_values.specs.declared.plan.Plan.{Plan}
 use Rattle.net_tables.specs.Routing.{Holds}
-use Rattle.net_rules.specs.PlanTables.{plans_value}
-use Rattle.net_rules.specs.Stretches.{IsStretch}
-use Rattle.net_rules.proofs.RowsInForce.{need_alike}
+use Rattle.net_rules.{specs.PlanTables.{plans_value}, specs.Stretches.{IsStretch}, proofs.RowsInForce.{need_alike}}
 use Rattle.net_rules.proofs.rules.superfluous.GivenRanksStretched.stretch_end.Goals as goal
 
 pub returns : goal.returns

@@ -1,11 +1,8 @@
-use Rattle.std.proofs.Common.{◌≡◌, ◌↔◌, ℕ, sym, ◌∙◌, ap, subst}
-use Rattle.std.proofs.lemmas.Option.{same_Some}
+use Rattle.std.{proofs.Common.{◌≡◌, ◌↔◌, ℕ, sym, ◌∙◌, ap, subst}, proofs.lemmas.Option.{same_Some}}
 use Rattle.mctp_transport.specs.PacketValues.{KeyValue}
 use Rattle.plan_values.specs.declared.plan.Plan.{Plan}
 use Rattle.net_tables.specs.Routing.{Holds}
-use Rattle.net_runs.specs.States.{NetworkState}
-use Rattle.net_runs.specs.ExactMessages.{IsSettled}
-use Rattle.net_runs.specs.Walkers.{asking_key}
+use Rattle.net_runs.{specs.States.{NetworkState}, specs.ExactMessages.{IsSettled}, specs.Walkers.{asking_key}}
 use Rattle.net_sim.specs.NetworkWalkers.{walker_value}
 use Rattle.net_sim.proofs.network.playing.asking.are_settled.Goals as goal
 

@@ -1,7 +1,6 @@
 use Rattle.std.proofs.Common.{List, ℕ, refl, ap, subst}
 use Rattle.mctp_transport.specs.Packets.{key_value}
-use Rattle.net_sim.specs.Effects.{effect_value}
-use Rattle.net_sim.specs.NetworkWalkers.{walker_value, HasTakenMessage}
+use Rattle.net_sim.{specs.Effects.{effect_value}, specs.NetworkWalkers.{walker_value, HasTakenMessage}}
 use Rattle.net_sim.proofs.network.playing.handing.hand.Goals as goal
 
 pub returns : goal.returns

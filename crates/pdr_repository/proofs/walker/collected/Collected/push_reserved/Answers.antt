@@ -1,7 +1,5 @@
-use Rattle.std.proofs.Common.{◌∙◌, ap, ◌<◌, vec_len, vec_capacity, arith}
-use Rattle.std.specs.Result.{is_ok}
-use Rattle.pdr_repository.specs.Records.{handle_in}
-use Rattle.pdr_repository.proofs.Collected.{inserted, still_ascending, still_members}
+use Rattle.std.{proofs.Common.{◌∙◌, ap, ◌<◌, vec_len, vec_capacity, arith}, specs.Result.{is_ok}}
+use Rattle.pdr_repository.{specs.Records.{handle_in}, proofs.Collected.{inserted, still_ascending, still_members}}
 use Rattle.pdr_repository.proofs.walker.collected.Collected.push_reserved.Goals as goal
 
 pub invariant_of-self-clause-ascending : goal.invariant_of-self-clause-ascending
