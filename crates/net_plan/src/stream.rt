@@ -1,5 +1,5 @@
 //! Where the bytes of a text come from, and where they go.
-ghost use Rattle.std.{specs.Prelude.{◌≡◌, ◌≢◌, ◌+◌, ◌<◌, ◌≤◌, length, take, drop, IfOk, IfErr, OnOk, OnErr, vec_len, vec_capacity}, specs.Io.{ReadsAtMost, WritesAtMost}, specs.Io.KnownBytes.{Keeps, ReadConsumes, WriteAppends, Consumes, Appends, IsAtEnd}};
+ghost use Rattle.std.{specs.Prelude.{◌≡◌, ◌≢◌, ◌<◌, ◌≤◌, length, IfOk, IfErr, OnOk, OnErr}, specs.Io.{ReadsAtMost, WritesAtMost}, specs.Io.KnownBytes.{ReadConsumes, WriteAppends, Consumes, Appends, IsAtEnd}};
 ghost use Rattle.net_plan.{specs.Stream.{Account, HasRoom, HasFailed, failure_count, TakesMoreThan, AppendsBeginning}, specs.Taken.{TakesAtMost}, specs.TextFaults.{device_count}};
 
 use std::alloc::{AllocError, Global};
@@ -140,72 +140,21 @@ pub fn read_within<S: Source>(
     ensures counts { HasFailed (S.account source.old) (S.account source.new) (device_count result) }
 {
     let mut text = Vec::new(alloc);
-    let mut filled = 0;
+    let mut piece = [0; PIECE];
     'pieces: loop {
-        make_room(&mut text, filled, limit)?;
-        let count = pull_into(source, &mut text, filled)?;
+        let count = source.pull(&mut piece)?;
         if count == 0 {
-            text.truncate(filled);
             return Ok(text);
         }
-        filled += count;
-        if limit < filled {
+        if limit - text.len() < count {
             return Err(TextFault::TooLong);
         }
+        text.extend_from_slice(&piece[..count])?;
     }
 }
 
-/// By how much a text grows at least. It doubles until it grows by `MOST_ROOM`, since what it grows by is filled first.
-const LEAST_ROOM: usize = 4096;
-
-/// By how much a text grows at most.
-const MOST_ROOM: usize = 65_536;
-
-/// Makes a text longer than what is filled of it, by zeros, but no longer than a byte over the limit, by which it is
-/// known to be too long.
-fn make_room(text: &mut Vec<u8>, filled: usize, limit: usize) -> Result<(), AllocError>
-    requires front { filled ≤ vec_len text.old }
-    requires within { filled ≤ limit }
-    ensures room { OnOk result (filled < vec_len text.new) }
-    ensures front { OnOk result (take filled text.new.items ≡ take filled text.old.items) }
-    ensures full { OnErr result (vec_capacity text.old ≤ limit) }
-{
-    let len = text.as_slice().len();
-    if filled < len {
-        return Ok(());
-    }
-    let more = filled.clamp(LEAST_ROOM, MOST_ROOM);
-    let most = (limit - filled).saturating_add(1);
-    text.resize(len + more.min(most), 0)
-}
-
-/// One pull, into a text's own memory from an index on. `pull_at` says of a slice what this says of the text.
-fn pull_into<S: Source>(source: &mut S, text: &mut Vec<u8>, at: usize) -> Result<usize, Failed>
-    requires failures { HasRoom (S.account source.old) }
-    requires room { at < vec_len text.old }
-    ensures front { take at text.new.items ≡ take at text.old.items }
-    ensures fits { IfOk result (λ count. at + count ≤ vec_len text.new) }
-    ensures bytes { IfOk result (λ count. Consumes (S.account source.old).bytes (S.account source.new).bytes (take count (drop at text.new.items))) }
-    ensures end { IfOk result (λ count. count ≡ 0 → IsAtEnd (S.account source.new).bytes) }
-    ensures stands { OnErr result (Keeps (S.account source.old).bytes (S.account source.new).bytes) }
-    ensures counts { HasFailed (S.account source.old) (S.account source.new) (failure_count result) }
-{
-    pull_at(source, text.as_mut_slice(), at)
-}
-
-/// One pull, into some bytes from an index on.
-fn pull_at<S: Source>(source: &mut S, text: &mut [u8], at: usize) -> Result<usize, Failed>
-    requires failures { HasRoom (S.account source.old) }
-    requires room { at < length text.old }
-    ensures front { take at text.new ≡ take at text.old }
-    ensures fits { IfOk result (λ count. at + count ≤ length text.new) }
-    ensures bytes { IfOk result (λ count. Consumes (S.account source.old).bytes (S.account source.new).bytes (take count (drop at text.new))) }
-    ensures end { IfOk result (λ count. count ≡ 0 → IsAtEnd (S.account source.new).bytes) }
-    ensures stands { OnErr result (Keeps (S.account source.old).bytes (S.account source.new).bytes) }
-    ensures counts { HasFailed (S.account source.old) (S.account source.new) (failure_count result) }
-{
-    source.pull(&mut text[at..])
-}
+/// How many bytes a pull may give at most.
+const PIECE: usize = 8192;
 
 /// Gives all bytes to a sink. No write is tried again once it has failed; the sink has then taken a beginning of the
 /// bytes.
