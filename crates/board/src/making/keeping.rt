@@ -22,12 +22,12 @@ pub struct Keeping<'k> {
 }
 
 impl<'k> Keeping<'k> {
-    /// What is given, what stays of an earlier plan, and what is chosen for the rest. Where there is no room for that,
-    /// the numbers of an owner's nodes give way, the later ones first.
+    /// What is given, what stays of an earlier plan, and what is chosen for the rest. Where an owner has no room for
+    /// that, the numbers of its nodes give way, and then those of all nodes below it.
     pub fn kept_of(&self, old: &Plan) -> Result<Vec<Known>, NoPlan> {
         let all = wishes_of(self.alloc, self.board, old)?;
         let mut wishes = Vec::from_slice(self.alloc, &all)?;
-        for _ in 0..self.board.nodes.len() {
+        for _ in 0..self.board.nodes.len().saturating_mul(2) {
             match self.kept_with(&wishes) {
                 Ok(known) => return self.kept_in_turn(&all, wishes, known),
                 Err(why) => {
@@ -214,7 +214,8 @@ fn count_of(wish: Known) -> usize {
     usize::from(wish.eid.is_some()) + usize::from(wish.pool.is_some())
 }
 
-/// Drops the wishes of the nodes of the owner who has no room, and tells whether there were any.
+/// Drops the wishes of the nodes of the owner who has no room, or, where these have none, of all nodes below it. Tells
+/// whether there were any.
 fn give_way(board: &Board, wishes: &mut Vec<Known>, why: NoPlan) -> bool {
     let (NoPlan::NoEid { owner, .. } | NoPlan::NoRun { owner, .. }) = why else {
         return false;
@@ -222,12 +223,37 @@ fn give_way(board: &Board, wishes: &mut Vec<Known>, why: NoPlan) -> bool {
     let mut were_some = false;
     for index in 0..wishes.len() {
         if owner_of(board, index) == owner {
-            were_some = were_some || count_of(wishes[index]) > 0;
-            wishes[index].eid = None;
-            wishes[index].pool = None;
+            were_some = drop_wish(wishes, index) || were_some;
+        }
+    }
+    if were_some {
+        return true;
+    }
+    for index in 0..wishes.len() {
+        if stands_below(board, index, owner) {
+            were_some = drop_wish(wishes, index) || were_some;
         }
     }
     were_some
+}
+
+/// Drops the wishes of a node, and tells whether there were any.
+fn drop_wish(wishes: &mut Vec<Known>, index: usize) -> bool {
+    let Some(wish) = wishes.get_mut(index) else {
+        return false;
+    };
+    let are_some = count_of(*wish) > 0;
+    wish.eid = None;
+    wish.pool = None;
+    are_some
+}
+
+/// Whether a node stands below an owner; each does where there is none.
+fn stands_below(board: &Board, node: usize, owner: Option<usize>) -> bool {
+    match owner {
+        Some(owner) => is_below(board, node, owner),
+        None => true,
+    }
 }
 
 fn can_be_eid(board: &Board, known: &[Known], index: usize, eid: u8) -> bool {
