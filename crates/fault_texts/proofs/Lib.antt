@@ -1,2 +1,3 @@
 mod RunLines
 pub mod RuledOutMoves
+mod AtTold

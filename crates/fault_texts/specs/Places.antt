@@ -3,7 +3,7 @@ use Rattle.std.{specs.Prelude.{◌≡◌, ℕ, ◌+◌, List, [], ◌∷◌, ◌
 use Rattle.json.specs.Json.{Json}
 use Rattle.net_plan.{specs.Finding.{Step, key, index}, specs.Texts.{IsTree}, specs.Trees.{data_of}}
 use Rattle.plan_values.specs.declared.plan.Plan.{Plan}
-use Rattle.net_pointers.specs.Positions.{is_line_feed, begins_character, last_line}
+use Rattle.net_pointers.{specs.Positions.{is_line_feed, begins_character, last_line}, specs.declared.position.Position.{Position}, specs.declared.spots.Spot.{Spot}}
 use Rattle.net_rules.{specs.declared.certify_error.CertifyError.{CertifyError}, specs.declared.rule.Rule.{Rule}, specs.declared.rule.Rule.TheVariants.{C01, C02, C03, C04, C05, C06, C07, C08, C09, C10, C11, C12, C13, C14, C15, C16}}
 use Rattle.explanation_texts.specs.Explanations.{row_for}
 use Rattle.reading_texts.{specs.ReadingLines.{pointer_text}, specs.TroubleLines.{IsOffsetOf}}
@@ -94,9 +94,20 @@ abbrev pub IsPlaceIn : List ℕ → List Step → Option ℕ → Type 0
 IsPlaceIn text pointer o = (j : Json) × IsTree text j × IsOffsetOf text (data_of j) pointer o
 
 -- the file, the line and the column, as editors take them
+abbrev pub position_text : List ℕ → Position → List ℕ
+position_text name position = name ++ (codes ":" ++ (decimal position.line ++ (codes ":" ++ decimal position.column)))
+
+-- that of an offset
 abbrev pub place_text : List ℕ → List ℕ → ℕ → List ℕ
-place_text name text offset = name ++ (codes ":" ++ (decimal (count_by is_line_feed (take offset text) + 1)
-    ++ (codes ":" ++ decimal (count_by begins_character (last_line (take offset text)) + 1))))
+place_text name text offset = position_text name (record {
+  line = count_by is_line_feed (take offset text) + 1;
+  column = count_by begins_character (last_line (take offset text)) + 1;
+})
+
+-- that of a spot behind a line, where it is known
+abbrev pub spot_words : List ℕ → Option Spot → List ℕ
+spot_words name (Some spot) = codes " at " ++ position_text name spot.position
+spot_words name None = []
 
 -- the same behind a line
 abbrev pub at_text : List ℕ → List ℕ → Option ℕ → List ℕ

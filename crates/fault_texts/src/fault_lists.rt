@@ -7,6 +7,7 @@ ghost use Rattle.fault_texts.specs.FaultListLines.{AreRunLines, IsFaultsText, Is
 use crate::places::{at_in, obstacle_pointer, pointer_at, site_pointer};
 use json::{Scratch, Value};
 use net_plan::json_of;
+use net_pointers::TextIndex;
 use net_rules::{CertifyError, EidSpan, FaultRun};
 use net_tables::lookup::node_name;
 use plan_texts::{number_text, obstacle_words};
@@ -68,13 +69,14 @@ fn listed_lines(
 {
     let mut scratch = Scratch::new(alloc);
     match json_of(alloc, text, &mut scratch) {
-        Ok(tree) => run_lines(alloc, name, text, &tree, plan, runs),
+        Ok(tree) => indexed_lines(alloc, name, text, &tree, plan, runs),
         // no memory: the text was read before, so `json_of` has no other error.
         Err(_) => Err(AllocError),
     }
 }
 
-fn run_lines(
+/// The same over an index, so that no place is looked for from the beginning of the text.
+fn indexed_lines(
     alloc: Global,
     name: &str,
     text: &[u8],
@@ -85,9 +87,25 @@ fn run_lines(
     requires { IsTextOf text.now (value_view tree.now) }
     ensures { IfOk result (λ lines. AreRunLines plan.now name.now text.now runs.now (string_bytes lines)) }
 {
+    let mut scratch = Scratch::new(alloc);
+    let index = TextIndex::of(alloc, text, &mut scratch)?;
+    run_lines(alloc, name, &index, tree, plan, runs)
+}
+
+fn run_lines(
+    alloc: Global,
+    name: &str,
+    index: &TextIndex<'_>,
+    tree: &Value<'_>,
+    plan: &Plan,
+    runs: &[FaultRun],
+) -> Result<String, AllocError>
+    requires { IsTextOf index.now (value_view tree.now) }
+    ensures { IfOk result (λ lines. AreRunLines plan.now name.now index.now runs.now (string_bytes lines)) }
+{
     let mut lines = String::new(alloc);
     for run in runs {
-        let line = placed_line(alloc, name, text, tree, plan, run)?;
+        let line = placed_line(alloc, name, index, tree, plan, run)?;
         lines.push_str(&line)?;
     }
     Ok(lines)
@@ -97,16 +115,16 @@ fn run_lines(
 fn placed_line(
     alloc: Global,
     name: &str,
-    text: &[u8],
+    index: &TextIndex<'_>,
     tree: &Value<'_>,
     plan: &Plan,
     run: &FaultRun,
 ) -> Result<String, AllocError>
-    requires { IsTextOf text.now (value_view tree.now) }
-    ensures { IfOk result (λ line. IsRunLine plan.now name.now text.now run.now (string_bytes line)) }
+    requires { IsTextOf index.now (value_view tree.now) }
+    ensures { IfOk result (λ line. IsRunLine plan.now name.now index.now run.now (string_bytes line)) }
 {
     let pointer = site_pointer(alloc, run.rule, run.node, run.entry)?;
-    let at = at_in(alloc, name, text, tree, &pointer)?;
+    let at = at_in(alloc, name, index, tree, &pointer)?;
     run_line(alloc, plan, run, &at)
 }
 

@@ -3,13 +3,13 @@ ghost use Rattle.std.specs.Prelude.{◌≡◌, ◌≤◌, IfOk, IfSome, length, 
 ghost use Rattle.json.specs.Value.{value_view};
 ghost use Rattle.net_plan.{specs.Finding.{step_value}, specs.Trees.{view}};
 ghost use Rattle.net_pointers.specs.Offsets.{IsTextOf};
-ghost use Rattle.fault_texts.specs.Places.{IsAtTold, IsPlaceTold, at_text, entry_pointer, first_of, node_pointer, obstacle_pointer, own_pointer, part_pointer, place_line, place_text, record_pointer, row_pointer, site_pointer, way_pointer};
+ghost use Rattle.fault_texts.specs.Places.{IsAtTold, IsPlaceTold, entry_pointer, first_of, node_pointer, obstacle_pointer, own_pointer, part_pointer, place_line, place_text, position_text, record_pointer, row_pointer, site_pointer, spot_words, way_pointer};
 ghost use Rattle.reading_texts.specs.TroubleLines.{IsOffsetOf};
 
 use explanation_texts::index_for;
 use json::{Scratch, Value};
 use net_plan::{PointerStep, json_of};
-use net_pointers::{offset_of_pointer, position_of};
+use net_pointers::{Position, Spot, TextIndex, offset_of_pointer, position_of};
 use net_rules::{CertifyError, Rule};
 use plan_values::Plan;
 use reading_texts::pointer_text;
@@ -72,14 +72,13 @@ pub fn pointer_at(
 {
     let mut scratch = Scratch::new(alloc);
     match json_of(alloc, text, &mut scratch) {
-        Ok(tree) => at_in(alloc, name, text, &tree, pointer),
+        Ok(tree) => at_from_start(alloc, name, text, &tree, pointer),
         // no memory: the text was read before, so `json_of` has no other error.
         Err(_) => Err(AllocError),
     }
 }
 
-/// The same, where the text is read.
-pub fn at_in(
+fn at_from_start(
     alloc: Global,
     name: &str,
     text: &[u8],
@@ -89,8 +88,24 @@ pub fn at_in(
     requires { IsTextOf text.now (value_view tree.now) }
     ensures { IfOk result (λ words. IsAtTold name.now text.now (map step_value pointer.now) (string_bytes words)) }
 {
-    let offset = offset_in(alloc, text, tree, pointer)?;
-    at_text(alloc, name, text, offset)
+    let mut scratch = Scratch::new(alloc);
+    let index = TextIndex::of(alloc, text, &mut scratch)?;
+    at_in(alloc, name, &index, tree, pointer)
+}
+
+/// The same over the index of a text.
+pub fn at_in(
+    alloc: Global,
+    name: &str,
+    index: &TextIndex<'_>,
+    tree: &Value<'_>,
+    pointer: &[PointerStep],
+) -> Result<String, AllocError>
+    requires { IsTextOf index.now (value_view tree.now) }
+    ensures { IfOk result (λ words. IsAtTold name.now index.now (map step_value pointer.now) (string_bytes words)) }
+{
+    let spot = index.spot_of_pointer(alloc, tree, pointer)?;
+    spot_words(alloc, name, spot)
 }
 
 /// The offset to which a pointer leads in a text, where it leads to a value.
@@ -130,18 +145,12 @@ fn place_line(
 }
 
 /// The file, the line and the column behind a line, where they are known.
-fn at_text(
-    alloc: Global,
-    name: &str,
-    text: &[u8],
-    offset: Option<usize>,
-) -> Result<String, AllocError>
-    requires { IfSome offset (λ at. at ≤ length text.now) }
-    ensures { IfOk result (λ words. string_bytes words ≡ at_text name.now text.now offset) }
+fn spot_words(alloc: Global, name: &str, spot: Option<Spot>) -> Result<String, AllocError>
+    ensures { IfOk result (λ words. string_bytes words ≡ spot_words name.now spot) }
 {
-    match offset {
-        Some(offset) => {
-            let place = place_text(alloc, name, text, offset)?;
+    match spot {
+        Some(spot) => {
+            let place = position_text(alloc, name, spot.position)?;
             format!(in alloc; " at {place}")
         }
         None => Ok(String::new(alloc)),
@@ -153,7 +162,12 @@ fn place_text(alloc: Global, name: &str, text: &[u8], offset: usize) -> Result<S
     requires { offset ≤ length text.now }
     ensures { IfOk result (λ words. string_bytes words ≡ place_text name.now text.now offset) }
 {
-    let position = position_of(text, offset);
+    position_text(alloc, name, position_of(text, offset))
+}
+
+fn position_text(alloc: Global, name: &str, position: Position) -> Result<String, AllocError>
+    ensures { IfOk result (λ words. string_bytes words ≡ position_text name.now position) }
+{
     let (line, column) = (position.line, position.column);
     format!(in alloc; "{name}:{line}:{column}")
 }

@@ -9,5 +9,6 @@ pub mod PartTokens
 pub mod Paths
 pub mod Offsets
 pub mod Scans
+pub mod Spots
 pub mod TextTroubles
 pub mod Nearest

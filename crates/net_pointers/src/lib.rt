@@ -2,6 +2,7 @@
 #![tactic(auto)]
 
 mod doubled;
+mod index;
 mod known;
 mod nearest;
 mod offset;
@@ -10,16 +11,20 @@ mod path;
 mod position;
 mod ranges;
 mod scan;
+mod spots;
 mod syntax;
+mod tape;
 mod texts;
 mod tokens;
 
 pub use doubled::{DoubledKey, TwoIndices, doubled_key, first_doubled};
+pub use index::TextIndex;
 pub use nearest::nearest_name;
 pub use offset::{offset_of_key, offset_of_pointer};
 pub use order::{Asked, NameList, TextSort, Trouble, asked_of, list_key, name_key, trouble_of};
 pub use path::part_after;
 pub use position::{Position, position_of};
 pub use ranges::{Overlap, end_of_range, first_in_range, first_overlap};
+pub use spots::Spot;
 pub use syntax::{JsonFault, Wanted, closing_quote, is_blank, json_fault};
 pub use texts::{TextTrouble, no_value};

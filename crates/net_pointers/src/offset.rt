@@ -50,7 +50,11 @@ pub fn offset_of_key(
 }
 
 /// Where the part begins to which a path of indices leads.
-fn offset_of_part(alloc: Global, text: &[u8], path: &[usize]) -> Result<Option<usize>, AllocError>
+pub fn offset_of_part(
+    alloc: Global,
+    text: &[u8],
+    path: &[usize],
+) -> Result<Option<usize>, AllocError>
     requires { IsUtf8 text.now }
     ensures stands { IfOk result (λ found. IfSome found (PartStandsAt text.now path.now)) }
     ensures found { IfOk result (λ found. (tree part : Json) → IsTree text.now tree → part_at path.now tree ≡ Some part → IsSome found) }

@@ -5,7 +5,7 @@ ghost use Rattle.net_pointers.{specs.Offsets.{is_mark, AreTokensFrom}, specs.Sca
 
 /// Within what a byte of a JSON text stands.
 #[derive(Clone, Copy)]
-enum Mode {
+pub enum Mode {
     Between,
     InWord,
     InString,
@@ -32,7 +32,7 @@ pub fn token_offset(text: &[u8], count: usize) -> Option<usize>
 }
 
 /// Whether a token begins with the byte.
-fn begins_token(mode: Mode, byte: u8) -> bool
+pub fn begins_token(mode: Mode, byte: u8) -> bool
     ensures { result ≡ begins_token (lexed mode) byte }
 {
     match mode {
@@ -43,7 +43,7 @@ fn begins_token(mode: Mode, byte: u8) -> bool
 }
 
 /// Within what the byte after this one stands.
-fn mode_after(mode: Mode, byte: u8) -> Mode
+pub fn mode_after(mode: Mode, byte: u8) -> Mode
     ensures { lexed result ≡ mode_after (lexed mode) byte }
 {
     match mode {

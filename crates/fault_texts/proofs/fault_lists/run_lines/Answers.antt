@@ -4,13 +4,13 @@ use Rattle.fault_texts.proofs.fault_lists.run_lines.Goals as goal
 
 pub loop-run-init : goal.loop-run-init
 loop-run-init c =
-    subst (λ (l : List ℕ). AreRunLines c.args.plan.now c.args.name.now c.args.text.now [] l) (sym c.new-lines.ensures.bytes) AreRunLines.none
+    subst (λ (l : List ℕ). AreRunLines c.args.plan.now c.args.name.now c.args.index.now [] l) (sym c.new-lines.ensures.bytes) AreRunLines.none
 
 pub loop-run-preserved : goal.loop-run-preserved
 loop-run-preserved c =
     let plan = c.args.plan.now in
     let name = c.args.name.now in
-    let text = c.args.text.now in
+    let text = c.args.index.now in
     let runs = c.args.runs.now in
     let i = c.loop-run.run-index in
     let run = c.run-item.result in

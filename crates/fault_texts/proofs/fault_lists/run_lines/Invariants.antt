@@ -3,4 +3,4 @@ use Rattle.fault_texts.specs.FaultListLines.{AreRunLines}
 use Rattle.fault_texts.proofs.fault_lists.run_lines.Given as goal
 
 abbrev pub invariant-loop-run : goal.invariant-loop-run
-invariant-loop-run l = AreRunLines l.plan l.name l.text (take l.run-index l.runs) (string_bytes l.lines)
+invariant-loop-run l = AreRunLines l.plan l.name l.index (take l.run-index l.runs) (string_bytes l.lines)
