@@ -235,6 +235,41 @@ def records_of_one_handle(size):
     return {"old.json": plan_of_records(old), "new.json": plan_of_records(new)}, ["diff", "old.json", "new.json"]
 
 
+def broken_rows(size):
+    """The words that list the faults of bridges on one bus, none of whose rows leads anywhere."""
+    buses, nodes = plans.bus(size)
+    for node in nodes:
+        node["rows"] = [{**row, "port": 9} for row in node["rows"]]
+    return {"plan.json": plan_of(buses, nodes)}, ["faults", "plan.json"]
+
+
+def rows_without_ranks(size):
+    """Those of bridges beside a certificate that gives no rank."""
+    buses, nodes = plans.bus(size)
+    return {"plan.json": plan_of(buses, nodes), "certificate.json": certificate_of()}, ["faults", "plan.json", "certificate.json"]
+
+
+def broken_records(size):
+    """Those of records that have another handle in their bytes."""
+    records = [{**sensor_with(it + 1, it), "handle": it} for it in range(1, 1 + size)]
+    return {"plan.json": plan_of_records(records)}, ["faults", "plan.json"]
+
+
+def as_json(made):
+    """The same words with an answer in JSON."""
+
+    def made_so(size):
+        files, words = made(size)
+        return files, [words[0], "--json", *words[1:]]
+
+    return made_so
+
+
+def sensors_of_one_id(size):
+    """Sensors that all have one sensor ID."""
+    return {"plan.json": plan_of_sensors([7] * size)}, ["lint", "plan.json"]
+
+
 ROWS = [
     ("different names in a certificate", different_names, 2_500),
     ("names in order in a certificate", names_in_order, 2_500),
@@ -262,4 +297,10 @@ ROWS = [
     ("sensors of different IDs", sensors, 512),
     ("diff of many records", changed_records, 128),
     ("diff of many records of one handle", records_of_one_handle, 128),
+    ("faults of many rows", broken_rows, 8),
+    ("faults of many rows, in JSON", as_json(broken_rows), 8),
+    ("faults of many rows and a certificate", rows_without_ranks, 8),
+    ("faults of many records", broken_records, 512),
+    ("faults of many records, in JSON", as_json(broken_records), 512),
+    ("lint of many sensors of one ID, in JSON", as_json(sensors_of_one_id), 512),
 ]
