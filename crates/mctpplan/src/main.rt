@@ -30,7 +30,7 @@ use plan_values::Plan;
 use play_commands::{WalkScript, run_expect, run_script, simulate, simulate_move};
 use report_commands::{run_report, run_report_certified};
 use rollout_commands::{run_rollout, run_rollout_written};
-use std::io::IsTerminal;
+use std::io::{BufReader, IsTerminal};
 use std::process::ExitCode;
 use std::{env, fs};
 
@@ -515,12 +515,20 @@ fn emulate<'a>(
     plan: &'a str,
     certificate: &'a str,
 ) -> Status {
+    // Lines are taken a byte at a time, and a buffer gives what has come of the next ones at once.
+    let lines = match BufReader::new(rt.alloc(), rt.stdin()) {
+        Ok(lines) => lines,
+        Err(error) => {
+            let mut errors = Counted::new(rt.stderr());
+            return refuse(rt.alloc(), Refused::from(error), &mut errors);
+        }
+    };
     let status = run_emulate(
         rt.alloc(),
         emulation,
         &mut file(rt, plan),
         &mut file(rt, certificate),
-        &mut Counted::new(rt.stdin()),
+        &mut Counted::new(lines),
         &mut Counted::new(rt.stdout()),
         &mut Counted::new(rt.stderr()),
     );
