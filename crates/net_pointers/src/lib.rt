@@ -10,6 +10,7 @@ mod path;
 mod position;
 mod ranges;
 mod scan;
+mod showing;
 mod syntax;
 mod texts;
 mod tokens;
@@ -21,5 +22,6 @@ pub use order::{Asked, NameList, TextSort, Trouble, asked_of, list_key, name_key
 pub use path::part_after;
 pub use position::{Position, position_of};
 pub use ranges::{Overlap, end_of_range, first_in_range, first_overlap};
+pub use showing::{MOST_SHOWN, first_characters, shown_characters, shown_key};
 pub use syntax::{JsonFault, Wanted, closing_quote, is_blank, json_fault};
 pub use texts::{TextTrouble, no_value};
