@@ -1,4 +1,4 @@
-use Rattle.std.{proofs.Common.{◌≡◌, ℕ, List, string_bytes, subst, sym}, specs.Cow.{cow_str_bytes}}
+use Rattle.std.{proofs.Common.{◌≡◌, ℕ, string_bytes, subst, sym}, specs.Cow.{cow_str_bytes}}
 use Rattle.board_kept.specs.Rowed.{IsWhole}
 use Rattle.board_made.{specs.Reasons.{IsRowsReason}, specs.Rowed.{IsRowsAnswer, IsRowedText, IsText}}
 use Rattle.plan_commands.specs.Making.{IsRowed}
