@@ -52,7 +52,7 @@ IsOfSevenBits board b =
 -- of the byte. A port without an address has none on the wire.
 abbrev pub IsShifted : List ℕ → List ℕ → Type 0
 IsShifted given wire =
-    ((given ≡ []) × (wire ≡ [])) ⊎ ((a : ℕ) × (a < 128) × (given ≡ a ∷ []) × (wire ≡ a + a ∷ []))
+    ((given ≡ []) × (wire ≡ [])) ⊎ ((a : ℕ) × (a < 128) × (given ≡ a ∷ []) × (wire ≡ (a + a) ∷ []))
 
 -- the bytes of an address as the board gives it, and those on the wire of the bus at an index
 abbrev pub IsOnWire : Data → ℕ → List ℕ → List ℕ → Type 0
@@ -60,9 +60,10 @@ IsOnWire board b given wire =
     (IsOfSevenBits board b × IsShifted given wire) ⊎ (¬ IsOfSevenBits board b × (given ≡ wire))
 
 -- a port by its bus and its address, which the plan has as it is on the wire
-abbrev pub IsPortKept : Data → Plan → Port → Data → Type 0
-IsPortKept board plan port d = (given : List ℕ) × IsOnWire board port.bus given port.address.items
-    × SaysText (Some d) (port_text plan port.bus given)
+pub record IsPortKept (board : Data) (plan : Plan) (port : Port) (d : Data) : Type 0 where
+  pub given : List ℕ
+  pub address : IsOnWire board port.bus given port.address.items
+  pub text : SaysText (Some d) (port_text plan port.bus given)
 
 -- one of the rows is what stands there
 abbrev pub IsAmongRows : Plan → List Row → Option Data → Type 0
