@@ -28,7 +28,7 @@ pub enum RowsAnswer {
 pub fn answer_rows(alloc: Global, text: &[u8], before: &Plan) -> Result<RowsAnswer, AllocError>
     requires { IsJsonTextOf IsPlanOf text.now (plan_value before.now) }
     ensures answer { IfOk result (λ answer. IsRowsAnswer before.now answer) }
-    ensures whole { IsWhole before.now → IfOk result (λ answer. IsText text.now answer) }
+    ensures whole { IfOk result (λ answer. IsWhole before.now → IsText text.now answer) }
 {
     if is_whole(alloc, before)? {
         return as_it_stands(alloc, text, before);
