@@ -8,7 +8,9 @@ of them is left; that no way leads from the one node to the other, whichever end
 are given for one that is given; or that a rule is named of a board that gives endpoint IDs, pools or rows. Where packets of
 the plan that was made don't arrive, the pool must have too few endpoint IDs for which no row is given. A plan of every
 fourth board loses most of its rows, and now and then another row is turned: `rows` has to make a plan of it in which each
-node reaches all in as few hops as may be with the rows that are left, or has to have a reason that is true. 10,000 boards
+node reaches all in as few hops as may be with the rows that are left, or has to have a reason that is true. Where no row
+was turned and all reached each other before, it has to make one; with all rows it has to print the plan as it stands. A
+third of the buses write addresses in 7 bits. 10,000 boards
 are tried of the proved program, 200 of another; a word that is a number says how many, and `from N` with which to begin.
 """
 import json
@@ -43,7 +45,7 @@ class Board:
         return self.buses[-1]
 
     def add(self, name, owner, buses):
-        ports = [f"{bus} {len(self.nodes) + 16:02x}" for bus in buses]
+        ports = [address_on(bus, len(self.nodes) + 8) for bus in buses]
         self.nodes.append({"name": name, **({"owner": owner} if owner else {}), "ports": ports})
         return self.nodes[-1]
 
@@ -54,7 +56,7 @@ class Board:
         above = self.random.choice(self.bridges())
         node = self.add(name, above["name"], [self.random.choice(buses_of(above)), self.bus()])
         if self.random.random() < 0.3:
-            node["ports"].append(f"{self.random.choice(self.buses)} 7{len(self.nodes)}")
+            node["ports"].append(address_on(self.random.choice(self.buses), len(self.nodes) + 64))
         node["pool"] = self.random.choice([2, 4, 8])
 
     def add_endpoint(self, name):
@@ -87,7 +89,7 @@ class Board:
     def text(self):
         lines = []
         for name in self.buses:
-            lines += ["[[bus]]", f'name = "{name}"', 'binding = "smbus"', ""]
+            lines += ["[[bus]]", f'name = "{name}"', 'binding = "smbus"', *(['addresses = "7-bit"'] if is_of_seven_bits(name) else []), ""]
         for node in self.nodes:
             lines.append("[[node]]")
             lines += [f"{key} = {json.dumps(value)}" for key, value in node.items() if key != "record"]
@@ -95,6 +97,22 @@ class Board:
                 lines += ["[[node.record]]", *(f"{key} = {json.dumps(value)}" for key, value in record.items())]
             lines.append("")
         return "\n".join(lines)
+
+
+def is_of_seven_bits(bus):
+    """Whether a bus writes addresses in 7 bits: every third does."""
+    return int(bus.removeprefix("bus")) % 3 == 1
+
+
+def address_on(bus, number):
+    """A port by the number of 7 bits that its address has."""
+    return f"{bus} {number if is_of_seven_bits(bus) else 2 * number:02x}"
+
+
+def on_wire(port):
+    """A port with its address as it is on the wire."""
+    bus, address = port.split()
+    return f"{bus} {2 * int(address, 16):02x}" if is_of_seven_bits(bus) else port
 
 
 def buses_of(node):
@@ -162,7 +180,7 @@ def lacks(board, plan):
         return "buses or nodes"
     for given, made in zip(board.nodes, plan["nodes"]):
         ports = [f"{it['bus']} {it['address']}" for it in made["ports"]]
-        if (given["name"], given.get("owner"), given["ports"]) != (made["name"], made["owner"], ports):
+        if (given["name"], given.get("owner"), [*map(on_wire, given["ports"])]) != (made["name"], made["owner"], ports):
             return f"name, owner or ports of {given['name']}"
         if given.get("eid", made["eid"]) != made["eid"] or set(given.get("rows", [])) - {*map(row_text, made["rows"])}:
             return f"endpoint ID or rows of {given['name']}"
@@ -185,7 +203,7 @@ def wrong_of_plan(trial, board, text, certificate):
         asked = [to for to, other in enumerate(nodes) if other["name"] in node.get("reaches", [other["name"]])]
         if wrong := wrong_of_hops(board.nodes, plan, at, asked):
             return wrong
-    return wrong_of_rows(trial, board.random, plan) if board.seed % 4 == 0 else None
+    return wrong_of_rows(trial, board.random, plan, text) if board.seed % 4 == 0 else None
 
 
 def wrong_of_hops(given, plan, at, asked):
@@ -211,21 +229,34 @@ def as_given(plan):
 
 
 def turn_some(random, plan):
-    """Takes most rows away, and turns one now and then to another node on its bus."""
+    """Takes most rows away, turns one now and then to another node on its bus, and tells whether it turned one."""
+    is_turned = False
     for node in plan["nodes"]:
         node["rows"] = [it for it in node["rows"] if random.random() < 0.2]
         for row in node["rows"]:
             bus = node["ports"][row["port"]]["bus"]
             near = [it["name"] for it in plan["nodes"] if it is not node and bus in {own["bus"] for own in it["ports"]}]
             if random.random() < 0.1:
-                row["next"] = random.choice(near)
+                row["next"], is_turned = random.choice(near), True
+    return is_turned
 
 
-def wrong_of_rows(trial, random, plan):
-    turn_some(random, plan)
+def is_whole(plan):
+    """Whether packets come from each node to all."""
+    nodes = plan["nodes"]
+    return all(hops_by_rows(plan, at, it["eid"]) is not None for at in range(len(nodes)) for it in nodes)
+
+
+def wrong_of_rows(trial, random, plan, text):
+    was_whole = is_whole(plan)
+    if was_whole and trial.run(["rows", trial.file("rows.json", text)])[1] != text.encode():
+        return "rows: a plan that needs none is another one"
+    is_turned = turn_some(random, plan)
     given, nodes = as_given(plan), plan["nodes"]
     status, output, error = trial.run(["rows", trial.file("rows.json", json.dumps(plan))])
     reason = output.decode()
+    if status == 1 and was_whole and not is_turned:
+        return f"rows: those that were taken away are right: {reason}"
     if status == 1 and (found := re.match(r'no plan: no way over .* leads from node "(\w+)" to node "(\w+)"', reason)):
         at = {it["name"]: place for place, it in enumerate(nodes)}
         bridges = [it["kind"] == "bridge" for it in nodes]
@@ -296,6 +327,9 @@ def wrong_of_reason(board, reason):
         return None if wanted > size else "there is room"
     if found := re.match(r'no plan: no way over buses, bridges and given rows leads from node "(\w+)" .* to node "(\w+)"', reason):
         return None if is_cut_off(board, found[1], found[2]) else "there is a way"
+    if found := re.match(r"no plan: loop eid (\d+) nodes ([\w ]+)", reason):
+        names, turns = found[2].split(), {it["name"]: given_turn(it, int(found[1])) for it in board.nodes}
+        return None if all(turns[one] == to for one, to in zip(names, names[1:])) else "the loop has rows that the board doesn't give"
     if found := re.match(r'no plan: none was found: no packet of node "(\w+)" .* comes to node "(\w+)"', reason):
         return f"{found[2]} could have another endpoint ID" if has_room(board, found[2]) else None
     return None if gives_some and reason.startswith("no plan: ") else "nothing that the board gives is against a plan"

@@ -12,7 +12,7 @@ tried of the proved program, 40 of another; a word that is a number says how man
 import json
 import random
 
-from boards import Board, buses_of, eids_text, given_turn, hops_over, is_covered, is_made_bridge, lacks
+from boards import Board, address_on, buses_of, eids_text, given_turn, hops_over, is_covered, is_made_bridge, lacks
 from runner import each
 
 COUNT, FEW = 2_000, 40
@@ -115,7 +115,7 @@ class Changing(Board):
         low = self.below(node["name"])
         above = self.random.choice([it for it in self.bridges() if it["name"] not in low])
         node["owner"] = above["name"]
-        node["ports"].append(f"{self.random.choice(buses_of(above))} 6a")
+        node["ports"].append(address_on(self.random.choice(buses_of(above)), 0x35))
 
     def grow(self):
         """A pool grows, and mostly those of its owners too."""
@@ -133,7 +133,7 @@ class Changing(Board):
 
     def turn(self):
         node = self.low()
-        node["ports"][0] = f"{self.random.choice(buses_of(self.named(node['owner'])))} 6b"
+        node["ports"][0] = address_on(self.random.choice(buses_of(self.named(node["owner"]))), 0x36)
 
     def pinned(self, numbers):
         """The text of the board with all these numbers given."""

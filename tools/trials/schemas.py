@@ -45,7 +45,7 @@ EVENTS = {
 }
 BOARD = {
     "unit": 128,
-    "bus": [{"name": "b0", "binding": "smbus", "media": 4}],
+    "bus": [{"name": "b0", "binding": "i2c", "media": 4, "addresses": "7-bit"}],
     "node": [
         {
             "name": "a",
@@ -112,7 +112,8 @@ WRONG = [
     ("events", ["events", 4, "eid"], 7),
     ("events", ["events", 4, "count"], 7),
     ("board", ["unit"], 63),
-    ("board", ["bus", 0, "binding"], "i2c"),
+    ("board", ["bus", 0, "binding"], "spi"),
+    ("board", ["bus", 0, "addresses"], "8-bit"),
     ("board", ["bus", 0, "binding"], TAKEN_OUT),
     ("board", ["node", 0, "eid"], 7),
     ("board", ["node", 0, "pool"], "16 to 31"),

@@ -45,7 +45,7 @@ pub enum BoardPool {
     Size(u8),
 }
 
-/// A port: the index of its bus, and its address in hex.
+/// A port: the index of its bus, and its address on the wire in hex.
 #[derive(Drop)]
 pub struct BoardPort {
     pub bus: usize,

@@ -1,7 +1,7 @@
 //! What the tables of a board give, or why they can't be read.
 use crate::fault::BoardError;
 use crate::places::{Place, position};
-use net_pointers::nearest_name;
+use net_pointers::{nearest_name, shown_key};
 use std::alloc::{AllocError, Global};
 use toml::{Table, Value};
 
@@ -25,11 +25,7 @@ impl<'v> Given<'v> {
 
     /// That what stands at a key, or at an index of the list there, can't be.
     pub fn fault(&self, key: &str, item: Option<usize>, wanted: &str) -> BoardError {
-        match self.reason(key, item, wanted) {
-            Ok(reason) => self.fault_of(key, item, reason),
-            // no memory: the text of the reason could not grow.
-            Err(_) => BoardError::OutOfMemory,
-        }
+        self.fault_told(key, item, self.reason(key, item, wanted))
     }
 
     /// The same where no such name is known, with the nearest of those that are.
@@ -41,7 +37,17 @@ impl<'v> Given<'v> {
         name: &str,
         known: &[&str],
     ) -> BoardError {
-        match self.near_reason(key, item, wanted, name, known) {
+        self.fault_told(key, item, self.near_reason(key, item, wanted, name, known))
+    }
+
+    /// That this is why what stands at a key, or at an index of the list there, can't be.
+    pub fn fault_told(
+        &self,
+        key: &str,
+        item: Option<usize>,
+        reason: Result<String, AllocError>,
+    ) -> BoardError {
+        match reason {
             Ok(reason) => self.fault_of(key, item, reason),
             // no memory: the text of the reason could not grow.
             Err(_) => BoardError::OutOfMemory,
@@ -82,6 +88,7 @@ impl<'v> Given<'v> {
     /// What stands at a key, and what may.
     fn reason(&self, key: &str, item: Option<usize>, wanted: &str) -> Result<String, AllocError> {
         let found = found_text(self.alloc, found_at(self.value(key), item))?;
+        let key = shown_key(self.alloc, key)?;
         format!(in self.alloc; "{found} stands at \"{key}\"; {wanted} may stand there")
     }
 
@@ -196,7 +203,7 @@ fn found_text(alloc: Global, value: Option<&Value>) -> Result<String, AllocError
     let words = match value {
         None => "nothing",
         Some(Value::String(text)) => {
-            let text = text.as_str();
+            let text = shown_key(alloc, text.as_str())?;
             return format!(in alloc; "\"{text}\"");
         }
         Some(Value::Integer(number)) => {

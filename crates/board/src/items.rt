@@ -11,20 +11,26 @@ pub fn index_of(names: &[&str], name: &str) -> Option<usize> {
     None
 }
 
-/// The first of some endpoint IDs, and how many there are: `FIRST-LAST`, or one number.
-pub fn read_eids(text: &str) -> Option<(u8, u8)> {
+/// The first endpoint ID of a pool, and how many it has: `FIRST-LAST`, or one number.
+pub fn read_pool_eids(text: &str) -> Option<(u8, u8)> {
     match text.split_once('-') {
         Some((first, last)) => run_of(decimal(first)?, decimal(last)?),
         None => Some((decimal(text)?, 1)),
     }
 }
 
-/// Endpoint IDs up to a later one, and how many they are.
-fn run_of(first: u8, last: u8) -> Option<(u8, u8)> {
-    let more = last.checked_sub(first)?;
-    if more == 0 {
+/// The same of a row, where one endpoint ID is one number.
+fn read_row_eids(text: &str) -> Option<(u8, u8)> {
+    let (first, size) = read_pool_eids(text)?;
+    if size == 1 && text.contains('-') {
         return None;
     }
+    Some((first, size))
+}
+
+/// Endpoint IDs up to the last, and how many they are.
+fn run_of(first: u8, last: u8) -> Option<(u8, u8)> {
+    let more = last.checked_sub(first)?;
     Some((first, more.checked_add(1)?))
 }
 
@@ -73,7 +79,7 @@ fn is_hex_digit(byte: u8) -> bool {
 pub fn read_row(text: &str, nodes: &[&str]) -> Option<BoardRow> {
     let (eids, rest) = text.split_once(" via ")?;
     let (next, port) = rest.split_once(" port ")?;
-    let (first, size) = read_eids(eids)?;
+    let (first, size) = read_row_eids(eids)?;
     let next = index_of(nodes, next)?;
     let port = usize::from(decimal(port)?);
     if port > 31 {

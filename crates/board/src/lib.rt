@@ -1,6 +1,7 @@
 //! Boards: what an engineer says of a network in TOML, and the plan that is made of it.
 #![tactic(auto)]
 
+mod addresses;
 mod board;
 mod fault;
 mod given;

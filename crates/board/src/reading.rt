@@ -1,9 +1,11 @@
 //! Reading a board from its TOML text.
+use crate::addresses::{AddressForm, PortText, read_form, wire_address};
 use crate::board::{Board, BoardBus, BoardNode, BoardPool, BoardPort, BoardRow};
 use crate::fault::BoardError;
 use crate::given::{Given, nearest_of};
-use crate::items::{index_of, read_eids, read_port, read_row};
+use crate::items::{index_of, read_pool_eids, read_port, read_row};
 use crate::record_words::read_records;
+use net_pointers::shown_key;
 use plan_values::{Kind, is_name};
 use std::alloc::{AllocError, Global};
 use toml::{Table, Value};
@@ -40,6 +42,7 @@ pub fn read_board<'v>(alloc: Global, text: &'v str, table: &'v Table) -> Result<
     let nodes = names_of(&top, "node", node_values)?;
     let names = Names {
         buses: buses.as_slice(),
+        forms: &[],
         nodes: nodes.as_slice(),
     };
     read_parts(&top, unit, bus_values, node_values, names)
@@ -49,19 +52,26 @@ pub fn read_board<'v>(alloc: Global, text: &'v str, table: &'v Table) -> Result<
 fn read_parts(
     top: &Given,
     unit: u16,
-    buses: &[Value],
-    nodes: &[Value],
+    bus_values: &[Value],
+    node_values: &[Value],
     names: Names,
 ) -> Result<Board, BoardError> {
-    let buses = read_buses(top, buses)?;
-    let nodes = read_nodes(top, nodes, names)?;
+    let buses = read_buses(top, bus_values)?;
+    let forms = read_forms(top, bus_values, &buses)?;
+    let known = Names {
+        buses: names.buses,
+        forms: forms.as_slice(),
+        nodes: names.nodes,
+    };
+    let nodes = read_nodes(top, node_values, known)?;
     Ok(Board { unit, buses, nodes })
 }
 
-/// The names of buses and of nodes, in their order.
+/// The names of buses and of nodes, in their order, and how addresses on each bus are written.
 #[derive(Clone, Copy)]
 pub struct Names<'n, 'v> {
     pub buses: &'n [&'v str],
+    pub forms: &'n [AddressForm],
     pub nodes: &'n [&'v str],
 }
 
@@ -129,8 +139,24 @@ fn read_buses<'v>(top: &Given<'v>, values: &'v [Value]) -> Result<Vec<BoardBus>,
     Ok(buses)
 }
 
+/// How the addresses of the ports on each bus are written.
+fn read_forms(
+    top: &Given,
+    values: &[Value],
+    buses: &[BoardBus],
+) -> Result<Vec<AddressForm>, BoardError> {
+    let mut forms = Vec::new(top.alloc);
+    for (index, (value, bus)) in values.iter().zip(buses).enumerate() {
+        forms.push(read_form(&table_at(top, "bus", index, value)?, bus.binding)?)?;
+    }
+    Ok(forms)
+}
+
 fn read_bus(given: &Given) -> Result<BoardBus, BoardError> {
-    given.check_keys(&["name", "binding", "media"], "only name, binding or media")?;
+    given.check_keys(
+        &["name", "binding", "media", "addresses"],
+        "only name, binding, media or addresses",
+    )?;
     let name = read_name(given)?;
     let binding = read_binding(given)?;
     let media = given.byte("media", 0, 255, "a number from 0 to 255")?;
@@ -143,10 +169,10 @@ fn read_bus(given: &Given) -> Result<BoardBus, BoardError> {
 
 /// The number of a binding (DSP0239), or its word.
 fn read_binding(given: &Given) -> Result<u8, BoardError> {
-    let wanted = "smbus, pcie, usb, kcs, serial, i3c or a number from 0 to 255";
+    let wanted = "smbus, i2c, pcie, usb, kcs, serial, i3c or a number from 0 to 255";
     if let Some(Value::String(word)) = given.value("binding") {
         return match word.as_str() {
-            "smbus" => Ok(1),
+            "smbus" | "i2c" => Ok(1),
             "pcie" => Ok(2),
             "usb" => Ok(3),
             "kcs" => Ok(4),
@@ -248,7 +274,7 @@ fn read_pool(given: &Given) -> Result<Option<BoardPool>, BoardError> {
         let size = given.number("pool", 1, 247, wanted)?;
         return Ok(size.map(|size| BoardPool::Size(u8::try_from(size).unwrap_or(1))));
     };
-    match read_eids(text.as_str()) {
+    match read_pool_eids(text.as_str()) {
         Some((first, size)) => Ok(Some(BoardPool::Range { first, size })),
         None => Err(given.fault("pool", None, wanted)),
     }
@@ -284,11 +310,26 @@ fn read_one_port(
 ) -> Result<BoardPort, BoardError> {
     let text = text_in(given, "ports", index, value, A_PORT)?;
     match read_port(text, names.buses) {
-        Some((bus, address)) => Ok(BoardPort {
-            bus,
-            address: address.to_string(given.alloc)?,
-        }),
+        Some((bus, address)) => {
+            let port = PortText {
+                index,
+                text,
+                address,
+            };
+            Ok(BoardPort {
+                bus,
+                address: wire_address(given, port, form_of(names, bus))?,
+            })
+        }
         None => Err(port_fault(given, names, index, text)),
+    }
+}
+
+/// How the addresses of the ports on a bus are written.
+fn form_of(names: Names, bus: usize) -> AddressForm {
+    match names.forms.get(bus) {
+        Some(form) => *form,
+        None => AddressForm::Plain,
     }
 }
 
@@ -305,6 +346,7 @@ fn port_fault(given: &Given, names: Names, index: usize, text: &str) -> BoardErr
 fn near_port(given: &Given, names: Names, bus: &str, address: &str) -> Result<String, AllocError> {
     match nearest_of(given.alloc, bus, names.buses)? {
         Some(near) if near != bus => {
+            let address = shown_key(given.alloc, address)?;
             format!(in given.alloc;
                 "a bus and an address in lower-case hex, as \"{near} {address}\","
             )
@@ -373,6 +415,8 @@ fn near_row(given: &Given, names: Names, text: &str) -> Result<String, AllocErro
     let (node, port) = rest.split_once(" port ").unwrap_or(("", ""));
     match nearest_of(given.alloc, node, names.nodes)? {
         Some(near) if near != node => {
+            let eids = shown_key(given.alloc, eids)?;
+            let port = shown_key(given.alloc, port)?;
             format!(in given.alloc;
                 "endpoint IDs, a node and a port from 0 to 31, as \"{eids} via {near} port {port}\","
             )

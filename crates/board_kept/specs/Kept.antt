@@ -1,17 +1,21 @@
 -- Which plans keep all that a board gives.
-use Rattle.std.specs.Prelude.{◌≡◌, ◌⊎◌, ℕ, ◌+◌, List, codes, length, Option, Some, None, option_map, unwrap_or, slice_get, string_bytes}
+use Rattle.std.specs.Prelude.{◌≡◌, ◌⊎◌, ℕ, ◌+◌, ◌<◌, List, [], ◌∷◌, codes, length, Option, Some, None, option_map, option_and_then, unwrap_or, slice_get, string_bytes}
 use Rattle.hex.specs.Hex.{encode_lower}
 use Rattle.toml.specs.Data.{Data, get}
 use Rattle.board.specs.declared.board.RecordFile.{RecordFile}
 use Rattle.plan_values.{specs.declared.plan.Plan.{Plan}, specs.declared.nodes.Bus.{Bus}, specs.declared.nodes.Kind.{Kind}, specs.declared.nodes.Node.{Node}, specs.declared.nodes.Pool.{Pool}, specs.declared.nodes.Port.{Port}, specs.declared.nodes.Row.{Row}, specs.declared.terminus.PlannedRecord.{PlannedRecord}, specs.declared.terminus.PlannedTerminus.{PlannedTerminus}}
-use Rattle.board_values.{specs.Said.{SaysText, SaysNumber, SaysOr, SaysNoneOr, item_at, IsListAt, HasOnlyKeys, AreItemsKept}, specs.Eids.{eids_text}}
+use Rattle.board_values.{specs.Said.{SaysText, SaysNumber, SaysOr, SaysNoneOr, item_at, IsListAt, HasOnlyKeys, AreItemsKept}, specs.Eids.{SaysRun}}
 use Rattle.board_kept.{specs.Keys.{IsBoardKey, IsBusKey, IsNodeKey, IsHexKey, IsFileKey}, specs.Texts.{binding_word, port_text, row_text}, specs.Fields.{AreFieldsGiven}}
 use Rattle.net_tables.specs.Names.{kind_word, name_of_node}
 
--- the number of a binding, or its word
+-- the number of a binding, or its word; I2C has the number of SMBus
 abbrev pub SaysBinding : Option Data → ℕ → Type 0
-SaysBinding said n =
-    SaysNumber said n ⊎ ((word : List ℕ) × (binding_word n ≡ Some word) × SaysText said word)
+SaysBinding said n = SaysNumber said n ⊎ ((word : List ℕ) × (binding_word n ≡ Some word) × SaysText said word)
+    ⊎ ((n ≡ 1) × SaysText said (codes "i2c"))
+
+-- nothing stands there, or the word for addresses of 7 bits
+abbrev pub IsFormKept : Option Data → Type 0
+IsFormKept said = (said ≡ None) ⊎ SaysText said (codes "7-bit")
 
 -- a bus: a medium that is left out is 0
 pub record IsBusKept (bus : Bus) (d : Data) : Type 0 where
@@ -19,6 +23,7 @@ pub record IsBusKept (bus : Bus) (d : Data) : Type 0 where
   pub name : SaysText (get (codes "name") d) (string_bytes bus.name.text)
   pub binding : SaysBinding (get (codes "binding") d) bus.binding
   pub media : SaysOr 0 (get (codes "media") d) bus.media
+  pub addresses : IsFormKept (get (codes "addresses") d)
 
 -- the kind, if it stands there
 abbrev pub IsKindKept : Kind → Option Data → Type 0
@@ -31,16 +36,34 @@ IsOwnerKept plan owner said = ((said ≡ None) × (owner ≡ None))
 
 -- the endpoint IDs of a pool, or its size
 abbrev pub SaysPool : Pool → Option Data → Type 0
-SaysPool pool said = SaysText said (eids_text pool.first.value pool.size) ⊎ SaysNumber said pool.size
+SaysPool pool said = SaysRun said pool.first.value pool.size ⊎ SaysNumber said pool.size
 
 -- a pool; none where nothing stands there
 abbrev pub IsPoolKept : Option Pool → Option Data → Type 0
 IsPoolKept pool said = ((said ≡ None) × (pool ≡ None))
     ⊎ ((p : Pool) × (pool ≡ Some p) × SaysPool p said)
 
--- a port by its bus and its address
-abbrev pub IsPortKept : Plan → Port → Data → Type 0
-IsPortKept plan port d = SaysText (Some d) (port_text plan port)
+-- the bus at an index writes the addresses of its ports in 7 bits
+abbrev pub IsOfSevenBits : Data → ℕ → Type 0
+IsOfSevenBits board b =
+    SaysText (option_and_then (get (codes "addresses")) (item_at (codes "bus") b board)) (codes "7-bit")
+
+-- The bytes of an address of 7 bits, and those on the wire: twice as much, since the 7 bits stand above the lowest bit
+-- of the byte. A port without an address has none on the wire.
+abbrev pub IsShifted : List ℕ → List ℕ → Type 0
+IsShifted given wire =
+    ((given ≡ []) × (wire ≡ [])) ⊎ ((a : ℕ) × (a < 128) × (given ≡ a ∷ []) × (wire ≡ (a + a) ∷ []))
+
+-- the bytes of an address as the board gives it, and those on the wire of the bus at an index
+abbrev pub IsOnWire : Data → ℕ → List ℕ → List ℕ → Type 0
+IsOnWire board b given wire =
+    (IsOfSevenBits board b × IsShifted given wire) ⊎ (¬ IsOfSevenBits board b × (given ≡ wire))
+
+-- a port by its bus and its address, which the plan has as it is on the wire
+pub record IsPortKept (board : Data) (plan : Plan) (port : Port) (d : Data) : Type 0 where
+  pub given : List ℕ
+  pub address : IsOnWire board port.bus given port.address.items
+  pub text : SaysText (Some d) (port_text plan port.bus given)
 
 -- one of the rows is what stands there
 abbrev pub IsAmongRows : Plan → List Row → Option Data → Type 0
@@ -139,11 +162,11 @@ pub record IsHeadKept (plan : Plan) (node : Node) (d : Data) : Type 0 where
   pub owner : IsOwnerKept plan node.owner (get (codes "owner") d)
 
 -- a node
-pub record IsNodeKept (files : List RecordFile) (plan : Plan) (node : Node) (d : Data) : Type 0 where
+pub record IsNodeKept (files : List RecordFile) (board : Data) (plan : Plan) (node : Node) (d : Data) : Type 0 where
   pub keys : HasOnlyKeys IsNodeKey d
   pub head : IsHeadKept plan node d
   pub pool : IsPoolKept node.pool (get (codes "pool") d)
-  pub ports : AreItemsKept (IsPortKept plan) node.ports.items (codes "ports") d
+  pub ports : AreItemsKept (IsPortKept board plan) node.ports.items (codes "ports") d
   pub rows : AreRowsKept plan node.rows.items d
   pub reaches : AreNamesKept plan d
   pub terminus : IsTerminusKept files plan node.terminus d
@@ -154,4 +177,4 @@ pub record Keeps (files : List RecordFile) (board : Data) (plan : Plan) : Type 0
   pub keys : HasOnlyKeys IsBoardKey board
   pub unit : SaysOr 64 (get (codes "unit") board) plan.unit
   pub buses : AreItemsKept IsBusKept plan.buses.items (codes "bus") board
-  pub nodes : AreItemsKept (IsNodeKept files plan) plan.nodes.items (codes "node") board
+  pub nodes : AreItemsKept (IsNodeKept files board plan) plan.nodes.items (codes "node") board

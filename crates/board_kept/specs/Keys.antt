@@ -8,7 +8,7 @@ IsBoardKey key = (key ≡ codes "unit") ⊎ (key ≡ codes "bus") ⊎ (key ≡ c
 
 -- of a bus
 abbrev pub IsBusKey : List ℕ → Type 0
-IsBusKey key = (key ≡ codes "name") ⊎ (key ≡ codes "binding") ⊎ (key ≡ codes "media")
+IsBusKey key = (key ≡ codes "name") ⊎ (key ≡ codes "binding") ⊎ (key ≡ codes "media") ⊎ (key ≡ codes "addresses")
 
 -- what a node is
 abbrev pub IsHeadKey : List ℕ → Type 0

@@ -36,6 +36,12 @@ ReachesAll plan a = (b : ℕ) → b < length plan.nodes.items → ReachesNode pl
 abbrev pub AllReachAll : Plan → Type 0
 AllReachAll plan = (a : ℕ) → a < length plan.nodes.items → ReachesAll plan a
 
+-- Every rule holds of the plan, by some certificate, and all its nodes reach each other.
+pub record IsWhole (plan : Plan) : Type 0 where
+  pub certificate : Certificate
+  pub accepted : Accepts plan certificate
+  pub reaches : AllReachAll plan
+
 -- Every rule holds of the new plan and the certificate, and it is the old one but for its rows, in which it has the old
 -- ones.
 pub record IsKeptIn (before after : Plan) (certificate : Certificate) : Type 0 where

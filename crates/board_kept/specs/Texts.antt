@@ -1,7 +1,7 @@
 -- How a board writes what stands in a plan.
 use Rattle.std.{specs.Prelude.{ℕ, nat_eq, if◌then◌else◌, List, [], ◌++◌, codes, length, Option, Some, None, unwrap_or}, specs.Fmt.{decimal}}
 use Rattle.hex.specs.Hex.{encode_lower}
-use Rattle.plan_values.{specs.declared.plan.Plan.{Plan}, specs.declared.nodes.Port.{Port}, specs.declared.nodes.Row.{Row}}
+use Rattle.plan_values.{specs.declared.plan.Plan.{Plan}, specs.declared.nodes.Row.{Row}}
 use Rattle.net_tables.specs.Names.{name_of_bus, name_of_node}
 use Rattle.board_values.specs.Eids.{eids_text}
 
@@ -12,11 +12,11 @@ binding_word n =
     else if nat_eq n 3 then Some (codes "usb") else if nat_eq n 4 then Some (codes "kcs")
     else if nat_eq n 5 then Some (codes "serial") else if nat_eq n 6 then Some (codes "i3c") else None
 
--- the bus of a port and, where it has one, its address in hex
-abbrev pub port_text : Plan → Port → List ℕ
-port_text plan port =
-    if nat_eq (length port.address.items) 0 then unwrap_or (name_of_bus plan port.bus) []
-    else (unwrap_or (name_of_bus plan port.bus) [] ++ (codes " " ++ encode_lower port.address.items))
+-- a port: the bus at an index and, where it has one, its address in hex
+abbrev pub port_text : Plan → ℕ → List ℕ → List ℕ
+port_text plan bus address =
+    if nat_eq (length address) 0 then unwrap_or (name_of_bus plan bus) []
+    else (unwrap_or (name_of_bus plan bus) [] ++ (codes " " ++ encode_lower address))
 
 -- a row: its endpoint IDs, the next node and the port
 abbrev pub row_text : Plan → Row → List ℕ

@@ -1,14 +1,14 @@
 //! Whether a plan keeps what a board says.
 ghost use Rattle.std.specs.Prelude.{◌≡◌, IfOk, IsTrue, codes};
 ghost use Rattle.toml.{specs.Data.{get}, specs.View.{view}};
-ghost use Rattle.board_values.specs.Said.{IsItemKept, AreItemsKept};
-ghost use Rattle.board_kept.specs.Kept.{SaysBinding, IsBusKept, IsNodeKept, Keeps};
+ghost use Rattle.board_values.specs.Said.{SaysText, IsItemKept, AreItemsKept};
+ghost use Rattle.board_kept.specs.Kept.{SaysBinding, IsFormKept, IsBusKept, IsNodeKept, Keeps};
 
 use crate::keys::{Level, has_only_keys};
 use crate::nodes::keeps_node;
 use crate::texts::binding_word;
 use board::RecordFile;
-use board_values::{is_list_at, item, says_number, says_or, says_text};
+use board_values::{is_left_out, is_list_at, item, says_number, says_or, says_text};
 use plan_values::{Bus, Plan};
 use std::alloc::{AllocError, Global};
 use toml::Value;
@@ -58,6 +58,14 @@ fn keeps_bus(said: &Value, bus: &Bus) -> bool
         && says_text(said, "name", bus.name.text.as_str())
         && says_binding(said, bus.binding)
         && says_or(said, "media", u32::from(bus.media), 0)
+        && keeps_form(said)
+}
+
+/// Whether nothing stands at `addresses`, or the word for 7 bits.
+fn keeps_form(said: &Value) -> bool
+    ensures { IsTrue result → IsFormKept (get (codes "addresses") (view said.now)) }
+{
+    is_left_out(said, "addresses") || says_text(said, "addresses", "7-bit")
 }
 
 /// Whether the number of a binding stands there, or its word.
@@ -66,10 +74,20 @@ fn says_binding(said: &Value, number: u8) -> bool
 {
     match binding_word(number) {
         Some(word) => {
-            says_number(said, "binding", u32::from(number)) || says_text(said, "binding", word)
+            says_number(said, "binding", u32::from(number))
+                || says_text(said, "binding", word)
+                || says_i2c(said, number)
         }
         None => says_number(said, "binding", u32::from(number)),
     }
+}
+
+/// Whether the word for I2C stands there, and the number is that of SMBus.
+fn says_i2c(said: &Value, number: u8) -> bool
+    ensures number { IsTrue result → number ≡ 1 }
+    ensures word { IsTrue result → SaysText (get (codes "binding") (view said.now)) (codes "i2c") }
+{
+    number == 1 && says_text(said, "binding", "i2c")
 }
 
 fn keeps_nodes(
@@ -78,7 +96,7 @@ fn keeps_nodes(
     board: &Value,
     plan: &Plan,
 ) -> Result<bool, AllocError>
-    ensures { IfOk result (λ answer. IsTrue answer → AreItemsKept (IsNodeKept files.now plan.now) plan.now.nodes.items (codes "node") (view board.now)) }
+    ensures { IfOk result (λ answer. IsTrue answer → AreItemsKept (IsNodeKept files.now (view board.now) plan.now) plan.now.nodes.items (codes "node") (view board.now)) }
 {
     for index in 0..plan.nodes.len() {
         if !keeps_node_at(alloc, files, board, plan, index)? {
@@ -95,11 +113,11 @@ fn keeps_node_at(
     plan: &Plan,
     index: usize,
 ) -> Result<bool, AllocError>
-    ensures { IfOk result (λ answer. IsTrue answer → IsItemKept (IsNodeKept files.now plan.now) plan.now.nodes.items (codes "node") (view board.now) index) }
+    ensures { IfOk result (λ answer. IsTrue answer → IsItemKept (IsNodeKept files.now (view board.now) plan.now) plan.now.nodes.items (codes "node") (view board.now) index) }
 {
     match plan.nodes.get(index) {
         Some(node) => match item(board, "node", index) {
-            Some(said) => keeps_node(alloc, files, plan, node, said),
+            Some(said) => keeps_node(alloc, files, board, plan, node, said),
             None => Ok(false),
         },
         None => Ok(true),

@@ -61,7 +61,7 @@ fn is_board_key(key: &str) -> bool
 fn is_bus_key(key: &str) -> bool
     ensures { IsTrue result → IsBusKey key.now }
 {
-    key == "name" || key == "binding" || key == "media"
+    key == "name" || key == "binding" || key == "media" || key == "addresses"
 }
 
 fn is_node_key(key: &str) -> bool

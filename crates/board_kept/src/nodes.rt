@@ -1,19 +1,18 @@
 //! Whether a plan keeps what a board says of a node.
 ghost use Rattle.std.specs.Prelude.{◌≡◌, IfOk, IsTrue, codes, option_map, slice_get, Some};
 ghost use Rattle.toml.{specs.Data.{get}, specs.View.{view}};
-ghost use Rattle.board_values.specs.Said.{IsItemKept, AreItemsKept};
-ghost use Rattle.board_kept.specs.Kept.{IsKindKept, IsOwnerKept, SaysPool, IsPoolKept, IsPortKept, IsAmongRows, IsRowKeptAt, AreRowsKept, NamesNode, IsNameAt, AreNamesKept, IsHeadKept, IsNodeKept};
+ghost use Rattle.board_kept.specs.Kept.{IsKindKept, IsOwnerKept, SaysPool, IsPoolKept, IsAmongRows, IsRowKeptAt, AreRowsKept, NamesNode, IsNameAt, AreNamesKept, IsHeadKept, IsNodeKept};
 
 use crate::keys::{Level, has_only_keys};
+use crate::ports::keeps_ports;
 use crate::records::keeps_terminus;
-use crate::texts::{node_name, port_text, row_text};
+use crate::texts::{node_name, row_text};
 use board::RecordFile;
 use board_values::{
-    eids_text, has_item, is_left_out, is_list_at, is_text, item, says_none_or, says_number,
-    says_text,
+    has_item, is_left_out, is_list_at, is_number, is_text, item, says_none_or, says_run, says_text,
 };
 use net_tables::lookup::kind_word;
-use plan_values::{Kind, Node, Plan, Pool, Port, Row};
+use plan_values::{Kind, Node, Plan, Pool, Row};
 use std::alloc::{AllocError, Global};
 use toml::Value;
 
@@ -21,11 +20,12 @@ use toml::Value;
 pub fn keeps_node(
     alloc: Global,
     files: &[RecordFile],
+    board: &Value,
     plan: &Plan,
     node: &Node,
     said: &Value,
 ) -> Result<bool, AllocError>
-    ensures { IfOk result (λ answer. IsTrue answer → IsNodeKept files.now plan.now node.now (view said.now)) }
+    ensures { IfOk result (λ answer. IsTrue answer → IsNodeKept files.now (view board.now) plan.now node.now (view said.now)) }
 {
     if !has_only_keys(said, Level::OfNode) || !keeps_head(plan, node, said) {
         return Ok(false);
@@ -33,7 +33,7 @@ pub fn keeps_node(
     if !keeps_pool(alloc, node.pool, said)? {
         return Ok(false);
     }
-    if !keeps_ports(alloc, plan, &node.ports, said)? {
+    if !keeps_ports(alloc, board, plan, &node.ports, said)? {
         return Ok(false);
     }
     if !keeps_rows(alloc, plan, &node.rows, said)? || !keeps_names(plan, said) {
@@ -84,39 +84,12 @@ fn keeps_pool(alloc: Global, pool: Option<Pool>, said: &Value) -> Result<bool, A
 fn says_pool(alloc: Global, pool: Pool, said: &Value) -> Result<bool, AllocError>
     ensures { IfOk result (λ answer. IsTrue answer → SaysPool pool (get (codes "pool") (view said.now))) }
 {
-    let eids = eids_text(alloc, pool.first.value, pool.size)?;
-    Ok(says_text(said, "pool", &eids) || says_number(said, "pool", u32::from(pool.size)))
-}
-
-fn keeps_ports(alloc: Global, plan: &Plan, ports: &[Port], said: &Value) -> Result<bool, AllocError>
-    ensures { IfOk result (λ answer. IsTrue answer → AreItemsKept (IsPortKept plan.now) ports.now (codes "ports") (view said.now)) }
-{
-    for index in 0..ports.len() {
-        if !keeps_port_at(alloc, plan, ports, said, index)? {
-            return Ok(false);
-        }
-    }
-    Ok(is_list_at(said, "ports") && item(said, "ports", ports.len()).is_none())
-}
-
-fn keeps_port_at(
-    alloc: Global,
-    plan: &Plan,
-    ports: &[Port],
-    said: &Value,
-    index: usize,
-) -> Result<bool, AllocError>
-    ensures { IfOk result (λ answer. IsTrue answer → IsItemKept (IsPortKept plan.now) ports.now (codes "ports") (view said.now) index) }
-{
-    match ports.get(index) {
-        Some(port) => {
-            let text = port_text(alloc, plan, port)?;
-            match item(said, "ports", index) {
-                Some(value) => Ok(is_text(value, &text)),
-                None => Ok(false),
-            }
-        }
-        None => Ok(true),
+    match said.get("pool") {
+        Some(value) => Ok(
+            says_run(alloc, value, pool.first.value, pool.size)?
+                || is_number(value, u32::from(pool.size)),
+        ),
+        None => Ok(false),
     }
 }
 

@@ -4,7 +4,7 @@ ghost use Rattle.net_tables.specs.Names.{name_of_bus, name_of_node};
 ghost use Rattle.board_kept.specs.Texts.{binding_word, port_text, row_text};
 
 use board_values::eids_text;
-use plan_values::{Plan, Port, Row};
+use plan_values::{Plan, Row};
 use std::alloc::{AllocError, Global};
 
 /// The word of a physical transport binding identifier (DSP0239), where it has one.
@@ -42,15 +42,20 @@ fn bus_name(plan: &Plan, bus: usize) -> Option<&str>
     }
 }
 
-/// The bus of a port and, where it has one, its address in hex.
-pub fn port_text(alloc: Global, plan: &Plan, port: &Port) -> Result<String, AllocError>
-    ensures { IfOk result (λ text. string_bytes text ≡ port_text plan.now port.now) }
+/// A port: the bus at an index and, where it has one, its address in hex.
+pub fn port_text(
+    alloc: Global,
+    plan: &Plan,
+    bus: usize,
+    address: &[u8],
+) -> Result<String, AllocError>
+    ensures { IfOk result (λ text. string_bytes text ≡ port_text plan.now bus address.now) }
 {
-    let bus = bus_name(plan, port.bus).unwrap_or("");
-    if port.address.len() == 0 {
+    let bus = bus_name(plan, bus).unwrap_or("");
+    if address.is_empty() {
         return format!(in alloc; "{bus}");
     }
-    let address = hex::encode(alloc, port.address.as_slice())?;
+    let address = hex::encode(alloc, address)?;
     format!(in alloc; "{bus} {address}")
 }
 

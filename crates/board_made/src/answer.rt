@@ -8,6 +8,7 @@ use crate::judged::judged;
 use crate::reasons::{no_plan_line, place_line, unread_line};
 use board::{Board, BoardError, RecordFile, made_plan, named_files, read_board};
 use board_values::board_of_text;
+use net_pointers::shown_key;
 use plan_values::Plan;
 use std::alloc::{AllocError, Global};
 use toml::Value;
@@ -195,6 +196,7 @@ pub fn files_of_board(alloc: Global, text: &[u8]) -> Result<Vec<String>, AllocEr
 pub fn unread_file(alloc: Global, name: &str, why: &str) -> Result<String, AllocError>
     ensures { IfOk result (λ line. IsUnreadLine (string_bytes line)) }
 {
+    let name = shown_key(alloc, name)?;
     unread_line(
         alloc,
         &format!(in alloc; "the file \"{name}\" of a record {why}")?,

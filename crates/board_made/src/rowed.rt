@@ -1,14 +1,14 @@
 //! A plan with rows, judged before it is answered.
-ghost use Rattle.std.specs.Prelude.{◌≡◌, IfOk, IfSome, None, string_bytes};
+ghost use Rattle.std.specs.Prelude.{◌≡◌, IfOk, IfSome, IsUtf8, None, string_bytes};
 ghost use Rattle.plan_values.specs.PlanValues.{plan_value};
 ghost use Rattle.net_plan.{specs.PlanText.{IsPlanOf}, specs.Texts.{IsJsonTextOf}};
 ghost use Rattle.net_rules.specs.Certificates.{NamesObstacle, RulesOutCertificates};
-ghost use Rattle.board_kept.specs.Rowed.{IsRowedFrom};
-ghost use Rattle.board_made.{specs.Reasons.{IsRowsReason, IsUnfound}, specs.Rowed.{IsRowsAnswer}};
+ghost use Rattle.board_kept.specs.Rowed.{IsRowedFrom, IsWhole};
+ghost use Rattle.board_made.{specs.Reasons.{IsRowsReason, IsUnfound}, specs.Rowed.{IsRowsAnswer, IsText}};
 
 use crate::reasons::{lacking, no_rows_line, obstacle_reason, unfit_line, unfound, way_line_of};
 use board::{Made, board_of_plan, made_plan};
-use board_kept::{is_same_but_rows, judge_rows};
+use board_kept::{is_same_but_rows, is_whole, judge_rows};
 use net_check::{CertifyError, CheckError, certify, check};
 use net_plan::{PlanError, plan_of_text};
 use plan_values::{Certificate, Plan};
@@ -23,8 +23,41 @@ pub enum RowsAnswer {
     NoPlan(String),
 }
 
-/// A plan with rows by which all its nodes reach each other, or why there is none. It keeps the rows that it has.
-pub fn answer_rows(alloc: Global, before: &Plan) -> Result<RowsAnswer, AllocError>
+/// A plan with rows by which all its nodes reach each other, or why there is none. It keeps the rows that it has. A plan
+/// of which every rule holds and whose nodes reach each other is answered by its own text.
+pub fn answer_rows(alloc: Global, text: &[u8], before: &Plan) -> Result<RowsAnswer, AllocError>
+    requires { IsJsonTextOf IsPlanOf text.now (plan_value before.now) }
+    ensures answer { IfOk result (λ answer. IsRowsAnswer before.now answer) }
+    ensures whole { IfOk result (λ answer. IsWhole before.now → IsText text.now answer) }
+{
+    if is_whole(alloc, before)? {
+        return as_it_stands(alloc, text, before);
+    }
+    with_rows(alloc, before)
+}
+
+/// The text of a plan that needs no rows.
+fn as_it_stands(alloc: Global, text: &[u8], before: &Plan) -> Result<RowsAnswer, AllocError>
+    requires reads { IsJsonTextOf IsPlanOf text.now (plan_value before.now) }
+    requires whole { IsWhole before.now }
+    ensures answer { IfOk result (λ answer. IsRowsAnswer before.now answer) }
+    ensures text { IfOk result (λ answer. IsText text.now answer) }
+{
+    Ok(RowsAnswer::Made(string_of(alloc, text)?))
+}
+
+fn string_of(alloc: Global, text: &[u8]) -> Result<String, AllocError>
+    requires { IsUtf8 text.now }
+    ensures { IfOk result (λ string. string_bytes string ≡ text.now) }
+{
+    match std::str::from_utf8(text) {
+        Ok(text) => text.to_string(alloc),
+        Err(_) => unreachable!(),
+    }
+}
+
+/// A plan with the rows that it has and those that are made, or why there is none.
+fn with_rows(alloc: Global, before: &Plan) -> Result<RowsAnswer, AllocError>
     ensures { IfOk result (λ answer. IsRowsAnswer before.now answer) }
 {
     let board = board_of_plan(alloc, before)?;

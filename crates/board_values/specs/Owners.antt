@@ -1,7 +1,7 @@
 -- Who owns whom on a board, and what the nodes take of a pool.
 use Rattle.std.specs.Prelude.{◌≡◌, ◌⊎◌, ℕ, zero, suc, ◌+◌, ◌<◌, ◌≤◌, List, codes, length, sum, slice_get, Bool, true, Option, Some, None, option_and_then}
 use Rattle.toml.specs.Data.{Data, get}
-use Rattle.board_values.{specs.Said.{SaysText, SaysNumber, item_at}, specs.Eids.{eids_text}}
+use Rattle.board_values.{specs.Said.{SaysText, SaysNumber, item_at}, specs.Eids.{SaysRun}}
 
 -- what stands at a key of the node at an index
 abbrev pub at_node : List ℕ → ℕ → Data → Option Data
@@ -35,7 +35,7 @@ IsOf board None n = LeavesOut (codes "owner") board n
 
 -- what stands there is a pool of so many endpoint IDs, by its ends or by its size
 abbrev pub IsPoolOf : Option Data → ℕ → Type 0
-IsPoolOf said size = SaysNumber said size ⊎ ((first : ℕ) × SaysText said (eids_text first size))
+IsPoolOf said size = SaysNumber said size ⊎ ((first : ℕ) × SaysRun said first size)
 
 -- n has this owner, of whose endpoint IDs it takes so many: one, and those of its pool
 abbrev pub TakesAs : Data → Option ℕ → ℕ → ℕ → Type 0

@@ -3,9 +3,9 @@ ghost use Rattle.std.specs.Prelude.{ℕ, IfOk, IfSome, IsTrue, Some, codes};
 ghost use Rattle.toml.specs.View.{view};
 ghost use Rattle.board_values.specs.Owners.{at_node, IsPoolOf, Takes, HasInPool, IsOverdrawn, HaveTaken};
 
-use crate::eids::eids_text;
+use crate::eids::says_run;
 use crate::owners::{at_node, is_of};
-use crate::said::{is_number, is_text};
+use crate::said::is_number;
 use board::{Board, BoardPool};
 use std::alloc::{AllocError, Global};
 use toml::Value;
@@ -119,8 +119,7 @@ fn size_if_said(
 fn run_if_said(alloc: Global, said: &Value, first: u8, size: u8) -> Result<Option<u8>, AllocError>
     ensures { IfOk result (λ found. IfSome found (λ size. IsPoolOf (Some (view said.now)) size)) }
 {
-    let text = eids_text(alloc, first, size)?;
-    Ok(if is_text(said, &text) {
+    Ok(if says_run(alloc, said, first, size)? {
         Some(size)
     } else {
         None

@@ -3,6 +3,7 @@ use Rattle.std.{specs.Prelude.{◌≡◌, ◌⊎◌, ℕ, List, Some, codes, sli
 use Rattle.net_plan.{specs.Stream.{TakesMoreThan}, specs.Texts.{Gave}, specs.Limits.{most_text_bytes}}
 use Rattle.board.specs.declared.board.RecordFile.{RecordFile}
 use Rattle.board_made.{specs.declared.answer.BoardAnswer.{BoardAnswer}, specs.declared.answer.BoardAnswer.TheVariants.{Made, NoPlan, Unread}, specs.Made.{IsMadeOf, IsUnmadeOf, IsUnreadLine, ReadsBack}, specs.Reasons.{IsRowsReason}, specs.Rowed.{IsRowedText}}
+use Rattle.board_kept.specs.Rowed.{IsWhole}
 use Rattle.plan_values.specs.declared.plan.Plan.{Plan}
 use Rattle.plan_commands.specs.declared.make.FileFault.{FileFault}
 use Rattle.command_answers.{specs.declared.refused.Refused.{Refused}, specs.declared.status.Status.{Status}, specs.Answers.{Stream, Fails}}
@@ -105,9 +106,10 @@ IsUnwrittenBy certificates why = (why ≡ refused.NoMemory)
 
 -- ---- rows PLAN
 
--- The text answers for a plan, in a run that ends so: it reads as the plan with rows, or says why none is made.
-abbrev pub IsRowed : Plan → Status → List ℕ → Type 0
-IsRowed plan status.Yes text = IsRowedText plan text
-IsRowed plan status.Fault text = IsRowsReason plan text
-IsRowed plan status.Unreadable text = ⊥
-IsRowed plan status.NoMemory text = ⊥
+-- The lines answer for a plan, which stands in this text, in a run that ends so: they read as the plan with rows, and
+-- are its own text where it needs none; or they say why no rows are made, and then it needs some.
+abbrev pub IsRowed : List ℕ → Plan → Status → List ℕ → Type 0
+IsRowed text plan status.Yes lines = IsRowedText plan lines × (IsWhole plan → lines ≡ text)
+IsRowed text plan status.Fault lines = IsRowsReason plan lines × (¬ IsWhole plan)
+IsRowed text plan status.Unreadable lines = ⊥
+IsRowed text plan status.NoMemory lines = ⊥

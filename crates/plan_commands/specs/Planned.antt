@@ -13,7 +13,7 @@ IsSaidOf question.Certify text plan ended lines = Certifies plan ended lines
 IsSaidOf (question.Draw rows) text plan ended lines = ended ≡ status.Yes
 IsSaidOf (question.Faults name) text plan ended lines = IsListed name.now text plan ended lines
 IsSaidOf question.Lint text plan ended lines = IsLinted plan ended lines
-IsSaidOf question.Rows text plan ended lines = IsRowed plan ended lines
+IsSaidOf question.Rows text plan ended lines = IsRowed text plan ended lines
 
 -- so they do of the plan that was given
 abbrev pub SaysSo : PlanQuestion → Stream → Status → List ℕ → Type 0

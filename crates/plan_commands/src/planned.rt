@@ -1,7 +1,7 @@
 //! Commands that read a plan alone, and answer a question about it.
 ghost use Rattle.std.{specs.Prelude.{◌≡◌, IfOk}, specs.Cow.{cow_str_bytes}};
 ghost use Rattle.net_plan.specs.Stream.{HasRoom};
-ghost use Rattle.command_answers.{specs.Answers.{stream, IsPlanUnread}, specs.Told.{Concludes}};
+ghost use Rattle.command_answers.{specs.Answers.{stream, IsPlanUnread}, specs.Told.{Concludes}, specs.UnreadInputs.{IsTextOf}};
 ghost use Rattle.plan_commands.specs.Planned.{IsSaidOf, SaysSo};
 
 use crate::draw::drawing_of_plan;
@@ -46,6 +46,7 @@ fn answer_of_plan(
     question: &PlanQuestion,
     given: &PlanText,
 ) -> Result<Answer, AllocError>
+    requires { IsTextOf given.now.text.items given.now.plan }
     ensures { IfOk result (λ answer. IsSaidOf question.now given.now.text.items given.now.plan answer.status (cow_str_bytes answer.text)) }
 {
     match *question {
@@ -53,6 +54,6 @@ fn answer_of_plan(
         PlanQuestion::Draw { rows } => drawing_of_plan(alloc, &given.plan, rows),
         PlanQuestion::Faults { name } => faults_of_plan(alloc, name, given),
         PlanQuestion::Lint => findings_of_plan(alloc, &given.plan),
-        PlanQuestion::Rows => rows_of_plan(alloc, &given.plan),
+        PlanQuestion::Rows => rows_of_plan(alloc, given),
     }
 }

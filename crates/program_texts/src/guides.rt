@@ -135,7 +135,8 @@ const OF_ROWS: &str = r#"mctpplan rows PLAN
 Prints the plan with rows along ways of the fewest hops over buses and bridges, so that each node
 reaches every other. Rows that it has are kept, and what is made fills what they leave. The plan is
 judged before it is printed, as that of make is: it has a certificate, it differs from the given one
-in rows alone, and each node reaches every other.
+in rows alone, and each node reaches every other. A plan of which that is so already is printed as
+it stands.
 
 Status 0: the plan.
 Status 1: why it can't be made.

@@ -840,11 +840,12 @@ const BOARD: &str = r##"{
         "binding": {
           "description": "The physical transport binding (DSP0239).",
           "oneOf": [
-            { "enum": ["smbus", "pcie", "usb", "kcs", "serial", "i3c"] },
+            { "enum": ["smbus", "i2c", "pcie", "usb", "kcs", "serial", "i3c"] },
             { "type": "integer", "minimum": 0, "maximum": 255 }
           ]
         },
-        "media": { "description": "The physical medium (DSP0239).", "type": "integer", "minimum": 0, "maximum": 255, "default": 0 }
+        "media": { "description": "The physical medium (DSP0239).", "type": "integer", "minimum": 0, "maximum": 255, "default": 0 },
+        "addresses": { "description": "7-bit: the addresses of ports have 7 bits. Left out: they are as on the wire. Of SMBus, I2C and I3C.", "enum": ["7-bit"] }
       }
     },
     "node": {
@@ -857,7 +858,7 @@ const BOARD: &str = r##"{
         "eid": { "description": "The endpoint ID. Left out: the least that is free in the owner's pool.", "type": "integer", "minimum": 8, "maximum": 254 },
         "owner": { "$ref": "#/$defs/name" },
         "pool": {
-          "description": "Endpoint IDs, as 16-31, or how many they are.",
+          "description": "Endpoint IDs, as 16-31, of one as 16 or 16-16, or how many they are.",
           "oneOf": [
             { "type": "string", "pattern": "^[0-9]{1,3}(-[0-9]{1,3})?$" },
             { "type": "integer", "minimum": 1, "maximum": 247 }

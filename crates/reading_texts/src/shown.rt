@@ -1,10 +1,8 @@
 //! What stands at an offset of a text, as far as it is shown.
 ghost use Rattle.std.specs.Prelude.{◌≤◌, length};
 
+use net_pointers::{MOST_SHOWN, first_characters, shown_characters};
 use std::alloc::{AllocError, Global};
-
-/// How many characters are shown: with three dots behind them, 40.
-const MOST_SHOWN: usize = 37;
 
 /// The text from an offset on; an empty one where that is no UTF-8.
 pub fn rest_at(text: &[u8], offset: usize) -> &str
@@ -22,12 +20,7 @@ pub fn shown_text(alloc: Global, text: &str) -> Result<String, AllocError> {
     let characters = characters.as_slice();
     let length = shown_length(characters);
     let dots = dots_after(characters, length);
-    shown(alloc, &characters[..length], dots)
-}
-
-/// The first characters of a text, one more than are shown.
-fn first_characters(alloc: Global, text: &str) -> Result<Vec<char>, AllocError> {
-    text.chars().take(MOST_SHOWN + 1).collect(alloc)
+    shown_characters(alloc, &characters[..length], dots)
 }
 
 /// How many of these characters are shown.
@@ -86,43 +79,4 @@ fn dots_after(characters: &[char], count: usize) -> &'static str {
         return "";
     }
     "..."
-}
-
-/// A key as it is shown: its beginning, and three dots where more follows.
-pub fn shown_key(alloc: Global, key: &str) -> Result<String, AllocError> {
-    let mut characters = first_characters(alloc, key)?;
-    let dots = if MOST_SHOWN < characters.len() {
-        "..."
-    } else {
-        ""
-    };
-    characters.truncate(MOST_SHOWN);
-    shown(alloc, &characters, dots)
-}
-
-/// Characters as they are shown, and what stands behind them.
-fn shown(alloc: Global, characters: &[char], dots: &str) -> Result<String, AllocError> {
-    let shown: String = characters.iter().copied().map(printable).collect(alloc)?;
-    format!(in alloc; "{shown}{dots}")
-}
-
-/// A question mark for a character that a terminal may take for more than a sign.
-fn printable(character: char) -> char {
-    if is_unprintable(character) {
-        return '?';
-    }
-    character
-}
-
-/// Whether this is a control character, a separator of lines, or a mark that turns the direction of writing.
-fn is_unprintable(character: char) -> bool {
-    matches!(
-        character,
-        '\0'..='\u{1f}'
-            | '\u{7f}'..='\u{9f}'
-            | '\u{61c}'
-            | '\u{200e}'..='\u{200f}'
-            | '\u{2028}'..='\u{202e}'
-            | '\u{2066}'..='\u{2069}'
-    )
 }

@@ -9,10 +9,10 @@ ghost use Rattle.reading_texts.specs.TroubleLines.{IsValueTold};
 use crate::joined::joined;
 use crate::positions::place_text;
 use crate::shapes::{number_noun, shape_words};
-use crate::shown::{rest_at, shown_key, shown_text};
+use crate::shown::{rest_at, shown_text};
 use json::Value;
 use net_plan::{Field, Found, PointerStep, Shape, ValueFault, Word, at, fields_of, is_key_of};
-use net_pointers::offset_of_pointer;
+use net_pointers::{offset_of_pointer, shown_key};
 use std::alloc::{AllocError, Global};
 
 /// The line of a value that has a fault in itself: where it stands, what is wrong with it, and what may stand there,

@@ -81,7 +81,7 @@ fn target_of(board: &Board, chosen: &[Chosen], eid: u8) -> Option<Target> {
     let holder = holder_of(chosen, eid);
     Some(Target {
         eid,
-        node: holder.or(innermost_of(chosen, eid))?,
+        node: holder.or(keeper_of(board, chosen, eid))?,
         is_held: holder.is_some(),
         is_given: is_given(board, eid),
     })
@@ -94,6 +94,16 @@ fn holder_of(chosen: &[Chosen], eid: u8) -> Option<usize> {
         }
     }
     None
+}
+
+/// The bridge that hands out an endpoint ID that nobody holds; none where a row that the board gives there leads it on,
+/// since rows to the bridge could come back to it then.
+fn keeper_of(board: &Board, chosen: &[Chosen], eid: u8) -> Option<usize> {
+    let bridge = innermost_of(chosen, eid)?;
+    match given_row(board.nodes.get(bridge)?, eid) {
+        Some(_) => None,
+        None => Some(bridge),
+    }
 }
 
 /// The node with the smallest pool that has the endpoint ID.

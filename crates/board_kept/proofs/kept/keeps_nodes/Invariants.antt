@@ -5,4 +5,4 @@ use Rattle.board_kept.specs.Kept.{IsNodeKept}
 use Rattle.board_kept.proofs.kept.keeps_nodes.Given as goal
 
 abbrev pub invariant-loop-index : goal.invariant-loop-index
-invariant-loop-index l = (i : ℕ) → i < l.index → IsItemKept (IsNodeKept l.files l.plan) l.plan.nodes.items (codes "node") (view l.board) i
+invariant-loop-index l = (i : ℕ) → i < l.index → IsItemKept (IsNodeKept l.files (view l.board) l.plan) l.plan.nodes.items (codes "node") (view l.board) i

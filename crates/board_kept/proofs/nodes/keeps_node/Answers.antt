@@ -9,7 +9,7 @@ returns c = λ yes. record {
   keys = c.has_only_keys.ensures (search rules);
   head = c.keeps_head.ensures (search rules);
   pool = c.in_ok-keeps_pool.ensures (search rules);
-  ports = subst (λ ports. AreItemsKept (IsPortKept c.args.plan.now) ports (codes "ports") (view c.args.said.now)) c.deref.ensures.value
+  ports = subst (λ ports. AreItemsKept (IsPortKept (view c.args.board.now) c.args.plan.now) ports (codes "ports") (view c.args.said.now)) c.deref.ensures.value
       (c.in_ok-keeps_ports.ensures (search rules));
   rows = subst (λ rows. AreRowsKept c.args.plan.now rows (view c.args.said.now)) c.deref-2.ensures.value
       (c.in_ok-keeps_rows.ensures (search rules));
