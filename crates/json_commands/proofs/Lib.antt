@@ -3,3 +3,4 @@ mod Named
 mod NotMemory
 mod Sources
 mod UnreadSaid
+mod Placed

@@ -87,10 +87,14 @@ location_data name position pointer = object (member (codes "logicalLocations") 
 
 -- ---- either
 
--- the place of an offset in the text of this name, and the pointer that leads there, in the form
+-- the place at a line and a column of the file of this name, and the pointer that leads there, in the form
+abbrev pub located_data : Form → List ℕ → Option Position → Option (List ℕ) → Data
+located_data Json name position pointer = place_data name position pointer
+located_data Sarif name position pointer = location_data name position pointer
+
+-- that of an offset in the text of this name
 abbrev pub spot_data : Form → (name text : List ℕ) → Option ℕ → Option (List ℕ) → Data
-spot_data Json name text offset pointer = place_data name (position_in text offset) pointer
-spot_data Sarif name text offset pointer = location_data name (position_in text offset) pointer
+spot_data form name text offset pointer = located_data form name (position_in text offset) pointer
 
 -- the value tells, in the form, where in the text of this name the pointer leads
 abbrev pub IsPlaceTold : Form → (name text : List ℕ) → List Step → Data → Type 0

@@ -17,6 +17,7 @@ use command_questions::Form;
 use json::{Scratch, Value as Tree};
 use net_check::{CertifyError, certify, faults};
 use net_plan::json_of;
+use net_pointers::TextIndex;
 use net_rules::FaultRun;
 use plan_values::{Certificate, Plan};
 use serde_json::Value;
@@ -93,22 +94,40 @@ fn run_results(
     }
 }
 
-fn runs_in<'a, 't>(
+fn runs_in(
     alloc: Global,
     form: Form,
-    name: &'a str,
-    text: &'a [u8],
-    tree: &'a Tree<'t>,
-    plan: &'a Plan,
+    name: &str,
+    text: &[u8],
+    tree: &Tree<'_>,
+    plan: &Plan,
     runs: &[FaultRun],
 ) -> Result<Value, AllocError>
     requires { IsTextOf text.now (value_view tree.now) }
     ensures { IfOk result (λ value. IsListTold (IsRunNote form name.now text.now plan.now) runs.now (view value)) }
 {
+    let mut scratch = Scratch::new(alloc);
+    let index = TextIndex::of(alloc, text, &mut scratch)?;
+    runs_over(alloc, form, name, &index, tree, plan, runs)
+}
+
+/// The same over an index of the text.
+fn runs_over<'a, 't, 'i>(
+    alloc: Global,
+    form: Form,
+    name: &'a str,
+    index: &'a TextIndex<'i>,
+    tree: &'a Tree<'t>,
+    plan: &'a Plan,
+    runs: &[FaultRun],
+) -> Result<Value, AllocError>
+    requires { IsTextOf index.now (value_view tree.now) }
+    ensures { IfOk result (λ value. IsListTold (IsRunNote form name.now index.now plan.now) runs.now (view value)) }
+{
     let placing = Placing {
         form,
         name,
-        text,
+        index,
         tree,
     };
     run_notes(alloc, &placing, plan, runs)
@@ -133,22 +152,40 @@ pub fn obstacle_results(
     }
 }
 
-fn obstacle_in<'a, 't>(
+fn obstacle_in(
     alloc: Global,
     form: Form,
-    name: &'a str,
-    text: &'a [u8],
-    tree: &'a Tree<'t>,
-    plan: &'a Plan,
+    name: &str,
+    text: &[u8],
+    tree: &Tree<'_>,
+    plan: &Plan,
     obstacle: &CertifyError,
 ) -> Result<Value, AllocError>
     requires { IsTextOf text.now (value_view tree.now) }
     ensures { IfOk result (λ value. IsObstacleAlone form name.now text.now plan.now obstacle.now (view value)) }
 {
+    let mut scratch = Scratch::new(alloc);
+    let index = TextIndex::of(alloc, text, &mut scratch)?;
+    obstacle_over(alloc, form, name, &index, tree, plan, obstacle)
+}
+
+/// The same over an index of the text.
+fn obstacle_over<'a, 't, 'i>(
+    alloc: Global,
+    form: Form,
+    name: &'a str,
+    index: &'a TextIndex<'i>,
+    tree: &'a Tree<'t>,
+    plan: &'a Plan,
+    obstacle: &CertifyError,
+) -> Result<Value, AllocError>
+    requires { IsTextOf index.now (value_view tree.now) }
+    ensures { IfOk result (λ value. IsObstacleAlone form name.now index.now plan.now obstacle.now (view value)) }
+{
     let placing = Placing {
         form,
         name,
-        text,
+        index,
         tree,
     };
     let note = obstacle_note(alloc, &placing, plan, obstacle)?;

@@ -20,14 +20,14 @@ use serde_json::Value;
 use std::alloc::{AllocError, Global};
 
 /// The notes of findings, in their order.
-pub fn finding_notes<'a, 't>(
+pub fn finding_notes<'a, 't, 'i>(
     alloc: Global,
-    placing: &Placing<'a, 't>,
+    placing: &Placing<'a, 't, 'i>,
     plan: &'a Plan,
     findings: &[Finding],
 ) -> Result<Value, AllocError>
-    requires { IsTextOf placing.now.text.now (value_view placing.now.tree.now) }
-    ensures { IfOk result (λ value. IsListTold (IsFindingNote placing.now.form placing.now.name.now placing.now.text.now plan.now) findings.now (view value)) }
+    requires { IsTextOf placing.now.index.now (value_view placing.now.tree.now) }
+    ensures { IfOk result (λ value. IsListTold (IsFindingNote placing.now.form placing.now.name.now placing.now.index.now plan.now) findings.now (view value)) }
 {
     let writer = FindingWriter {
         placing: *placing,
@@ -38,17 +38,17 @@ pub fn finding_notes<'a, 't>(
 
 /// Writes findings.
 #[derive(Clone, Copy)]
-struct FindingWriter<'a, 't> {
-    placing: Placing<'a, 't>,
+struct FindingWriter<'a, 't, 'i> {
+    placing: Placing<'a, 't, 'i>,
     plan: &'a Plan,
 }
 
-impl<'a, 't> Listed for FindingWriter<'a, 't> {
+impl<'a, 't, 'i> Listed for FindingWriter<'a, 't, 'i> {
     type Item = Finding;
 
-    ghost ready = { λ s. IsTextOf s.placing.text.now (value_view s.placing.tree.now) };
+    ghost ready = { λ s. IsTextOf s.placing.index.now (value_view s.placing.tree.now) };
 
-    ghost told = { λ s finding d. IsFindingNote s.placing.form s.placing.name.now s.placing.text.now s.plan.now finding d };
+    ghost told = { λ s finding d. IsFindingNote s.placing.form s.placing.name.now s.placing.index.now s.plan.now finding d };
 
     fn value_of(&self, alloc: Global, item: &Finding) -> Result<Value, AllocError> {
         finding_note(alloc, &self.placing, self.plan, item)
@@ -58,12 +58,12 @@ impl<'a, 't> Listed for FindingWriter<'a, 't> {
 /// The note of a finding.
 fn finding_note(
     alloc: Global,
-    placing: &Placing<'_, '_>,
+    placing: &Placing<'_, '_, '_>,
     plan: &Plan,
     finding: &Finding,
 ) -> Result<Value, AllocError>
-    requires { IsTextOf placing.now.text.now (value_view placing.now.tree.now) }
-    ensures { IfOk result (λ value. IsFindingNote placing.now.form placing.now.name.now placing.now.text.now plan.now finding.now (view value)) }
+    requires { IsTextOf placing.now.index.now (value_view placing.now.tree.now) }
+    ensures { IfOk result (λ value. IsFindingNote placing.now.form placing.now.name.now placing.now.index.now plan.now finding.now (view value)) }
 {
     let pointer = finding_pointer(alloc, finding)?;
     let place = place_of(alloc, placing, &pointer)?;

@@ -14,6 +14,7 @@ use command_answers::{PlanText, Status};
 use command_questions::Form;
 use json::{Scratch, Value as Tree};
 use net_plan::json_of;
+use net_pointers::TextIndex;
 use net_questions::{Finding, lint};
 use plan_values::Plan;
 use serde_json::Value;
@@ -57,21 +58,38 @@ fn finding_results(
     }
 }
 
-fn findings_in<'a, 't>(
+fn findings_in(
     alloc: Global,
-    name: &'a str,
-    text: &'a [u8],
-    tree: &'a Tree<'t>,
-    plan: &'a Plan,
+    name: &str,
+    text: &[u8],
+    tree: &Tree<'_>,
+    plan: &Plan,
     findings: &[Finding],
 ) -> Result<Value, AllocError>
     requires { IsTextOf text.now (value_view tree.now) }
     ensures { IfOk result (λ value. IsListTold (IsFindingNote Json name.now text.now plan.now) findings.now (view value)) }
 {
+    let mut scratch = Scratch::new(alloc);
+    let index = TextIndex::of(alloc, text, &mut scratch)?;
+    findings_over(alloc, name, &index, tree, plan, findings)
+}
+
+/// The same over an index of the text.
+fn findings_over<'a, 't, 'i>(
+    alloc: Global,
+    name: &'a str,
+    index: &'a TextIndex<'i>,
+    tree: &'a Tree<'t>,
+    plan: &'a Plan,
+    findings: &[Finding],
+) -> Result<Value, AllocError>
+    requires { IsTextOf index.now (value_view tree.now) }
+    ensures { IfOk result (λ value. IsListTold (IsFindingNote Json name.now index.now plan.now) findings.now (view value)) }
+{
     let placing = Placing {
         form: Form::Json,
         name,
-        text,
+        index,
         tree,
     };
     finding_notes(alloc, &placing, plan, findings)

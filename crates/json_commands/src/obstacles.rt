@@ -25,14 +25,14 @@ use serde_json::Value;
 use std::alloc::{AllocError, Global};
 
 /// The note of what rules certificates of a plan out. Want of memory has none.
-pub fn obstacle_note<'a, 't>(
+pub fn obstacle_note<'a, 't, 'i>(
     alloc: Global,
-    placing: &Placing<'a, 't>,
+    placing: &Placing<'a, 't, 'i>,
     plan: &'a Plan,
     obstacle: &CertifyError,
 ) -> Result<Value, AllocError>
-    requires { IsTextOf placing.now.text.now (value_view placing.now.tree.now) }
-    ensures { IfOk result (λ value. IsObstacleNote placing.now.form placing.now.name.now placing.now.text.now plan.now obstacle.now (view value)) }
+    requires { IsTextOf placing.now.index.now (value_view placing.now.tree.now) }
+    ensures { IfOk result (λ value. IsObstacleNote placing.now.form placing.now.name.now placing.now.index.now plan.now obstacle.now (view value)) }
 {
     let pointer = obstacle_pointer(alloc, plan, obstacle)?;
     let place = place_of(alloc, placing, &pointer)?;
@@ -128,14 +128,14 @@ fn nodes_of(alloc: Global, obstacle: &CertifyError) -> Result<Vec<usize>, AllocE
 }
 
 /// Where the others stand that are involved: what the cause of a fault names, the hops of a loop.
-fn related_to<'a, 't>(
+fn related_to<'a, 't, 'i>(
     alloc: Global,
-    placing: &Placing<'a, 't>,
+    placing: &Placing<'a, 't, 'i>,
     plan: &'a Plan,
     obstacle: &CertifyError,
 ) -> Result<Value, AllocError>
-    requires { IsTextOf placing.now.text.now (value_view placing.now.tree.now) }
-    ensures { IfOk result (λ value. AreRelated placing.now.form placing.now.name.now placing.now.text.now plan.now obstacle.now (view value)) }
+    requires { IsTextOf placing.now.index.now (value_view placing.now.tree.now) }
+    ensures { IfOk result (λ value. AreRelated placing.now.form placing.now.name.now placing.now.index.now plan.now obstacle.now (view value)) }
 {
     match obstacle {
         CertifyError::Fault(fault) => cause_places(alloc, placing, plan, fault),
@@ -151,12 +151,12 @@ fn related_to<'a, 't>(
 /// Where the other stands that is involved in a fault of a plan.
 fn cause_places(
     alloc: Global,
-    placing: &Placing<'_, '_>,
+    placing: &Placing<'_, '_, '_>,
     plan: &Plan,
     fault: &Fault,
 ) -> Result<Value, AllocError>
-    requires { IsTextOf placing.now.text.now (value_view placing.now.tree.now) }
-    ensures { IfOk result (λ value. IsCausePlaced placing.now.form placing.now.name.now placing.now.text.now plan.now fault.now (view value)) }
+    requires { IsTextOf placing.now.index.now (value_view placing.now.tree.now) }
+    ensures { IfOk result (λ value. IsCausePlaced placing.now.form placing.now.name.now placing.now.index.now plan.now fault.now (view value)) }
 {
     match find_cause(plan, fault) {
         Some(cause) => {
@@ -170,11 +170,11 @@ fn cause_places(
 /// The place of a pointer, if there is one.
 pub fn places_of(
     alloc: Global,
-    placing: &Placing<'_, '_>,
+    placing: &Placing<'_, '_, '_>,
     pointer: Option<Vec<PointerStep>>,
 ) -> Result<Value, AllocError>
-    requires { IsTextOf placing.now.text.now (value_view placing.now.tree.now) }
-    ensures { IfOk result (λ value. IsPlaceListTold placing.now.form placing.now.name.now placing.now.text.now (option_map (λ p. map step_value p.items) pointer) (view value)) }
+    requires { IsTextOf placing.now.index.now (value_view placing.now.tree.now) }
+    ensures { IfOk result (λ value. IsPlaceListTold placing.now.form placing.now.name.now placing.now.index.now (option_map (λ p. map step_value p.items) pointer) (view value)) }
 {
     match pointer {
         Some(pointer) => list_of_one(alloc, place_of(alloc, placing, &pointer)?),
@@ -232,15 +232,15 @@ pub fn bus_pointer(alloc: Global, bus: usize) -> Result<Vec<PointerStep>, AllocE
 // ---- loops
 
 /// Where the hops of a loop stand, one for each node: its row for the endpoint ID, or its owner where none is given.
-fn hop_places<'a, 't>(
+fn hop_places<'a, 't, 'i>(
     alloc: Global,
-    placing: &Placing<'a, 't>,
+    placing: &Placing<'a, 't, 'i>,
     plan: &'a Plan,
     eid: Option<Eid>,
     nodes: &[usize],
 ) -> Result<Value, AllocError>
-    requires { IsTextOf placing.now.text.now (value_view placing.now.tree.now) }
-    ensures { IfOk result (λ value. IsListTold (IsHopPlaced placing.now.form placing.now.name.now placing.now.text.now plan.now eid) nodes.now (view value)) }
+    requires { IsTextOf placing.now.index.now (value_view placing.now.tree.now) }
+    ensures { IfOk result (λ value. IsListTold (IsHopPlaced placing.now.form placing.now.name.now placing.now.index.now plan.now eid) nodes.now (view value)) }
 {
     let writer = HopWriter {
         placing: *placing,
@@ -252,18 +252,18 @@ fn hop_places<'a, 't>(
 
 /// Writes where nodes send what is for an endpoint ID, or where their owners stand.
 #[derive(Clone, Copy)]
-struct HopWriter<'a, 't> {
-    placing: Placing<'a, 't>,
+struct HopWriter<'a, 't, 'i> {
+    placing: Placing<'a, 't, 'i>,
     plan: &'a Plan,
     eid: Option<Eid>,
 }
 
-impl<'a, 't> Listed for HopWriter<'a, 't> {
+impl<'a, 't, 'i> Listed for HopWriter<'a, 't, 'i> {
     type Item = usize;
 
-    ghost ready = { λ s. IsTextOf s.placing.text.now (value_view s.placing.tree.now) };
+    ghost ready = { λ s. IsTextOf s.placing.index.now (value_view s.placing.tree.now) };
 
-    ghost told = { λ s n d. IsHopPlaced s.placing.form s.placing.name.now s.placing.text.now s.plan.now s.eid n d };
+    ghost told = { λ s n d. IsHopPlaced s.placing.form s.placing.name.now s.placing.index.now s.plan.now s.eid n d };
 
     fn value_of(&self, alloc: Global, item: &usize) -> Result<Value, AllocError> {
         let pointer = hop_pointer(alloc, self.plan, self.eid, *item)?;
@@ -290,14 +290,14 @@ pub fn hop_pointer(
 // ---- runs of faults
 
 /// The notes of runs of faults, in their order.
-pub fn run_notes<'a, 't>(
+pub fn run_notes<'a, 't, 'i>(
     alloc: Global,
-    placing: &Placing<'a, 't>,
+    placing: &Placing<'a, 't, 'i>,
     plan: &'a Plan,
     runs: &[FaultRun],
 ) -> Result<Value, AllocError>
-    requires { IsTextOf placing.now.text.now (value_view placing.now.tree.now) }
-    ensures { IfOk result (λ value. IsListTold (IsRunNote placing.now.form placing.now.name.now placing.now.text.now plan.now) runs.now (view value)) }
+    requires { IsTextOf placing.now.index.now (value_view placing.now.tree.now) }
+    ensures { IfOk result (λ value. IsListTold (IsRunNote placing.now.form placing.now.name.now placing.now.index.now plan.now) runs.now (view value)) }
 {
     let writer = RunWriter {
         placing: *placing,
@@ -308,17 +308,17 @@ pub fn run_notes<'a, 't>(
 
 /// Writes runs of faults.
 #[derive(Clone, Copy)]
-struct RunWriter<'a, 't> {
-    placing: Placing<'a, 't>,
+struct RunWriter<'a, 't, 'i> {
+    placing: Placing<'a, 't, 'i>,
     plan: &'a Plan,
 }
 
-impl<'a, 't> Listed for RunWriter<'a, 't> {
+impl<'a, 't, 'i> Listed for RunWriter<'a, 't, 'i> {
     type Item = FaultRun;
 
-    ghost ready = { λ s. IsTextOf s.placing.text.now (value_view s.placing.tree.now) };
+    ghost ready = { λ s. IsTextOf s.placing.index.now (value_view s.placing.tree.now) };
 
-    ghost told = { λ s run d. IsRunNote s.placing.form s.placing.name.now s.placing.text.now s.plan.now run d };
+    ghost told = { λ s run d. IsRunNote s.placing.form s.placing.name.now s.placing.index.now s.plan.now run d };
 
     fn value_of(&self, alloc: Global, item: &FaultRun) -> Result<Value, AllocError> {
         run_note(alloc, &self.placing, self.plan, item)
@@ -328,12 +328,12 @@ impl<'a, 't> Listed for RunWriter<'a, 't> {
 /// The note of a run of faults: the other that is involved is that of its first fault.
 fn run_note(
     alloc: Global,
-    placing: &Placing<'_, '_>,
+    placing: &Placing<'_, '_, '_>,
     plan: &Plan,
     run: &FaultRun,
 ) -> Result<Value, AllocError>
-    requires { IsTextOf placing.now.text.now (value_view placing.now.tree.now) }
-    ensures { IfOk result (λ value. IsRunNote placing.now.form placing.now.name.now placing.now.text.now plan.now run.now (view value)) }
+    requires { IsTextOf placing.now.index.now (value_view placing.now.tree.now) }
+    ensures { IfOk result (λ value. IsRunNote placing.now.form placing.now.name.now placing.now.index.now plan.now run.now (view value)) }
 {
     let pointer = site_pointer(alloc, run.rule, run.node, run.entry)?;
     let place = place_of(alloc, placing, &pointer)?;

@@ -1,7 +1,7 @@
 //! The JSON value of a place: in the value that the commands share, and in SARIF.
 ghost use Rattle.std.specs.Prelude.{◌≡◌, IfOk, option_map, string_bytes};
 ghost use Rattle.serde_json.specs.View.{view};
-ghost use Rattle.json_commands.specs.Places.{artifact_data, location_data, logical_data, number_or_null, physical_data, place_data, position_in, region_data, spot_data, string_or_null, uri_bytes};
+ghost use Rattle.json_commands.specs.Places.{artifact_data, located_data, location_data, logical_data, number_or_null, physical_data, place_data, position_in, region_data, spot_data, string_or_null, uri_bytes};
 
 use crate::lists::{empty_list, list_of_one};
 use command_questions::Form;
@@ -21,7 +21,19 @@ pub fn spot_of(
 ) -> Result<Value, AllocError>
     ensures { IfOk result (λ value. view value ≡ spot_data form name.now text.now offset (option_map (λ p. p.now) pointer.entry)) }
 {
-    let position = position_in(text, offset);
+    located(alloc, form, name, position_in(text, offset), pointer)
+}
+
+/// The place at a line and a column, which may not be known, and the pointer that leads there, which may lack.
+pub fn located(
+    alloc: Global,
+    form: Form,
+    name: &str,
+    position: Option<Position>,
+    pointer: Option<&str>,
+) -> Result<Value, AllocError>
+    ensures { IfOk result (λ value. view value ≡ located_data form name.now position (option_map (λ p. p.now) pointer.entry)) }
+{
     match form {
         Form::Json => place_value(alloc, name, position, pointer),
         Form::Sarif => location_value(alloc, name, position, pointer),

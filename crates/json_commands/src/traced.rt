@@ -18,6 +18,7 @@ use json::{Scratch, Value as Tree};
 use mctp_transport::Eid;
 use net_check::Checked;
 use net_plan::json_of;
+use net_pointers::TextIndex;
 use net_questions::{Way, WayStep, follow};
 use plan_values::Plan;
 use serde_json::Value;
@@ -77,22 +78,40 @@ fn steps_value(
     }
 }
 
-fn steps_in<'a, 't>(
+fn steps_in(
     alloc: Global,
-    name: &'a str,
-    text: &'a [u8],
-    tree: &'a Tree<'t>,
-    plan: &'a Plan,
+    name: &str,
+    text: &[u8],
+    tree: &Tree<'_>,
+    plan: &Plan,
     eid: Eid,
     steps: &[WayStep],
 ) -> Result<Value, AllocError>
     requires { IsTextOf text.now (value_view tree.now) }
     ensures { IfOk result (λ value. IsListTold (IsStepTold name.now text.now plan.now eid) steps.now (view value)) }
 {
+    let mut scratch = Scratch::new(alloc);
+    let index = TextIndex::of(alloc, text, &mut scratch)?;
+    steps_over(alloc, name, &index, tree, plan, eid, steps)
+}
+
+/// The same over an index of the text.
+fn steps_over<'a, 't, 'i>(
+    alloc: Global,
+    name: &'a str,
+    index: &'a TextIndex<'i>,
+    tree: &'a Tree<'t>,
+    plan: &'a Plan,
+    eid: Eid,
+    steps: &[WayStep],
+) -> Result<Value, AllocError>
+    requires { IsTextOf index.now (value_view tree.now) }
+    ensures { IfOk result (λ value. IsListTold (IsStepTold name.now index.now plan.now eid) steps.now (view value)) }
+{
     let placing = Placing {
         form: Form::Json,
         name,
-        text,
+        index,
         tree,
     };
     list_of(alloc, &StepWriter { placing, plan, eid }, steps)
@@ -100,18 +119,18 @@ fn steps_in<'a, 't>(
 
 /// Writes steps of a way.
 #[derive(Clone, Copy)]
-struct StepWriter<'a, 't> {
-    placing: Placing<'a, 't>,
+struct StepWriter<'a, 't, 'i> {
+    placing: Placing<'a, 't, 'i>,
     plan: &'a Plan,
     eid: Eid,
 }
 
-impl<'a, 't> Listed for StepWriter<'a, 't> {
+impl<'a, 't, 'i> Listed for StepWriter<'a, 't, 'i> {
     type Item = WayStep;
 
-    ghost ready = { λ s. (s.placing.form ≡ Json) × IsTextOf s.placing.text.now (value_view s.placing.tree.now) };
+    ghost ready = { λ s. (s.placing.form ≡ Json) × IsTextOf s.placing.index.now (value_view s.placing.tree.now) };
 
-    ghost told = { λ s step d. IsStepTold s.placing.name.now s.placing.text.now s.plan.now s.eid step d };
+    ghost told = { λ s step d. IsStepTold s.placing.name.now s.placing.index.now s.plan.now s.eid step d };
 
     fn value_of(&self, alloc: Global, item: &WayStep) -> Result<Value, AllocError> {
         step_told(alloc, &self.placing, self.plan, self.eid, item)
@@ -121,13 +140,13 @@ impl<'a, 't> Listed for StepWriter<'a, 't> {
 /// A step: the node, its row for the endpoint ID, the port and the next node.
 fn step_told(
     alloc: Global,
-    placing: &Placing<'_, '_>,
+    placing: &Placing<'_, '_, '_>,
     plan: &Plan,
     eid: Eid,
     step: &WayStep,
 ) -> Result<Value, AllocError>
-    requires { (placing.now.form ≡ Json) × IsTextOf placing.now.text.now (value_view placing.now.tree.now) }
-    ensures { IfOk result (λ value. IsStepTold placing.now.name.now placing.now.text.now plan.now eid step.now (view value)) }
+    requires { (placing.now.form ≡ Json) × IsTextOf placing.now.index.now (value_view placing.now.tree.now) }
+    ensures { IfOk result (λ value. IsStepTold placing.now.name.now placing.now.index.now plan.now eid step.now (view value)) }
 {
     let pointer = hop_pointer(alloc, plan, Some(eid), step.node)?;
     let place = place_of(alloc, placing, &pointer)?;

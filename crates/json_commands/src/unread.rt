@@ -18,8 +18,8 @@ use command_questions::Form;
 use json::{Scratch, Value as Tree};
 use net_plan::{PointerStep, json_of};
 use net_pointers::{
-    DoubledKey, JsonFault, NameList, Overlap, TextTrouble, Trouble, TwoIndices, list_key, name_key,
-    offset_of_key,
+    DoubledKey, JsonFault, NameList, Overlap, TextIndex, TextTrouble, Trouble, TwoIndices,
+    list_key, name_key, offset_of_key,
 };
 use reading_texts::unread_code;
 use serde_json::Value;
@@ -260,22 +260,40 @@ fn pointer_places(
     }
 }
 
-fn pointers_in<'a, 't>(
+fn pointers_in(
     alloc: Global,
     form: Form,
-    name: &'a str,
-    text: &'a [u8],
-    tree: &'a Tree<'t>,
+    name: &str,
+    text: &[u8],
+    tree: &Tree<'_>,
     pointer: &[PointerStep],
     other: Option<&[PointerStep]>,
 ) -> Result<Places, AllocError>
     requires { IsTextOf text.now (value_view tree.now) }
     ensures { IfOk result (λ places. ArePointersPlaced form name.now text.now (map step_value pointer.now) (option_map (λ p. map step_value p.now) other.entry) (view places.place) (view places.related)) }
 {
+    let mut scratch = Scratch::new(alloc);
+    let index = TextIndex::of(alloc, text, &mut scratch)?;
+    pointers_over(alloc, form, name, &index, tree, pointer, other)
+}
+
+/// The same over an index of the text.
+fn pointers_over<'a, 't, 'i>(
+    alloc: Global,
+    form: Form,
+    name: &'a str,
+    index: &'a TextIndex<'i>,
+    tree: &'a Tree<'t>,
+    pointer: &[PointerStep],
+    other: Option<&[PointerStep]>,
+) -> Result<Places, AllocError>
+    requires { IsTextOf index.now (value_view tree.now) }
+    ensures { IfOk result (λ places. ArePointersPlaced form name.now index.now (map step_value pointer.now) (option_map (λ p. map step_value p.now) other.entry) (view places.place) (view places.related)) }
+{
     let placing = Placing {
         form,
         name,
-        text,
+        index,
         tree,
     };
     let place = place_of(alloc, &placing, pointer)?;

@@ -11,11 +11,8 @@ mod path;
 mod position;
 mod ranges;
 mod scan;
-<<<<<<< HEAD
-mod spots;
-=======
 mod showing;
->>>>>>> 351af6629a7f4c6882d058bc2e74632d48cbd528
+mod spots;
 mod syntax;
 mod tape;
 mod texts;
@@ -29,10 +26,7 @@ pub use order::{Asked, NameList, TextSort, Trouble, asked_of, list_key, name_key
 pub use path::part_after;
 pub use position::{Position, position_of};
 pub use ranges::{Overlap, end_of_range, first_in_range, first_overlap};
-<<<<<<< HEAD
-pub use spots::Spot;
-=======
 pub use showing::{MOST_SHOWN, first_characters, shown_characters, shown_key};
->>>>>>> 351af6629a7f4c6882d058bc2e74632d48cbd528
+pub use spots::Spot;
 pub use syntax::{JsonFault, Wanted, closing_quote, is_blank, json_fault};
 pub use texts::{TextTrouble, no_value};
