@@ -1,5 +1,5 @@
 -- Where a spot over an index stands is where the pointer leads.
-use Rattle.std.{proofs.Common.{◌≡◌, ℕ, ◌<◌, List, Bool, true, Option, Some, None, length, nat_le, if◌then◌else◌, option_map, refl, ap, ◌∙◌, arith}, specs.Prelude.{MatchOption}, proofs.lemmas.Bool.{le-leb}}
+use Rattle.std.{proofs.Common.{◌≡◌, ℕ, ◌<◌, List, Bool, true, false, Option, Some, None, length, nat_le, if◌then◌else◌, option_map, refl, ap, ◌∙◌, arith}, specs.Prelude.{MatchOption}, proofs.lemmas.Bool.{le-leb, false≢true}}
 use Rattle.json.specs.Json.{Json}
 use Rattle.net_plan.{specs.Finding.{Step}, specs.Texts.{IsTree}, specs.Trees.{data_of}}
 use Rattle.net_pointers.{specs.Offsets.{LeadsTo}, specs.Pointers.{value_at}, specs.Spots.{IsAt}, specs.declared.position.Position.{Position}, specs.declared.spots.Spot.{Spot}}
@@ -15,6 +15,7 @@ same line column p l c =
 
 within : (t : Bool) (a b : Option Position) → t ≡ true → a ≡ (if t then a else b)
 within true a b e = refl
+within false a b e = absurd (false≢true e)
 
 pub place_told : (form : Form) (name text : List ℕ) (pointer : List Step) (j : Json) (o : Option Spot) → IsTree text j
     → MatchOption o (value_at pointer (data_of j) ≡ None) (λ spot. LeadsTo text pointer spot.offset × IsAt text spot.offset spot.position)
