@@ -7,9 +7,6 @@ pub here : (ns : List Node) (i : ℕ) (d : Node) → i < length ns → drop i (m
 here ns i d h =
     drop_more (map node_token ns) i (node_token d) (omega (arith, length-map ns node_token)) ∙ ap (λ t. t ∷ drop (i + 1) (map node_token ns)) (get_or-map node_token ns i d (node_token d) h)
 
-skipped : (n : Node) (ts rest : List Token) → skip_value 127 (node_token n ∷ ts) ≡ Some rest → option_map (λ p. p.1) (value 127 (node_token n ∷ ts)) ≡ Some rest
-skipped n ts rest e = e
-
 -- a value of one token
 pub one_passed : (n : Node) (ts rest : List Token) → ((a : ℕ) → n ≡ Object a → ⊥) → ((a : ℕ) → n ≡ Array a → ⊥) → skip_value 127 (node_token n ∷ ts) ≡ Some rest → rest ≡ ts
 one_passed (Object a) ts rest p q e = absurd (p a refl)

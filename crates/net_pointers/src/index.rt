@@ -1,8 +1,8 @@
 //! A text in which the places of many values are looked up.
 ghost use Rattle.std.specs.Prelude.{◌≡◌, Some, IfOk, IsSomeAnd, IsUtf8, slice_get};
-ghost use Rattle.json.specs.{Json.{Json}, Lex.{tokens}};
+ghost use Rattle.json.{specs.Json.{Json}, specs.Lex.{tokens}};
 ghost use Rattle.net_plan.specs.Texts.{IsTree};
-ghost use Rattle.net_pointers.specs.{Doubles.{part_at}, Spots.{AreSpots, PartIsAt}};
+ghost use Rattle.net_pointers.{specs.Doubles.{part_at}, specs.Spots.{PartIsAt}};
 
 use crate::offset::offset_of_part;
 use crate::path::path_of;
@@ -38,9 +38,9 @@ impl<'t> Model for TextIndex<'t> {
 
 impl<'t> TextIndex<'t> {
     ghost use Rattle.std.specs.Prelude.{◌≡◌, map, Some, None, IfOk, IsSomeAnd, MatchOption, IsUtf8};
-    ghost use Rattle.json.specs.{Json.{Json}, Lex.{tokens}, Value.{value_view}};
-    ghost use Rattle.net_plan.specs.{Texts.{IsTree}, Trees.{view}, Finding.{step_value}};
-    ghost use Rattle.net_pointers.specs.{Doubles.{part_at}, Offsets.{IsTextOf, LeadsTo}, Pointers.{value_at}, Spots.{IsAt, PartIsAt}};
+    ghost use Rattle.json.{specs.Json.{Json}, specs.Lex.{tokens}, specs.Value.{value_view}};
+    ghost use Rattle.net_plan.{specs.Texts.{IsTree}, specs.Trees.{view}, specs.Finding.{step_value}};
+    ghost use Rattle.net_pointers.{specs.Doubles.{part_at}, specs.Offsets.{IsTextOf, LeadsTo}, specs.Pointers.{value_at}, specs.Spots.{IsAt, PartIsAt}};
 
     /// Of a text. It takes memory for each of its tokens.
     pub fn of(alloc: Global, text: &'t [u8], scratch: &'t mut Scratch) -> Result<Self, AllocError>

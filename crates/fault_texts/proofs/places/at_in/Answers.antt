@@ -1,7 +1,7 @@
-use Rattle.std.proofs.Common.{rules, map, string_bytes, sym, subst}
+use Rattle.std.proofs.Common.{rules, map}
 use Rattle.json.specs.Value.{value_view}
 use Rattle.net_plan.specs.Finding.{step_value}
-use Rattle.fault_texts.{specs.Places.{IsAtTold}, proofs.AtTold.{at_told}}
+use Rattle.fault_texts.proofs.AtTold.{at_told}
 use Rattle.fault_texts.proofs.places.at_in.Goals as goal
 
 pub returns : goal.returns

@@ -1,4 +1,4 @@
-use Rattle.std.{proofs.Common.{rules, ◌≡◌, ℕ, ◌++◌, take}, proofs.lemmas.List.{places}, proofs.KnownBytes.{Consumes-trans}}
+use Rattle.std.{proofs.Common.{rules, ◌++◌, take}, proofs.lemmas.List.{places}, proofs.KnownBytes.{Consumes-trans}}
 use Rattle.net_plan.specs.Taken.{TakesAtMost}
 use Rattle.net_plan.proofs.stream.read_within.Goals as goal
 

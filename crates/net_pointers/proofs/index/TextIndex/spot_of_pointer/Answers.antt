@@ -1,7 +1,7 @@
 use Rattle.std.proofs.Common.{rules, map}
 use Rattle.json.specs.Value.{value_view}
 use Rattle.net_plan.specs.Finding.{step_value}
-use Rattle.net_pointers.proofs.{Indexed.{spot_leads}, Paths.{leads_nowhere}}
+use Rattle.net_pointers.{proofs.Indexed.{spot_leads}, proofs.Paths.{leads_nowhere}}
 use Rattle.net_pointers.proofs.index.TextIndex.spot_of_pointer.Goals as goal
 
 pub returns-in-Some : goal.returns-in-Some
