@@ -298,9 +298,8 @@ ROWS = [
     ("diff of many records", changed_records, 128),
     ("diff of many records of one handle", records_of_one_handle, 128),
     ("faults of many rows", broken_rows, 8),
-    ("faults of many rows, in JSON", as_json(broken_rows), 8),
     ("faults of many rows and a certificate", rows_without_ranks, 8),
-    ("faults of many records", broken_records, 512),
-    ("faults of many records, in JSON", as_json(broken_records), 512),
-    ("lint of many sensors of one ID, in JSON", as_json(sensors_of_one_id), 512),
+    ("faults of many records", broken_records, 64),
+    ("faults of many records, in JSON", as_json(broken_records), 64),
+    ("lint of many sensors of one ID, in JSON", as_json(sensors_of_one_id), 64),
 ]
