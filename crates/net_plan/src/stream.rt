@@ -154,7 +154,7 @@ pub fn read_within<S: Source>(
 }
 
 /// How many bytes a pull may give at most.
-const PIECE: usize = 8192;
+const PIECE: usize = 2048;
 
 /// Gives all bytes to a sink. No write is tried again once it has failed; the sink has then taken a beginning of the
 /// bytes.
