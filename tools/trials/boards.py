@@ -346,13 +346,14 @@ def wrong_of(trial, seed):
     return f"status {status}: {(output + error).decode()}"
 
 
-def try_all(trial):
+def try_seeds(trial, wrong_of, few, many):
+    """Tries a board of each seed: how many a word says, and behind `from` with which to begin."""
     words, first = [*trial.words], 0
     if "from" in words:
         at = words.index("from")
         first = int(words[at + 1])
         del words[at : at + 2]
-    count = int(words[0]) if words else FEW if trial.is_unproved or trial.given else COUNT
+    count = int(words[0]) if words else few if trial.is_unproved or trial.given else many
 
     def tried(seed):
         try:
@@ -362,3 +363,7 @@ def try_all(trial):
         trial.note(not wrong, f"board {seed}: {wrong}")
 
     each(tried, range(first, first + count))
+
+
+def try_all(trial):
+    try_seeds(trial, wrong_of, FEW, COUNT)

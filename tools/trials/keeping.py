@@ -12,8 +12,7 @@ tried of the proved program, 40 of another; a word that is a number says how man
 import json
 import random
 
-from boards import Board, address_on, buses_of, eids_text, given_turn, hops_over, is_covered, is_made_bridge, lacks
-from runner import each
+from boards import Board, address_on, buses_of, eids_text, given_turn, hops_over, is_covered, is_made_bridge, lacks, try_seeds
 
 COUNT, FEW = 2_000, 40
 # How many places a search tries before it gives up.
@@ -346,18 +345,4 @@ def wrong_of(trial, seed):
 
 
 def try_all(trial):
-    words, first = [*trial.words], 0
-    if "from" in words:
-        at = words.index("from")
-        first = int(words[at + 1])
-        del words[at : at + 2]
-    count = int(words[0]) if words else FEW if trial.is_unproved or trial.given else COUNT
-
-    def tried(seed):
-        try:
-            wrong = wrong_of(trial, seed)
-        except (ValueError, IndexError, KeyError, TypeError) as why:
-            wrong = f"{type(why).__name__} {why}"
-        trial.note(not wrong, f"board {seed}: {wrong}")
-
-    each(tried, range(first, first + count))
+    try_seeds(trial, wrong_of, FEW, COUNT)

@@ -6,6 +6,6 @@ mod places;
 
 pub use fault_lists::{fault_lines, more_line, obstacle_list, run_line};
 pub use places::{
-    obstacle_place, obstacle_pointer, offset_in, part_pointer, pointer_place, record_pointer,
-    row_pointer, site_pointer, way_pointer,
+    obstacle_place, obstacle_pointer, part_pointer, pointer_place, record_pointer, row_pointer,
+    site_pointer, way_pointer,
 };

@@ -109,7 +109,7 @@ pub fn at_in(
 }
 
 /// The offset to which a pointer leads in a text, where it leads to a value.
-pub fn offset_in(
+fn offset_in(
     alloc: Global,
     text: &[u8],
     tree: &Value<'_>,
