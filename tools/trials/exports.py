@@ -1,8 +1,9 @@
 """Each node of the examples in each form of export, beside what the plan itself says of it.
 
 The C source must compile as C99 without a warning, and a program that takes it in must find each row, the pool and each
-record in it. The script must be one by sh -n, and with a function in place of mctp it must call it with just the words
-that the plan gives. The answers must be cut into parts that begin where the one before ends, and together be the
+record in it; its lines have at most 100 columns, and one source takes in those of all nodes. The script must be one by
+sh -n, and with a function in place of mctp it must call it with just the words that the plan gives, also where all that
+it adds is there already. Over I3C only provisioned IDs are neighbours. The answers must be cut into parts that begin where the one before ends, and together be the
 entries of the rows; the records must be those by place, joined. Names that a shell or C would read otherwise are tried
 besides. It needs a C compiler (cc), and says where that is missing.
 """
@@ -13,15 +14,15 @@ import subprocess
 
 from runner import RISER, TOP, kind_of
 
-# the binding of SMBus and I2C
-SMBUS = 1
+# the bindings of SMBus and I2C, and of I3C
+SMBUS, I3C = 1, 6
 C_PROGRAM = """#include "node.c"
 #include <stdio.h>
 
 int main(void) {{
-    printf("%u %u %u\\n", {id}_eid, {id}_pool_first, {id}_pool_size);
+    printf("%u %u %u %u\\n", {id}_unit, {id}_eid, {id}_pool_first, {id}_pool_size);
     for (size_t i = 0; i < {id}_row_count; i++) {{
-        const struct {id}_row *row = &{id}_rows[i];
+        const struct mctpplan_row *row = &{id}_rows[i];
         printf("row %u %u %u %u ", row->first, row->size, row->port, row->next_eid);
         for (uint8_t j = 0; j < row->address_length; j++) printf("%02x", row->address[j]);
         printf("\\n");
@@ -31,7 +32,7 @@ int main(void) {{
 """
 C_RECORDS = """    printf("tid %u size %u\\n", {id}_tid, (unsigned)sizeof {id}_repository);
     for (size_t i = 0; i < {id}_record_count; i++) {{
-        const struct {id}_record *record = &{id}_records[i];
+        const struct mctpplan_record *record = &{id}_records[i];
         printf("record %lu ", (unsigned long)record->handle);
         for (uint32_t j = 0; j < record->length; j++) printf("%02x", {id}_repository[record->offset + j]);
         printf("\\n");
@@ -58,6 +59,9 @@ class Node:
         ports = self.nodes[row["next"]]["ports"]
         return bytes.fromhex(next(it["address"] for it in ports if it["bus"] == self.bus(row)))
 
+    def lacks_pid(self, row):
+        return self.buses[self.bus(row)]["binding"] == I3C and len(self.address(row)) not in (0, 6)
+
     def id(self):
         cleaned = "".join(it if it.isascii() and it.isalnum() else "_" for it in self.name)
         return cleaned if cleaned[0].isalpha() else "node_" + cleaned
@@ -65,7 +69,7 @@ class Node:
     def told_in_c(self):
         """What the program in C prints."""
         pool = self.node["pool"] or {"first": 0, "size": 0}
-        yield f"{self.node['eid']} {pool['first']} {pool['size']}"
+        yield f"{self.plan.get('unit', 64)} {self.node['eid']} {pool['first']} {pool['size']}"
         for row in self.rows:
             yield f"row {row['first']} {row['size']} {row['port']} {self.nodes[row['next']]['eid']} {self.address(row).hex()}"
         if self.node["terminus"]:
@@ -86,7 +90,7 @@ class Node:
             yield f"route add {row['first'] if row['size'] == 1 else str(row['first']) + '-' + str(last)} via {device(self.bus(row))}"
         for row in self.rows:
             address = [it >> 1 if self.buses[self.bus(row)]["binding"] == SMBUS else it for it in self.address(row)]
-            for eid in range(row["first"], row["first"] + row["size"]) if address else ():
+            for eid in range(row["first"], row["first"] + row["size"]) if address and not self.lacks_pid(row) else ():
                 yield f"neigh add {eid} dev {device(self.bus(row))} lladdr 0x" + ":".join(f"{it:02x}" for it in address)
 
     def entries(self):
@@ -126,7 +130,9 @@ def accepted():
 
 
 def compiled(trial, node, source, compiler):
-    """What the program in C prints, or why it doesn't compile."""
+    """What the program in C prints, or why it doesn't compile, or has a line that is too long."""
+    if any(len(line) > 100 for line in source.decode().splitlines()):
+        return "a line of over 100 columns"
     folder = trial.file(f"{compiler}-node", "").with_suffix(".d")
     folder.mkdir(exist_ok=True)
     (folder / "node.c").write_bytes(source)
@@ -139,9 +145,10 @@ def compiled(trial, node, source, compiler):
     return subprocess.run([folder / "main"], capture_output=True, text=True, timeout=60).stdout
 
 
-def called(trial, script):
-    """The words with which a script calls mctp, or why it is none."""
-    path = trial.file("node.sh", b"mctp() { printf '%s\\n' \"$*\"; }\n" + script)
+def called(trial, script, status=0):
+    """The words with which a script calls mctp, whose commands that add end with the status, or why it is none."""
+    mctp = "mctp() { printf '%s\\n' \"$*\"; [ \"$2\" != add ] || return STATUS; }\n".replace("STATUS", str(status))
+    path = trial.file("node.sh", mctp.encode() + script)
     read = subprocess.run(["sh", "-n", path], capture_output=True, text=True, timeout=60)
     if read.returncode:
         return read.stderr
@@ -157,8 +164,9 @@ def faults(trial, files, node, compilers):
     links = {bus: "mctpi2c7"} if bus else {}
     for devices in ({}, links):
         status, script, error = export("linux", *(f"--link={bus}={device}" for bus, device in devices.items()))
-        if (status, error, called(trial, script)) != (0, b"", lines(node.commands(devices))):
-            yield f"linux: {called(trial, script)}"
+        for found in (called(trial, script), called(trial, script, 1)):
+            if (status, error, found) != (0, b"", lines(node.commands(devices))):
+                yield f"linux: {error} {found}"
     for compiler in compilers:
         status, source, error = export("c")
         told = compiled(trial, node, source, compiler)
@@ -181,17 +189,39 @@ def renamed(trial):
     return trial.file("renamed-plan.json", text[0]), trial.file("renamed-certificate.json", text[1])
 
 
+def over_i3c(trial):
+    """Plans of the riser network over I3C, one with a provisioned ID."""
+    text = (RISER / "plan.json").read_text().replace('"name":"b1","binding":1', '"name":"b1","binding":6')
+    yield trial.file("i3c-plan.json", text), RISER / "certificate.json"
+    yield trial.file("pid-plan.json", text.replace('"b1","address":"22"', '"b1","address":"02aabbccddee"')), RISER / "certificate.json"
+
+
+def faults_together(trial, files, nodes, compiler):
+    """What is wrong where one source takes in those of all nodes."""
+    folder = trial.file("together", "").with_suffix(".d")
+    folder.mkdir(exist_ok=True)
+    for place, node in enumerate(nodes):
+        (folder / f"{place}.c").write_bytes(trial.run(["export", "c", *files, node.name])[1])
+    (folder / "all.c").write_text("".join(f'#include "{place}.c"\n' for place in range(len(nodes))))
+    flags = ["-std=c99", "-Wall", "-Wextra", "-Werror", "-pedantic", "-c"]
+    return subprocess.run([compiler, *flags, "all.c", "-o", "all.o"], cwd=folder, capture_output=True, text=True, timeout=600).stderr
+
+
 def try_all(trial):
     # (cc is mostly one of the others)
     compilers = sorted({str(pathlib.Path(shutil.which(it)).resolve()): it for it in ("cc", "gcc", "clang") if shutil.which(it)}.values())
     if not compilers:
         return trial.skip("a C compiler is not there")
-    for plan, certificate in [*accepted(), renamed(trial)]:
+    for plan, certificate in [*accepted(), renamed(trial), *over_i3c(trial)]:
         if trial.run(["check", plan, certificate])[1] != b"yes\n":
             continue
         parsed = json.loads(plan.read_text()), json.loads(certificate.read_text())
-        for it in parsed[0]["nodes"]:
-            node, name = Node(*parsed, it), f"{plan.name} {certificate.name} {it['name']}"
+        nodes = [Node(*parsed, it) for it in parsed[0]["nodes"]]
+        if trial.has(f"{plan.name} {certificate.name}"):
+            wrong = faults_together(trial, [plan, certificate], nodes, compilers[0])
+            trial.note(not wrong, f"{plan.parent.name} {plan.name}: {wrong}")
+        for node in nodes:
+            name = f"{plan.name} {certificate.name} {node.name}"
             if trial.has(name):
                 wrong = [*faults(trial, [plan, certificate], node, compilers)]
                 trial.note(not wrong, f"{plan.parent.name} {name}: {wrong}")

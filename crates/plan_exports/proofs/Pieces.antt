@@ -12,6 +12,9 @@ two_are a b c d e f = ap (λ t. t ++ b) e ∙ ap (λ t. c ++ t) f
 pub four_are : (a b c d w x y z : List ℕ) → a ≡ w → b ≡ x → c ≡ y → d ≡ z → a ++ (b ++ (c ++ d)) ≡ w ++ (x ++ (y ++ z))
 four_are a b c d w x y z e f g h = two_are a _ w _ e (two_are b _ x _ f (two_are c _ y _ g h))
 
+pub three_are : (a b c x y z : List ℕ) → a ≡ x → b ≡ y → c ≡ z → a ++ (b ++ c) ≡ x ++ (y ++ z)
+three_are a b c x y z e f g = two_are a _ x _ e (two_are b c y z f g)
+
 pub six_are : (a b c d e f u v w x y z : List ℕ) → a ≡ u → b ≡ v → c ≡ w → d ≡ x → e ≡ y → f ≡ z
     → a ++ (b ++ (c ++ (d ++ (e ++ f)))) ≡ u ++ (v ++ (w ++ (x ++ (y ++ z))))
 six_are a b c d e f u v w x y z p q r s t o = two_are a _ u _ p (two_are b _ v _ q (four_are c d e f w x y z r s t o))

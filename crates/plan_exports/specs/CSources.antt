@@ -1,8 +1,9 @@
 -- The C source of a node's tables.
-use Rattle.std.{specs.Prelude.{◌≡◌, ℕ, ◌+◌, ◌&&◌, ◌||◌, Bool, List, [], ◌∷◌, ◌++◌, codes, if◌then◌else◌, length, nat_le, Option, Some, None, option_map, unwrap_or}, specs.Fmt.{decimal}, specs.List.{flat_map}}
+use Rattle.std.{specs.Prelude.{◌≡◌, ℕ, ◌+◌, ◌%◌, ◌==◌, ◌&&◌, ◌||◌, Bool, List, [], ◌∷◌, ◌++◌, codes, if◌then◌else◌, length, nat_le, Option, Some, None, option_map, unwrap_or}, specs.Fmt.{decimal}, specs.List.{flat_map}}
 use Rattle.plan_values.{specs.declared.nodes.Pool.{Pool}, specs.declared.plan.Plan.{Plan}}
 use Rattle.net_tables.{specs.Ownership.{pool_of}, specs.Routing.{eid_of}, specs.Names.{node_name}}
 use Rattle.pdr_repository.specs.Records.{Entry, entries}
+use Rattle.hex.specs.Hex.{encode_lower}
 use Rattle.plan_exports.{specs.PlannedRows.{RowFacts, ArePlannedRows}, specs.declared.c_sources.CTerminus.{CTerminus}, specs.Words.{hex_list}}
 
 -- ---- names
@@ -26,9 +27,27 @@ identifier name = identifier_front name ++ flat_map (λ b. cleaned b ∷ []) nam
 
 -- ---- what stands in the source
 
+-- the types that the sources of all nodes have in common, once in whatever takes in several
+abbrev pub types_text : List ℕ
+types_text = codes "#ifndef MCTPPLAN_TYPES\n#define MCTPPLAN_TYPES\n#include <stddef.h>\n#include <stdint.h>\n\n"
+    ++ (codes "/* A row: its first endpoint ID, its size, its port, the next node's endpoint ID and address. */\n"
+    ++ (codes "struct mctpplan_row {\n    uint8_t first, size, port, next_eid, address_length, address[8];\n};\n\n"
+    ++ (codes "/* Where a record stands in the repository. */\nstruct mctpplan_record {\n    uint32_t handle;\n"
+    ++ codes "    uint32_t offset;\n    uint32_t length;\n};\n#endif\n")))
+
+-- the node's name, then these types
+abbrev pub head_of_types : (name types : List ℕ) → List ℕ
+head_of_types name types = codes "/* The node " ++ (name
+    ++ (codes " of a planned MCTP network.\n   Made by mctpplan export c. */\n" ++ types))
+
 abbrev pub head_text : List ℕ → List ℕ
-head_text name = codes "/* The node " ++ (name
-    ++ codes " of a planned MCTP network. Made by mctpplan export c. */\n#include <stddef.h>\n#include <stdint.h>\n")
+head_text name = head_of_types name types_text
+
+-- the transmission unit of the plan
+abbrev pub unit_text : List ℕ → ℕ → List ℕ
+unit_text id unit =
+    codes "\n/* The transmission unit of the plan: the most payload bytes of a packet. */\nconst uint16_t "
+    ++ (id ++ (codes "_unit = " ++ (decimal unit ++ codes ";\n")))
 
 abbrev pub eid_text : List ℕ → ℕ → List ℕ
 eid_text id eid =
@@ -47,11 +66,6 @@ pool_text id first size =
     ++ (id ++ (codes "_pool_first = " ++ (decimal first ++ (codes ";\nconst uint8_t " ++ (id ++ (codes "_pool_size = "
     ++ (decimal size ++ codes ";\n")))))))
 
-abbrev pub row_type_text : List ℕ → List ℕ
-row_type_text id =
-    codes "\n/* A row: its first endpoint ID, its size, its port, the next node's endpoint ID and address. */\nstruct "
-    ++ (id ++ codes "_row {\n    uint8_t first, size, port, next_eid, address_length, address[8];\n};\n")
-
 -- the bytes of an address between braces; 0 where there are none
 abbrev pub address_list : List ℕ → List ℕ
 address_list [] = codes "0"
@@ -63,9 +77,10 @@ abbrev pub numbers_text : (first size port eid count : ℕ) → List ℕ
 numbers_text first size port eid count = codes "    {" ++ (decimal first ++ (codes ", " ++ (decimal size ++ (codes ", "
     ++ (decimal port ++ (codes ", " ++ (decimal eid ++ (codes ", " ++ (decimal count ++ codes ", {")))))))))
 
--- these numbers, the address, and in a comment the next node's name
+-- in a comment the next node's name, then these numbers and the address
 abbrev pub row_of_words : (numbers address name : List ℕ) → List ℕ
-row_of_words numbers address name = numbers ++ (address ++ (codes "}}, /* to " ++ (name ++ codes " */\n")))
+row_of_words numbers address name =
+    codes "    /* to " ++ (name ++ (codes " */\n" ++ (numbers ++ (address ++ codes "}},\n"))))
 
 abbrev pub row_line : Plan → RowFacts → List ℕ
 row_line plan row = row_of_words (numbers_text row.first row.size row.port row.eid (length row.address))
@@ -79,8 +94,8 @@ row_lines plan (row ∷ rows) = flat_map (row_line plan) (row ∷ rows)
 abbrev pub rows_of_lines : List ℕ → ℕ → List ℕ → List ℕ
 rows_of_lines id count lines =
     codes "\n/* The routing table, lower endpoint IDs first. */\nconst size_t " ++ (id ++ (codes "_row_count = "
-    ++ (decimal count ++ (codes ";\nconst struct " ++ (id ++ (codes "_row " ++ (id ++ (codes "_rows[] = {\n"
-    ++ (lines ++ codes "};\n")))))))))
+    ++ (decimal count ++ (codes ";\nconst struct mctpplan_row " ++ (id ++ (codes "_rows[] = {\n"
+    ++ (lines ++ codes "};\n")))))))
 
 -- how many rows there are, and each
 abbrev pub rows_text : Plan → List ℕ → List RowFacts → List ℕ
@@ -93,19 +108,25 @@ tid_text id tid =
     codes "\n/* The terminus ID, 0 where it has none yet. */\nconst uint8_t " ++ (id ++ (codes "_tid = "
     ++ (decimal tid ++ codes ";\n")))
 
--- the bytes of a record
-abbrev pub bytes_line : Entry → List ℕ
-bytes_line entry = codes "    0x" ++ (hex_list (codes ", 0x") entry.bytes ++ codes ",\n")
+-- the byte at an index: the first of a line, where sixteen are, or one behind another
+abbrev pub byte_text : ℕ → ℕ → List ℕ
+byte_text i byte = (if i % 16 == 0 then codes "\n    " else codes " ")
+    ++ (codes "0x" ++ (encode_lower (byte ∷ []) ++ codes ","))
+
+-- bytes, of which the first has this index
+abbrev pub bytes_from : ℕ → List ℕ → List ℕ
+bytes_from i [] = []
+bytes_from i (byte ∷ bytes) = byte_text i byte ++ bytes_from (i + 1) bytes
+
+-- the bytes of a record, in lines of sixteen
+abbrev pub bytes_text : Entry → List ℕ
+bytes_text entry = bytes_from 0 entry.bytes
 
 abbrev pub repository_text : List ℕ → List Entry → List ℕ
 repository_text id records =
     codes "\n/* The records of the repository, one after another. */\nconst uint8_t " ++ (id
-    ++ (codes "_repository[] = {\n"
-    ++ (flat_map bytes_line records ++ codes "};\n")))
-
-abbrev pub record_type_text : List ℕ → List ℕ
-record_type_text id = codes "\n/* Where a record stands in the repository. */\nstruct " ++ (id
-    ++ codes "_record {\n    uint32_t handle;\n    uint32_t offset;\n    uint32_t length;\n};\n")
+    ++ (codes "_repository[] = {"
+    ++ (flat_map bytes_text records ++ codes "\n};\n")))
 
 abbrev pub record_line : (handle offset size : ℕ) → List ℕ
 record_line handle offset size =
@@ -121,9 +142,9 @@ record_lines offset (entry ∷ entries) =
 abbrev pub records_of_lines : List ℕ → ℕ → List ℕ → List ℕ
 records_of_lines id count lines =
     codes "\n/* The records, in the order of their next handles. */\nconst size_t " ++ (id
-    ++ (codes "_record_count = " ++ (decimal count ++ (codes ";\nconst struct " ++ (id ++ (codes "_record "
+    ++ (codes "_record_count = " ++ (decimal count ++ (codes ";\nconst struct mctpplan_record "
     ++ (id ++ (codes "_records[] = {\n"
-    ++ (lines ++ codes "};\n")))))))))
+    ++ (lines ++ codes "};\n")))))))
 
 -- how many records there are, and where each stands
 abbrev pub records_text : List ℕ → List Entry → List ℕ
@@ -140,15 +161,16 @@ terminus_facts terminus = record { tid = terminus.tid; records = entries terminu
 abbrev pub terminus_text : List ℕ → Option TerminusFacts → List ℕ
 terminus_text id None = []
 terminus_text id (Some terminus) = tid_text id terminus.tid ++ (repository_text id terminus.records
-    ++ (record_type_text id ++ records_text id terminus.records))
+    ++ records_text id terminus.records)
 
 -- the whole source, each name of which begins so
 abbrev pub named_text : Plan → ℕ → List ℕ → List RowFacts → Option TerminusFacts → List ℕ
 named_text plan n id rows terminus =
     head_text (node_name plan n)
+    ++ (unit_text id plan.unit
     ++ (eid_text id (unwrap_or (eid_of plan n) 0)
     ++ (pool_text id (pool_first (pool_of plan n)) (pool_size (pool_of plan n))
-    ++ (row_type_text id ++ (rows_text plan id rows ++ terminus_text id terminus))))
+    ++ (rows_text plan id rows ++ terminus_text id terminus))))
 
 abbrev pub c_text : Plan → ℕ → List RowFacts → Option TerminusFacts → List ℕ
 c_text plan n rows terminus = named_text plan n (identifier (node_name plan n)) rows terminus

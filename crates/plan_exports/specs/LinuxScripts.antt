@@ -1,5 +1,5 @@
 -- The shell script that gives a Linux node its planned state.
-use Rattle.std.{specs.Prelude.{◌≡◌, ℕ, ◌+◌, ◌-◌, ◌/◌, ◌==◌, List, [], ◌++◌, codes, if◌then◌else◌, filter, length, Option, Some, None, map, unwrap_or}, specs.Fmt.{decimal}, specs.List.{flat_map, list_any, range_with_len}}
+use Rattle.std.{specs.Prelude.{◌≡◌, ℕ, ◌+◌, ◌-◌, ◌/◌, ◌==◌, ◌&&◌, not, List, [], ◌++◌, codes, if◌then◌else◌, filter, length, Option, Some, None, map, unwrap_or}, specs.Fmt.{decimal}, specs.List.{flat_map, list_any, range_with_len}}
 use Rattle.plan_values.specs.declared.plan.Plan.{Plan}
 use Rattle.net_tables.{specs.Routing.{eid_of, ports_of}, specs.Names.{bus_name, node_name}}
 use Rattle.plan_exports.{specs.Devices.{AreDevices, device_at}, specs.Neighbors.{bus_numbers}, specs.PlannedRows.{RowFacts, ArePlannedRows}, specs.Words.{hex_list}, specs.declared.links.Link.{Link}}
@@ -17,7 +17,8 @@ device_on devices None = codes "-"
 -- what the script begins with
 abbrev pub head_lines : Plan → ℕ → List ℕ
 head_lines plan n = codes "#!/bin/sh\n# The planned state of the node " ++ (node_name plan n
-    ++ codes ". Made by mctpplan export linux.\nset -e\n")
+    ++ (codes ". Made by mctpplan export linux.\n"
+    ++ codes "# `|| true` stands where a thing may be there already, from an earlier run.\nset -e\n"))
 
 -- a device is set up, with packets of the plan's transmission unit and four bytes of header
 abbrev pub link_lines : Plan → List (List ℕ) → ℕ → List ℕ
@@ -29,7 +30,7 @@ link_lines plan devices bus = codes "mctp link set " ++ (device_at devices bus +
 -- the node has its endpoint ID there
 abbrev pub eid_line : Plan → ℕ → List (List ℕ) → ℕ → List ℕ
 eid_line plan n devices bus = codes "mctp addr add " ++ (decimal (unwrap_or (eid_of plan n) 0) ++ (codes " dev "
-    ++ (device_at devices bus ++ (codes " # node " ++ (node_name plan n ++ codes "\n")))))
+    ++ (device_at devices bus ++ (codes " || true # node " ++ (node_name plan n ++ codes "\n")))))
 
 -- the first and the last of several endpoint IDs
 abbrev pub span_text : (first size : ℕ) → List ℕ
@@ -42,12 +43,22 @@ range_text first size = if size == 1 then decimal first else span_text first siz
 -- packets to a row's endpoint IDs leave by its device
 abbrev pub route_line : Plan → List (List ℕ) → RowFacts → List ℕ
 route_line plan devices row = codes "mctp route add " ++ (range_text row.first row.size ++ (codes " via "
-    ++ (device_on devices row.bus ++ (codes " # to " ++ (node_name plan row.next ++ codes "\n")))))
+    ++ (device_on devices row.bus ++ (codes " || true # to " ++ (node_name plan row.next ++ codes "\n")))))
 
 -- packets to an endpoint ID go to an address there, which is a node's
-abbrev pub neighbor_line : (device address name : List ℕ) → ℕ → List ℕ
-neighbor_line device address name eid = codes "mctp neigh add " ++ (decimal eid ++ (codes " dev " ++ (device
-    ++ (codes " lladdr 0x" ++ (hex_list (codes ":") address ++ (codes " # of " ++ (name ++ codes "\n")))))))
+abbrev pub neighbor_command : (device address name : List ℕ) → ℕ → List ℕ
+neighbor_command device address name eid = codes "mctp neigh add " ++ (decimal eid ++ (codes " dev " ++ (device
+    ++ (codes " lladdr 0x" ++ (hex_list (codes ":") address ++ (codes " || true # of " ++ (name ++ codes "\n")))))))
+
+-- such a command behind a text
+abbrev pub neighbor_line : (front device address name : List ℕ) → ℕ → List ℕ
+neighbor_line front device address name eid = front ++ neighbor_command device address name eid
+
+-- Over I3C (binding 6) Linux names a neighbour by its provisioned ID, which has six bytes. Where the plan has another
+-- address the line is a comment.
+abbrev pub neighbor_front : ℕ → List ℕ → List ℕ
+neighbor_front binding address =
+    if (binding == 6) && not (length address == 6) then codes "# no PID in the plan: " else []
 
 -- A byte of an address on a bus of a binding as Linux has it. Over SMBus and I2C (binding 1) the byte of a routing
 -- entry has the seven bits of the address above a clear bit (DSP0237), which Linux leaves out.
@@ -60,7 +71,8 @@ link_address binding address = map (link_byte binding) address
 -- so do those to each of a row's endpoint IDs, where the next node has an address
 abbrev pub neighbor_lines : Plan → List (List ℕ) → RowFacts → List ℕ
 neighbor_lines plan devices row = if length row.address == 0 then []
-    else flat_map (neighbor_line (device_on devices row.bus) (link_address (bus_numbers plan row.bus).0 row.address)
+    else flat_map (neighbor_line (neighbor_front (bus_numbers plan row.bus).0 row.address) (device_on devices row.bus)
+    (link_address (bus_numbers plan row.bus).0 row.address)
     (node_name plan row.next)) (range_with_len row.first row.size)
 
 -- a line for each command

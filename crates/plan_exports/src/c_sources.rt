@@ -2,7 +2,7 @@
 ghost use Rattle.std.{specs.Prelude.{◌≡◌, ◌+◌, ◌++◌, IfOk, map, option_map, string_bytes, unwrap_or}, specs.List.{flat_map}};
 ghost use Rattle.net_tables.{specs.Routing.{eid_of, rows_of}, specs.Tables.{AreRows}};
 ghost use Rattle.pdr_repository.specs.Records.{entries, entry_of};
-ghost use Rattle.plan_exports.{specs.CSources.{IsCSource, address_list, bytes_line, c_text, eid_text, head_text, named_text, numbers_text, pool_first, pool_size, pool_text, record_line, record_lines, record_type_text, records_of_lines, records_text, repository_text, row_line, row_lines, row_of_words, row_type_text, rows_of_lines, rows_text, terminus_facts, terminus_text, tid_text}, specs.PlannedRows.{row_facts}};
+ghost use Rattle.plan_exports.{specs.CSources.{IsCSource, address_list, byte_text, bytes_from, bytes_text, c_text, eid_text, head_of_types, head_text, named_text, numbers_text, pool_first, pool_size, pool_text, record_line, record_lines, records_of_lines, records_text, repository_text, row_line, row_lines, row_of_words, rows_of_lines, rows_text, terminus_facts, terminus_text, tid_text, types_text, unit_text}, specs.PlannedRows.{row_facts}};
 
 use crate::identifiers::identifier;
 use crate::rows::{PlannedRow, planned_rows};
@@ -65,12 +65,12 @@ fn named_source(
     ensures { IfOk result (λ text. string_bytes text ≡ named_text plan.now node id.now (map row_facts rows.now) (option_map terminus_facts terminus.entry)) }
 {
     let head = head_text(alloc, node_name(plan, node))?;
+    let unit = unit_text(alloc, id, plan.unit)?;
     let eid = eid_text(alloc, id, eid_of(plan, node))?;
     let pool = pool_of_node(alloc, id, pool_at(plan, node))?;
-    let row_type = row_type_text(alloc, id)?;
     let rows = rows_text(alloc, plan, id, rows)?;
     let terminus = terminus_text(alloc, id, terminus)?;
-    six_texts(alloc, &head, &eid, &pool, &row_type, &rows, &terminus)
+    six_texts(alloc, &head, &unit, &eid, &pool, &rows, &terminus)
 }
 
 /// The endpoint ID of a node, 0 where there is no such node.
@@ -97,8 +97,29 @@ fn six_texts(
 fn head_text(alloc: Global, name: &str) -> Result<String, AllocError>
     ensures { IfOk result (λ text. string_bytes text ≡ head_text name.now) }
 {
+    head_of_types(alloc, name, types_text())
+}
+
+fn head_of_types(alloc: Global, name: &str, types: &str) -> Result<String, AllocError>
+    ensures { IfOk result (λ text. string_bytes text ≡ head_of_types name.now types.now) }
+{
     format!(in alloc;
-        "/* The node {name} of a planned MCTP network. Made by mctpplan export c. */\n#include <stddef.h>\n#include <stdint.h>\n"
+        "/* The node {name} of a planned MCTP network.\n   Made by mctpplan export c. */\n{types}"
+    )
+}
+
+/// The types that the sources of all nodes have in common.
+fn types_text() -> &'static str
+    ensures { result.now ≡ types_text }
+{
+    "#ifndef MCTPPLAN_TYPES\n#define MCTPPLAN_TYPES\n#include <stddef.h>\n#include <stdint.h>\n\n/* A row: its first endpoint ID, its size, its port, the next node's endpoint ID and address. */\nstruct mctpplan_row {\n    uint8_t first, size, port, next_eid, address_length, address[8];\n};\n\n/* Where a record stands in the repository. */\nstruct mctpplan_record {\n    uint32_t handle;\n    uint32_t offset;\n    uint32_t length;\n};\n#endif\n"
+}
+
+fn unit_text(alloc: Global, id: &str, unit: u16) -> Result<String, AllocError>
+    ensures { IfOk result (λ text. string_bytes text ≡ unit_text id.now unit) }
+{
+    format!(in alloc;
+        "\n/* The transmission unit of the plan: the most payload bytes of a packet. */\nconst uint16_t {id}_unit = {unit};\n"
     )
 }
 
@@ -125,14 +146,6 @@ fn pool_text(alloc: Global, id: &str, first: u8, size: u8) -> Result<String, All
     )
 }
 
-fn row_type_text(alloc: Global, id: &str) -> Result<String, AllocError>
-    ensures { IfOk result (λ text. string_bytes text ≡ row_type_text id.now) }
-{
-    format!(in alloc;
-        "\n/* A row: its first endpoint ID, its size, its port, the next node's endpoint ID and address. */\nstruct {id}_row {{\n    uint8_t first, size, port, next_eid, address_length, address[8];\n}};\n"
-    )
-}
-
 fn rows_text(
     alloc: Global,
     plan: &Plan,
@@ -149,7 +162,7 @@ fn rows_of_lines(alloc: Global, id: &str, count: usize, lines: &str) -> Result<S
     ensures { IfOk result (λ text. string_bytes text ≡ rows_of_lines id.now count lines.now) }
 {
     format!(in alloc;
-        "\n/* The routing table, lower endpoint IDs first. */\nconst size_t {id}_row_count = {count};\nconst struct {id}_row {id}_rows[] = {{\n{lines}}};\n"
+        "\n/* The routing table, lower endpoint IDs first. */\nconst size_t {id}_row_count = {count};\nconst struct mctpplan_row {id}_rows[] = {{\n{lines}}};\n"
     )
 }
 
@@ -206,7 +219,7 @@ fn row_of_words(
 ) -> Result<String, AllocError>
     ensures { IfOk result (λ text. string_bytes text ≡ row_of_words numbers.now address.now name.now) }
 {
-    format!(in alloc; "{numbers}{address}}}}}, /* to {name} */\n")
+    format!(in alloc; "    /* to {name} */\n{numbers}{address}}}}},\n")
 }
 
 /// The bytes of an address, or 0 where there are none.
@@ -239,19 +252,18 @@ fn repository_parts(
     records: &[Record],
 ) -> Result<String, AllocError>
     ensures { IfOk result (λ text. string_bytes text ≡ tid_text id.now tid ++ (repository_text id.now (entries records.now)
-        ++ (record_type_text id.now ++ records_text id.now (entries records.now)))) }
+        ++ records_text id.now (entries records.now))) }
 {
     let tid = tid_text(alloc, id, tid)?;
     let repository = repository_text(alloc, id, records)?;
-    let record_type = record_type_text(alloc, id)?;
     let index = records_text(alloc, id, records)?;
-    four_texts(alloc, &tid, &repository, &record_type, &index)
+    three_texts(alloc, &tid, &repository, &index)
 }
 
-fn four_texts(alloc: Global, a: &str, b: &str, c: &str, d: &str) -> Result<String, AllocError>
-    ensures { IfOk result (λ text. string_bytes text ≡ a.now ++ (b.now ++ (c.now ++ d.now))) }
+fn three_texts(alloc: Global, a: &str, b: &str, c: &str) -> Result<String, AllocError>
+    ensures { IfOk result (λ text. string_bytes text ≡ a.now ++ (b.now ++ c.now)) }
 {
-    format!(in alloc; "{a}{b}{c}{d}")
+    format!(in alloc; "{a}{b}{c}")
 }
 
 fn tid_text(alloc: Global, id: &str, tid: u8) -> Result<String, AllocError>
@@ -267,34 +279,45 @@ fn repository_text(alloc: Global, id: &str, records: &[Record]) -> Result<String
 {
     let lines = bytes_lines(alloc, records)?;
     format!(in alloc;
-        "\n/* The records of the repository, one after another. */\nconst uint8_t {id}_repository[] = {{\n{lines}}};\n"
+        "\n/* The records of the repository, one after another. */\nconst uint8_t {id}_repository[] = {{{lines}\n}};\n"
     )
 }
 
-/// The bytes of each record, in a line of its own.
+/// The bytes of the records, those of each from a new line on.
 fn bytes_lines(alloc: Global, records: &[Record]) -> Result<String, AllocError>
-    ensures { IfOk result (λ text. string_bytes text ≡ flat_map bytes_line (entries records.now)) }
+    ensures { IfOk result (λ text. string_bytes text ≡ flat_map bytes_text (entries records.now)) }
 {
     let mut text = String::new(alloc);
     for record in records {
-        text.push_str(&bytes_line(alloc, record)?)?;
+        text.push_str(&bytes_text(alloc, record)?)?;
     }
     Ok(text)
 }
 
-fn bytes_line(alloc: Global, entry: &Record) -> Result<String, AllocError>
-    ensures { IfOk result (λ text. string_bytes text ≡ bytes_line (entry_of entry.now)) }
+/// The bytes of a record.
+fn bytes_text(alloc: Global, entry: &Record) -> Result<String, AllocError>
+    ensures { IfOk result (λ text. string_bytes text ≡ bytes_text (entry_of entry.now)) }
 {
-    let bytes = hex_list(alloc, ", 0x", &entry.1)?;
-    format!(in alloc; "    0x{bytes},\n")
+    bytes_from_first(alloc, &entry.1)
 }
 
-fn record_type_text(alloc: Global, id: &str) -> Result<String, AllocError>
-    ensures { IfOk result (λ text. string_bytes text ≡ record_type_text id.now) }
+fn bytes_from_first(alloc: Global, bytes: &[u8]) -> Result<String, AllocError>
+    ensures { IfOk result (λ text. string_bytes text ≡ bytes_from 0 bytes.now) }
 {
-    format!(in alloc;
-        "\n/* Where a record stands in the repository. */\nstruct {id}_record {{\n    uint32_t handle;\n    uint32_t offset;\n    uint32_t length;\n}};\n"
-    )
+    let mut text = String::new(alloc);
+    for (index, byte) in bytes.iter().enumerate() {
+        text.push_str(&byte_text(alloc, index, *byte)?)?;
+    }
+    Ok(text)
+}
+
+/// The byte at an index. Each sixteenth begins a line.
+fn byte_text(alloc: Global, index: usize, byte: u8) -> Result<String, AllocError>
+    ensures { IfOk result (λ text. string_bytes text ≡ byte_text index byte) }
+{
+    let front = if index % 16 == 0 { "\n    " } else { " " };
+    let digits = hex::encode(alloc, &[byte])?;
+    format!(in alloc; "{front}0x{digits},")
 }
 
 fn records_text(alloc: Global, id: &str, records: &[Record]) -> Result<String, AllocError>
@@ -313,7 +336,7 @@ fn records_of_lines(
     ensures { IfOk result (λ text. string_bytes text ≡ records_of_lines id.now count lines.now) }
 {
     format!(in alloc;
-        "\n/* The records, in the order of their next handles. */\nconst size_t {id}_record_count = {count};\nconst struct {id}_record {id}_records[] = {{\n{lines}}};\n"
+        "\n/* The records, in the order of their next handles. */\nconst size_t {id}_record_count = {count};\nconst struct mctpplan_record {id}_records[] = {{\n{lines}}};\n"
     )
 }
 

@@ -1,7 +1,7 @@
 //! The shell script that gives a Linux node its planned state, with the tool `mctp`.
 ghost use Rattle.std.{specs.Prelude.{◌≡◌, ◌++◌, ◌∷◌, [], if◌then◌else◌, IfOk, OnOk, map, string_bytes}, specs.List.{flat_map, range_with_len}, specs.Fmt.{decimal}};
 ghost use Rattle.net_tables.{specs.Routing.{rows_of}, specs.Tables.{AreRows}};
-ghost use Rattle.plan_exports.{specs.Devices.{device_at}, specs.LinuxScripts.{IsLinuxScript, buses_at, device_on, eid_line, head_lines, link_address, link_byte, link_lines, linux_text, neighbor_line, neighbor_lines, range_text, route_line, span_text}, specs.PlannedRows.{row_facts}};
+ghost use Rattle.plan_exports.{specs.Devices.{device_at}, specs.LinuxScripts.{IsLinuxScript, buses_at, device_on, eid_line, head_lines, link_address, link_byte, link_lines, linux_text, neighbor_command, neighbor_front, neighbor_line, neighbor_lines, range_text, route_line, span_text}, specs.PlannedRows.{row_facts}};
 
 use crate::devices::devices_of;
 use crate::links::Link;
@@ -15,6 +15,8 @@ use std::alloc::{AllocError, Global};
 
 /// The binding of SMBus and I2C (DSP0239).
 const SMBUS: u8 = 1;
+/// The binding of I3C (DSP0239).
+const I3C: u8 = 6;
 
 /// The script of a node whose rows are lawful: its devices, its endpoint ID, a route for each of its rows, and for each
 /// endpoint ID of a row the physical address to which packets go.
@@ -78,7 +80,7 @@ fn head_lines(alloc: Global, plan: &Plan, node: usize) -> Result<String, AllocEr
 {
     let name = node_name(plan, node);
     format!(in alloc;
-        "#!/bin/sh\n# The planned state of the node {name}. Made by mctpplan export linux.\nset -e\n"
+        "#!/bin/sh\n# The planned state of the node {name}. Made by mctpplan export linux.\n# `|| true` stands where a thing may be there already, from an earlier run.\nset -e\n"
     )
 }
 
@@ -143,7 +145,7 @@ fn eid_line(
     let eid = eid_at(plan, node).map_or(0, |eid| eid.value);
     let device = device_at(devices, bus);
     let name = node_name(plan, node);
-    format!(in alloc; "mctp addr add {eid} dev {device} # node {name}\n")
+    format!(in alloc; "mctp addr add {eid} dev {device} || true # node {name}\n")
 }
 
 /// Adds the route of each row.
@@ -173,7 +175,7 @@ fn route_line(
     let range = range_text(alloc, row.first, row.size)?;
     let device = device_on(devices, row.bus);
     let name = node_name(plan, row.next);
-    format!(in alloc; "mctp route add {range} via {device} # to {name}\n")
+    format!(in alloc; "mctp route add {range} via {device} || true # to {name}\n")
 }
 
 /// An endpoint ID alone, or the first and the last of several.
@@ -229,10 +231,23 @@ fn neighbor_lines(
         return Ok(String::new(alloc));
     }
     let (binding, _) = bus_numbers(plan, row.bus);
+    let front = neighbor_front(binding, row.address);
     let address = link_address(alloc, binding, row.address)?;
     let device = device_on(devices, row.bus);
     let name = node_name(plan, row.next);
-    address_lines(alloc, device, &address, name, row.first, row.size)
+    address_lines(alloc, front, device, &address, name, row.first, row.size)
+}
+
+/// What stands before the lines of a neighbour: nothing, or over I3C, where the address is no provisioned ID, what makes
+/// comments of them.
+fn neighbor_front(binding: u8, address: &[u8]) -> &'static str
+    ensures { result.now ≡ neighbor_front binding address.now }
+{
+    if binding == I3C && address.len() != 6 {
+        "# no PID in the plan: "
+    } else {
+        ""
+    }
 }
 
 /// The bytes of an address on a bus of a binding as Linux has them: over SMBus and I2C without the bit below the seven
@@ -256,33 +271,48 @@ fn link_byte(binding: u8, byte: u8) -> u8
 /// The line of each of so many endpoint IDs.
 fn address_lines(
     alloc: Global,
+    front: &str,
     device: &str,
     address: &[u8],
     name: &str,
     first: Eid,
     size: u8,
 ) -> Result<String, AllocError>
-    ensures { IfOk result (λ text. string_bytes text ≡ flat_map (neighbor_line device.now address.now name.now) (range_with_len first.value size)) }
+    ensures { IfOk result (λ text. string_bytes text ≡ flat_map (neighbor_line front.now device.now address.now name.now) (range_with_len first.value size)) }
 {
     let mut text = String::new(alloc);
     for place in 0..size {
         let eid = u16::from(first.value) + u16::from(place);
-        text.push_str(&neighbor_line(alloc, device, address, name, eid)?)?;
+        text.push_str(&neighbor_line(alloc, front, device, address, name, eid)?)?;
     }
     Ok(text)
 }
 
 fn neighbor_line(
     alloc: Global,
+    front: &str,
     device: &str,
     address: &[u8],
     name: &str,
     eid: u16,
 ) -> Result<String, AllocError>
-    ensures { IfOk result (λ text. string_bytes text ≡ neighbor_line device.now address.now name.now eid) }
+    ensures { IfOk result (λ text. string_bytes text ≡ neighbor_line front.now device.now address.now name.now eid) }
+{
+    let command = neighbor_command(alloc, device, address, name, eid)?;
+    format!(in alloc; "{front}{command}")
+}
+
+fn neighbor_command(
+    alloc: Global,
+    device: &str,
+    address: &[u8],
+    name: &str,
+    eid: u16,
+) -> Result<String, AllocError>
+    ensures { IfOk result (λ text. string_bytes text ≡ neighbor_command device.now address.now name.now eid) }
 {
     let digits = hex_list(alloc, ":", address)?;
-    format!(in alloc; "mctp neigh add {eid} dev {device} lladdr 0x{digits} # of {name}\n")
+    format!(in alloc; "mctp neigh add {eid} dev {device} lladdr 0x{digits} || true # of {name}\n")
 }
 
 /// The device of a row's bus.

@@ -370,14 +370,18 @@ endpoint IDs, and records in the order of the certificate's places. There are fo
 - linux: a shell script with the commands of the tool mctp that give a Linux node its state: each
   device is set up, with the plan's transmission unit and four bytes of header as MTU; the node has
   its endpoint ID there; each row is a route, and each of its endpoint IDs a neighbour with the next
-  node's address. A device has the name of its bus, or what --link says, once for each bus and each
+  node's address. The script may run twice: what it adds may be there already (|| true), and stays
+  as it is then. A device has the name of its bus, or what --link says, once for each bus and each
   device: 1 to 15 letters, digits, -, . and _. Over SMBus and I2C Linux has the 7 bits of an address
-  alone, so the plan's address 20 is 0x10 there. Over I3C Linux names a neighbour by its 48-bit PID,
-  which a plan doesn't have, so these lines are to be changed by hand.
-- c: a C99 source with the node's endpoint ID, its pool, its rows and, for a terminus, the records
-  in one array of bytes, with an index of handles, offsets and lengths. Each name begins with that
-  of the node, with _ for what is no letter or digit, and with node_ before one that begins with no
-  letter.
+  alone, so the plan's address 20 is 0x10 there. Over I3C Linux names a neighbour by its provisioned
+  ID (PID), which is an address of six bytes in the plan, the highest byte first. Where the plan has
+  another address there, the line is a comment that begins # no PID in the plan:.
+- c: a C99 source with the plan's transmission unit, the node's endpoint ID, its pool, its rows and,
+  for a terminus, the records in one array of bytes, with an index of handles, offsets and lengths.
+  Each name begins with that of the node, with _ for what is no letter or digit, and with node_
+  before one that begins with no letter. The types struct mctpplan_row and struct mctpplan_record
+  are those of all nodes, behind the guard MCTPPLAN_TYPES, so that one source can take in those of
+  several nodes. No line has more than 100 columns.
 - entries: the answers of a bridge to Get Routing Table Entries, from the first entry to the last,
   each in a line in hex, with instance ID 0.
 - records: the bytes of the records of a terminus, one record after another.
@@ -390,20 +394,21 @@ terminus, for records; or where the plan has no bus of a link.
   $ mctpplan export linux examples/riser/plan.json examples/riser/certificate.json nic --link b1=mctpi2c1
   #!/bin/sh
   # The planned state of the node nic. Made by mctpplan export linux.
+  # `|| true` stands where a thing may be there already, from an earlier run.
   set -e
   mctp link set mctpi2c1 up # bus b1
   mctp link set mctpi2c1 mtu 68 # bus b1
-  mctp addr add 17 dev mctpi2c1 # node nic
-  mctp route add 8-16 via mctpi2c1 # to riser
-  mctp neigh add 8 dev mctpi2c1 lladdr 0x11 # of riser
-  mctp neigh add 9 dev mctpi2c1 lladdr 0x11 # of riser
-  mctp neigh add 10 dev mctpi2c1 lladdr 0x11 # of riser
-  mctp neigh add 11 dev mctpi2c1 lladdr 0x11 # of riser
-  mctp neigh add 12 dev mctpi2c1 lladdr 0x11 # of riser
-  mctp neigh add 13 dev mctpi2c1 lladdr 0x11 # of riser
-  mctp neigh add 14 dev mctpi2c1 lladdr 0x11 # of riser
-  mctp neigh add 15 dev mctpi2c1 lladdr 0x11 # of riser
-  mctp neigh add 16 dev mctpi2c1 lladdr 0x11 # of riser
+  mctp addr add 17 dev mctpi2c1 || true # node nic
+  mctp route add 8-16 via mctpi2c1 || true # to riser
+  mctp neigh add 8 dev mctpi2c1 lladdr 0x11 || true # of riser
+  mctp neigh add 9 dev mctpi2c1 lladdr 0x11 || true # of riser
+  mctp neigh add 10 dev mctpi2c1 lladdr 0x11 || true # of riser
+  mctp neigh add 11 dev mctpi2c1 lladdr 0x11 || true # of riser
+  mctp neigh add 12 dev mctpi2c1 lladdr 0x11 || true # of riser
+  mctp neigh add 13 dev mctpi2c1 lladdr 0x11 || true # of riser
+  mctp neigh add 14 dev mctpi2c1 lladdr 0x11 || true # of riser
+  mctp neigh add 15 dev mctpi2c1 lladdr 0x11 || true # of riser
+  mctp neigh add 16 dev mctpi2c1 lladdr 0x11 || true # of riser
 "#;
 
 const OF_REACH: &str = r#"mctpplan reach PLAN CERT [--json]

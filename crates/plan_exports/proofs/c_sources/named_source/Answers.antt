@@ -9,5 +9,5 @@ returns c =
     let eid = c.in_ok-eid.ensures ∙ ap (eid_text id) c.eid_of.ensures in
     let pool = c.in_ok-pool.ensures ∙ ap (λ p. pool_text id (pool_first p) (pool_size p)) c.pool_at.ensures in
     said_so string_bytes _ _ _
-    (six_are _ _ _ _ _ _ _ _ _ _ _ _ (c.deref.ensures ∙ head) (c.deref-2.ensures ∙ eid) (c.deref-3.ensures ∙ pool) (c.deref-4.ensures ∙ c.in_ok-row_type.ensures)
+    (six_are _ _ _ _ _ _ _ _ _ _ _ _ (c.deref.ensures ∙ head) (c.deref-2.ensures ∙ c.in_ok-unit.ensures) (c.deref-3.ensures ∙ eid) (c.deref-4.ensures ∙ pool)
     (c.deref-5.ensures ∙ c.in_ok-rows.ensures) (c.deref-6.ensures ∙ c.in_ok-terminus.ensures)) c.six_texts.ensures
