@@ -4,6 +4,6 @@ use Rattle.decoded_texts.proofs.SeenLaws.{fed_if}
 use Rattle.decoded_texts.proofs.entries.push_fed.Goals as goal
 
 pub returns : goal.returns
-returns c =
-    fed_if (option_map (λ n. n.now.plan.now) c.args.names) c.args.number (packet_value_of c.args.packet.now) (heard_answer c.args.heard.now) _ _ _ c.push_said.result
+returns c = λ i.
+    fed_if (option_map (λ n. n.now.plan.now) c.args.names) i (packet_value_of c.args.packet.now) (heard_answer c.args.heard.now) _ _ _ c.push_said.result
     c.in_ok-push_fed_line.ensures c.push_said.ensures

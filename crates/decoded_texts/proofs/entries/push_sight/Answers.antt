@@ -8,5 +8,5 @@ returns-in-Told c =
     let plan = option_map (λ n. n.now.plan.now) c.args.names in
     let old = string_bytes c.args.text.now in
     let new = string_bytes c.push_told.new.text in
-    subst (λ (s : Sight). OnOk c.push_told.result (AddsTold plan c.args.number (seen_of s) old new)) (sym c.in-Told.is)
-    (told_if plan c.args.number _ _ old new c.push_told.result c.push_told.ensures)
+    subst (λ (s : Sight). OnOk c.push_told.result (AddsTold plan (seen_of s) old new)) (sym c.in-Told.is)
+    (told_if plan _ _ old new c.push_told.result c.push_told.ensures)

@@ -4,5 +4,5 @@ use Rattle.decoded_texts.proofs.entries.push_told.Goals as goal
 
 pub returns : goal.returns
 returns c =
-    behind_if c.args.message.now (string_bytes c.args.text.now) (told_line c.args.number c.args.way c.args.message.now) _ _ c.push_message.result c.in_ok-push_told_line.ensures
+    behind_if c.args.message.now (string_bytes c.args.text.now) (told_line c.args.way c.args.message.now) _ _ c.push_message.result c.in_ok-push_told_line.ensures
     c.push_message.ensures
