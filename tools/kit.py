@@ -27,6 +27,8 @@ WORDS = ("logic", "tests", "functions", "axioms", "target", "cpu", "threads", "s
 TRUSTED = ("logic-built", "libraries-built", "statements")
 # What the program says where nobody named the kit that proved it, in the file of its sources that is for this alone.
 KIT_FILE, UNNAMED = "src/kit.rt", "no kit is named, so this program is not known to be proved"
+# Where the folder of a crate keeps what tools/check proved of it.
+CHECKED = "out/checked"
 # What rattle says where a library was built over others than those that are there.
 STALE = re.compile(r"module .Rattle-(\w+)-.*Run the lower steps again")
 # MB of a disk that have to be free where something is proved.
@@ -280,6 +282,52 @@ def is_proved(status, said):
     """Whether rattle proved the crate, with nothing taken for granted but the kit and what was proved before."""
     line = last_line(said)
     return status == 0 and line.startswith("logic=proved ") and not against(line)
+
+
+class Store:
+    """Proved libraries, each in a folder by its crate's name and the sum of what its proof rests on. A clone has its own, unless
+    MCTPPLAN_PROVED names one that several share."""
+
+    def __init__(self, top):
+        shared = os.environ.get("MCTPPLAN_PROVED")
+        self.folder, self.is_shared = shared or f"{top}/crates/mctpplan/out/proved", bool(shared)
+
+    def library(self, crate):
+        return f"{self.folder}/{crate.name}-{crate.key()[:32]}/{crate.name}.rlib"
+
+    def has(self, crate):
+        return os.path.isdir(self.library(crate))
+
+    def prove(self, crate, jobs, hears):
+        """Proves a library from nothing over those below it, of which each has its place here, and gives it its name once it is
+        whole; answers whether it is there. Of two calls for one library the second waits for the first."""
+        crate.rlib = self.library(crate)
+        to = os.path.dirname(crate.rlib)
+        with alone(f"{tempfile.gettempdir()}/{os.path.basename(to)}.lock", lambda line: hears(f"rt: {line}\n")):
+            if self.has(crate):
+                return True
+            remove(f"{to}.new")
+            os.makedirs(f"{to}.new")
+            words = ["build", *crate.words(), "--statements"]
+            if not proved(words, f"{to}.new/{crate.name}.rlib", crate.folder, jobs, hears) or not is_same(crate, hears):
+                return False
+            os.rename(f"{to}.new", to)
+            return True
+
+    def let_go(self, crates):
+        """Lets go what was proved of other files of these crates, where no other clone may want it."""
+        kept, names = {os.path.basename(os.path.dirname(it.rlib)) for it in crates}, {it.name for it in crates}
+        for it in os.listdir(self.folder) if os.path.isdir(self.folder) and not self.is_shared else []:
+            if it not in kept and it.rpartition("-")[0] in names:
+                shutil.rmtree(f"{self.folder}/{it}", ignore_errors=True)
+
+
+def is_same(crate, hears):
+    """Whether the crate's files are as they were before they were proved."""
+    same = crate.key_now() == crate.key()
+    if not same:
+        hears("rt: its files changed while they were proved")
+    return same
 
 
 @contextlib.contextmanager
