@@ -1,10 +1,9 @@
 -- One entry more, and its lines.
 use Rattle.std.{proofs.Common.{◌≡◌, ℕ, ◌<◌, ◌+◌, List, [], ◌∷◌, ◌++◌, length, refl, ap, sym, ◌∙◌, subst, get_or, map, take, append_assoc, length-take, arith}, specs.Prelude.{Option, Result, Ok, Err, OnOk}, proofs.lemmas.List.{take_more, map-append, length-map}}
-use Rattle.bus_captures.{specs.Values.{EntryValue, entry_value}, specs.declared.capture.Entry.{Entry}, specs.declared.capture.Direction.{Direction}, specs.declared.capture.Interface.{Interface}}
-use Rattle.mctp_transport.{specs.PacketValues.{PacketValue}, specs.Hearing.{Answer}}
-use Rattle.heard_captures.{specs.Seen.{Seen, Fed, Told}, specs.Stations.{AreIdle}, specs.Steps.{HaveSeen, Sees}, specs.declared.stations.Stations.{Stations}}
+use Rattle.bus_captures.{specs.Values.{EntryValue, entry_value}, specs.declared.capture.Entry.{Entry}}
+use Rattle.heard_captures.{specs.Seen.{Seen}, specs.Stations.{AreIdle}, specs.Steps.{HaveSeen, Sees}, specs.declared.stations.Stations.{Stations}}
 use Rattle.plan_values.specs.declared.plan.Plan.{Plan}
-use Rattle.decoded_texts.{specs.Decoding.{AreTold, None, More, unit_by}, specs.Heads.{head_words}, specs.Messages.{IsSaid}, specs.Seen.{IsToldAs, IsSaidOf, told_line, fed_line}, specs.Steps.{AddsTold, AddsStep}}
+use Rattle.decoded_texts.{specs.Decoding.{AreTold, None, More, unit_by}, specs.Heads.{head_words}, specs.Messages.{IsSaid}, specs.Seen.{IsToldAs}, specs.Steps.{AddsTold, AddsStep}}
 use Rattle.heard_captures.proofs.SeenLaws as heard
 
 module _ (plan : Option Plan) where
@@ -49,21 +48,6 @@ module _ (plan : Option Plan) where
   }
   step_if old new number e s before headed after (Err x) sees head told = told
 
-  -- a line of a packet, and behind it what its message says
-  pub fed_if : {T E : Type 0} (i : Interface) (p : PacketValue) (answer : Answer) (before between after : List ℕ) (result : Result T E)
-      → between ≡ before ++ fed_line plan p answer → OnOk result ((said : List ℕ) × IsSaidOf answer said × (after ≡ between ++ said))
-      → OnOk result (AddsTold plan (Fed i p answer) before after)
-  fed_if i p answer before between after (Ok t) line (said, says, joined) =
-      (fed_line plan p answer ++ said, (said, says, refl), joined ∙ ap (λ x. x ++ said) line ∙ append_assoc before (fed_line plan p answer) said)
-  fed_if i p answer before between after (Err x) line told = told
-
-  -- a line of a message, and behind it what the message says
-  pub told_if : {T E : Type 0} (way : Option Direction) (message before after : List ℕ) (result : Result T E)
-      → OnOk result ((said : List ℕ) × IsSaid message said × (after ≡ before ++ (told_line way message ++ said)))
-      → OnOk result (AddsTold plan (Told way message) before after)
-  told_if way message before after (Ok t) (said, says, joined) = (told_line way message ++ said, (said, says, refl), joined)
-  told_if way message before after (Err x) told = told
-
   -- lines that are known
   pub line_if : {T E : Type 0} (s : Seen) (before lines after : List ℕ) (result : Result T E) → OnOk result (after ≡ before ++ lines) → IsToldAs plan s lines
       → OnOk result (AddsTold plan s before after)
@@ -76,10 +60,17 @@ pub said_if : {T E : Type 0} (message before said after : List ℕ) (result : Re
 said_if message before said after (Ok t) says joined = (said, says, joined)
 said_if message before said after (Err x) says joined = joined
 
-pub behind_if : {T E : Type 0} (message before line between after : List ℕ) (result : Result T E) → between ≡ before ++ line
-    → OnOk result ((s : List ℕ) × IsSaid message s × (after ≡ between ++ s)) → OnOk result ((s : List ℕ) × IsSaid message s × (after ≡ before ++ (line ++ s)))
-behind_if message before line between after (Ok t) is (said, says, joined) = (said, says, joined ∙ ap (λ x. x ++ said) is ∙ append_assoc before line said)
-behind_if message before line between after (Err x) is told = told
+-- behind a line stands what is said, and both are lines that were added
+module _ {T E : Type 0} (Is : List ℕ → Type 0) (before line : List ℕ) where
+  pub behind_if : (between after : List ℕ) (result : Result T E) → between ≡ before ++ line → OnOk result ((s : List ℕ) × Is s × (after ≡ between ++ s))
+      → OnOk result ((s : List ℕ) × Is s × (after ≡ before ++ (line ++ s)))
+  behind_if between after (Ok t) is (said, says, joined) = (said, says, joined ∙ ap (λ x. x ++ said) is ∙ append_assoc before line said)
+  behind_if between after (Err x) is told = told
+
+  pub lines_if : (after : List ℕ) (result : Result T E) → OnOk result ((s : List ℕ) × Is s × (after ≡ before ++ (line ++ s)))
+      → OnOk result ((told : List ℕ) × ((s : List ℕ) × Is s × (told ≡ line ++ s)) × (after ≡ before ++ told))
+  lines_if after (Ok t) (said, says, joined) = (line ++ said, (said, says, refl), joined)
+  lines_if after (Err x) told = told
 
 -- ---- the pieces of a packet's line
 

@@ -1,8 +1,8 @@
 //! The lines that tell what became of an entry.
 ghost use Rattle.std.{specs.Prelude.{◌≡◌, ◌++◌, IfOk, OnOk, ℕ, List, string_bytes, option_map, codes}, specs.Fmt.{decimal}};
-ghost use Rattle.bus_captures.{specs.Values.{entry_value}, specs.declared.capture.Interface.{Interface}};
+ghost use Rattle.bus_captures.specs.Values.{entry_value};
 ghost use Rattle.mctp_transport.{specs.Heard.{heard_answer}, specs.Packets.{packet_value_of}};
-ghost use Rattle.heard_captures.{specs.Seen.{Fed, Told}, specs.Sights.{seen_of}};
+ghost use Rattle.heard_captures.specs.Sights.{seen_of};
 ghost use Rattle.hex.specs.Hex.{encode_lower};
 ghost use Rattle.plan_texts.specs.Shown.{address_words_of, position_words_of, tag_words_of, refused_bytes};
 ghost use Rattle.decoded_texts.{specs.Messages.{IsSaid}, specs.Seen.{answer_word, way_word, fed_line, told_line, IsSaidOf}, specs.Steps.{AddsTold, AddsStep}};
@@ -56,7 +56,7 @@ fn push_fed(
     packet: &PacketView,
     heard: &Heard,
 ) -> Result<(), AllocError>
-    ensures { (i : Interface) → OnOk result (AddsTold (option_map (λ n. n.now.plan.now) names.entry) (Fed i (packet_value_of packet.now) (heard_answer heard.now)) (string_bytes text.old) (string_bytes text.new)) }
+    ensures { OnOk result ((said : List ℕ) × IsSaidOf (heard_answer heard.now) said × (string_bytes text.new ≡ string_bytes text.old ++ (fed_line (option_map (λ n. n.now.plan.now) names.entry) (packet_value_of packet.now) (heard_answer heard.now) ++ said))) }
 {
     push_fed_line(alloc, text, names, packet, heard)?;
     push_said(alloc, text, heard)

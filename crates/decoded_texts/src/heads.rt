@@ -1,7 +1,7 @@
 //! What stands before what became of an entry: its number, when and where it was captured, and which way it went.
 ghost use Rattle.std.specs.Prelude.{◌≡◌, ◌++◌, OnOk, string_bytes};
 ghost use Rattle.bus_captures.specs.Values.{entry_value, time_value};
-ghost use Rattle.decoded_texts.specs.Heads.{head_words, time_words, interface_words, number_words, way_words};
+ghost use Rattle.decoded_texts.specs.Heads.{head_words, nine_digits, time_words, interface_words, number_words, way_words};
 
 use bus_captures::{Direction, Entry, Interface, Kind, Time};
 use std::alloc::{AllocError, Global};
@@ -38,10 +38,17 @@ fn push_time(alloc: Global, text: &mut String, time: Time) -> Result<(), AllocEr
             nanoseconds,
         } => {
             let whole = u64::from(seconds) + nanoseconds / SECOND;
-            let rest = nanoseconds % SECOND;
-            write!(text, " time {whole}.{rest:09}")
+            write!(text, " time {whole}.")?;
+            push_nine_digits(text, nanoseconds % SECOND)
         }
     }
+}
+
+/// Adds a number with zeros before it, in nine digits.
+fn push_nine_digits(text: &mut String, number: u64) -> Result<(), AllocError>
+    ensures { OnOk result (string_bytes text.new ≡ string_bytes text.old ++ nine_digits number) }
+{
+    write!(text, "{number:09}")
 }
 
 fn push_interface(text: &mut String, interface: Interface) -> Result<(), AllocError>
