@@ -4,8 +4,9 @@ For each plan with a certificate, each node and each other node with a terminus,
 where `reach` tells a way there and one back. What it prints begins with the walk that was asked for, and has nothing else
 than its requests, moves, losses, answers and messages that are given up, until it is asked what was collected. It is played
 by `sim`: the last line must tell that the walk is done, with all records of the terminus. Trees, and the flights that are
-lost and repeated, are drawn from fixed seeds. A walk of more than 100,000 events ends with the line of the last one. A word
-is a part of a plan's path.
+lost and repeated, are drawn from fixed seeds. A walk of more than 100,000 events ends with the line of the last one. Of the
+same walk without losses `audit` of what `capture` writes must be a match, whose packets are those that moved. A word is a part
+of a plan's path.
 """
 import itertools
 import json
@@ -126,6 +127,20 @@ def fault_of(trial, name, plan, certificate, node, holder, is_reached, seed):
     return "" if (played[0], last) == (0, wanted) else f"{' '.join(map(str, words))}: {last}"
 
 
+def capture_fault_of(trial, name, plan, certificate, node, holder, seed):
+    """What `audit` says against the capture of a walk without losses; '' where it matches."""
+    status, made, _ = trial.run(["script", plan, certificate, "walk", node, holder["eid"], (64, 8, 303)[seed % 3]])
+    if status:
+        return ""
+    events = trial.file(f"plain-{name}-{node}-{holder['name']}", made)
+    capture = trial.file(f"capture-{name}-{node}-{holder['name']}", trial.run(["capture", plan, certificate, events])[1])
+    status, told, _ = trial.run(["audit", plan, certificate, capture])
+    lines = told.decode().splitlines()
+    moved = sum(" moved " in f" {it} " for it in trial.run(["sim", plan, certificate, events])[1].decode().splitlines())
+    is_right = status == 0 and lines[-1].startswith("audit match: 1 of ") and f" {moved} packets, 0 refused" in lines[-1]
+    return "" if is_right else f"audit of the capture of a walk from {node} to {holder['name']} of {plan}: {lines}"
+
+
 def is_of_walk(made, node, eid, count):
     """Whether the events are those of this walk."""
     first, *rest, last = json.loads(made)["events"]
@@ -159,6 +174,9 @@ def try_plan(trial, path):
         ends = node["name"], holder["name"]
         fault = fault_of(trial, name, path, certificate, node["name"], holder, {ends, ends[::-1]} <= reached, seed)
         trial.note(not fault, fault)
+        if {ends, ends[::-1]} <= reached:
+            fault = capture_fault_of(trial, name, path, certificate, node["name"], holder, seed)
+            trial.note(not fault, fault)
 
 
 def try_all(trial):

@@ -5,7 +5,7 @@ use Rattle.mctp_control.specs.RouteEntries.{EntryValue}
 use Rattle.pdr_repository.specs.Records.{Entry}
 use Rattle.plan_exports.specs.TableAnswers.{AreEntriesOf}
 use Rattle.audited_captures.{specs.Asked.{unanswered}, specs.RecordParts.{RecordPartValue, AreRecordParts}, specs.Walks.{AreWalksLines}, specs.Lines.{LineValue, line_value}, specs.declared.lines.Line.{Line}, specs.Exchanges.{AreExchanges}, specs.Strangers.{AreStrangerLines}, specs.Refusals.{IsRefusedOf}, specs.declared.sums.Sum.{Sum}, specs.TrafficLines.{IsTrafficOf}, specs.Words.{AreWords}, specs.Audits.{Heard, has_compared, one_if, AreNodeLines, AreLines, More, lines_of_node, AreBeside, AreAudited, AreRepositories}}
-use Rattle.heard_captures.specs.Messages.{MessageValue, AreHeard}
+use Rattle.heard_captures.{specs.Hearing.{AreHeard}, specs.Messages.{MessageValue}}
 use Rattle.bus_captures.specs.Values as captured
 
 -- three lists of lines joined

@@ -1,7 +1,7 @@
 -- What captured devices said, laid beside a plan.
 use Rattle.std.{specs.Prelude.{◌≡◌, ℕ, ◌+◌, ◌<◌, ◌==◌, ◌&&◌, Bool, List, [], ◌∷◌, ◌++◌, length, codes, slice_get, Option, Some, if◌then◌else◌}, specs.Fmt.{decimal}, specs.List.{flat_map, filter, list_any}}
 use Rattle.bus_captures.{specs.Values.{EntryValue}, specs.declared.capture.End.{End}}
-use Rattle.heard_captures.specs.Messages.{MessageValue, AreHeard}
+use Rattle.heard_captures.{specs.Hearing.{AreHeard}, specs.Messages.{MessageValue}}
 use Rattle.plan_values.{specs.NodeValues.{name_bytes}, specs.declared.certificate.Certificate.{Certificate}, specs.declared.plan.Plan.{Plan}, specs.declared.nodes.Node.{Node}}
 use Rattle.audited_captures.{specs.Words.{WordValue, AreWords}, specs.Exchanges.{ExchangeValue, AreExchanges}, specs.Asked.{unanswered}, specs.Readings.{parts_of}, specs.Lines.{LineValue, silence, differs, compares}, specs.RecordLines.{walks_lines}, specs.RecordParts.{RecordPartValue, AreRecordParts}, specs.Refusals.{AreRefusals, refused_lines}, specs.declared.refusals.Refusal.{Refusal}, specs.Strangers.{AreStrangerLines}, specs.Sums.{sum_words}, specs.declared.sums.Sum.{Sum}, specs.Routes.{routes_lines}, specs.TrafficLines.{IsTraffic}, specs.Walking.{Walked, AreWalks}, specs.Identities.{answers_of, eid_lines, pool_lines, first_of, size_of, kind_number}}
 use Rattle.net_tables.specs.Repositories.{records_by_place}

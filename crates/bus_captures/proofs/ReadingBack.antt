@@ -1,6 +1,7 @@
 -- A capture file that is written reads back.
-use Rattle.std.{proofs.Common.{◌≡◌, ℕ, ◌+◌, ◌-◌, ◌<◌, ◌≤◌, ◌^◌, ◌++◌, List, [], ◌∷◌, length, map, arith, inl, inr, refl, ap, sym, ◌∙◌, append_assoc, drop, replicate, length-append, get_or}, specs.List.{flat_map, AllZip, All}, proofs.Math.Seq.{drop-append_seam}, proofs.lemmas.List.Elements.{All-tail}}
-use Rattle.bus_captures.{specs.declared.capture.CaptureFault.{CaptureFault}, specs.declared.capture.End.{End}, specs.declared.format.Order.{Order}, specs.declared.format.Order.TheVariants.{Little, Big}, specs.declared.format.TimeUnit.{TimeUnit}, specs.declared.format.TimeUnit.TheVariants.{Micro, Nano}, specs.declared.link.Link.{Link}, specs.declared.link.Link.TheVariants.{Raw, Cooked, CookedAgain}, specs.Files.{FileRecord, IsRecord, IsEntryOf, EndsFile, IsBody, IsFile, HasNoHeader, HasHeader, magic, record_bytes, Begins}, specs.Links.{link_number}, specs.Numbers.{number_bytes}, specs.Values.{EntryValue}, specs.Written.{CarriedValue, IsCarried, ReadsBack, carried_record, carried_entry, header_fields, link_header, written_bytes}, proofs.RecordLaws.{four, fronts, one_record, some_bytes}, proofs.WritingLaws.{before, filled}}
+use Rattle.std.{proofs.Common.{◌≡◌, ℕ, ◌+◌, ◌-◌, ◌<◌, ◌≤◌, ◌^◌, ◌++◌, List, [], ◌∷◌, length, map, arith, inl, inr, refl, ap, sym, ◌∙◌, append_assoc, drop, replicate, length-append, get_or}, specs.List.{flat_map, AllZip, All}, proofs.Math.Seq.{drop-append_seam}, proofs.lemmas.List.Elements.{All-tail}, specs.Prelude.{Some}}
+use Rattle.byteorder.specs.Endian.{big_bytes, big_number}
+use Rattle.bus_captures.{specs.declared.capture.CaptureFault.{CaptureFault}, specs.declared.capture.End.{End}, specs.declared.format.Order.{Order}, specs.declared.format.Order.TheVariants.{Little, Big}, specs.declared.format.TimeUnit.{TimeUnit}, specs.declared.format.TimeUnit.TheVariants.{Micro, Nano}, specs.declared.link.Link.{Link}, specs.declared.link.Link.TheVariants.{Raw, Cooked, CookedAgain}, specs.Files.{FileRecord, IsRecord, IsEntryOf, EndsFile, IsBody, IsFile, HasNoHeader, HasHeader, magic, record_bytes, Begins}, specs.Links.{link_number}, specs.Numbers.{number_bytes}, specs.Values.{EntryValue, on_linux}, specs.Written.{CarriedValue, IsCarried, ReadsBack, carried_record, carried_entry, header_fields, link_header, written_bytes}, proofs.RecordLaws.{four, fronts, one_record, some_bytes}, proofs.WritingLaws.{before, filled}}
 use Rattle.bus_captures.specs.declared.capture.CaptureFault.TheVariants as fault
 use Rattle.bus_captures.specs.declared.capture.End.TheVariants as end
 
@@ -54,13 +55,19 @@ record_is p carried =
       count = let long = long_is p carried in omega arith;
     }
 
+-- a number of four bytes reads back
+big_back : (n : ℕ) (rest : List ℕ) → n < 2 ^ 32 → big_number 4 (big_bytes 4 n ++ rest) ≡ n
+big_back n rest small = omega arith
+
 entry_is : (p : CarriedValue) (e : EntryValue) → IsCarried p → IsEntryOf Nano CookedAgain (carried_record p) e → e ≡ carried_entry p
 entry_is p e carried is =
     let padded = p.address ++ replicate (8 - length p.address) 0 in
     let eight : length padded ≡ 8 = filled p.address carried.address in
     let behind : drop 8 (padded ++ p.bytes) ≡ p.bytes = ap (λ n. drop n (padded ++ p.bytes)) (sym eight) ∙ drop-append_seam padded p.bytes in
     let bytes : e.bytes ≡ p.bytes = is.bytes ∙ behind in
-    λ i. record { time = is.time i; direction = is.direction i; kind = is.kind i; bytes = bytes i }
+    let rest : List ℕ = big_bytes 2 290 ++ 3 ∷ length p.address ∷ padded in
+    let index = is.interface ∙ ap (λ n. on_linux (Some n)) (big_back p.interface (rest ++ p.bytes) carried.interface) in
+    λ i. record { time = is.time i; direction = is.direction i; interface = index i; kind = is.kind i; bytes = bytes i }
 
 -- no record is the beginning of nothing
 none_begins : (r : FileRecord) → Begins Little [] r → ⊥

@@ -1,6 +1,6 @@
 -- Capture files: a header and records, one behind the other (libpcap's format, version 2.4).
 use Rattle.std.{specs.Prelude.{◌≡◌, ◌≢◌, ◌⊎◌, ℕ, ◌+◌, ◌*◌, ◌<◌, ◌≤◌, ◌^◌, List, [], ◌++◌, length, drop, All}, specs.List.{flat_map, AllZip}}
-use Rattle.bus_captures.{specs.declared.capture.CaptureFault.{CaptureFault}, specs.declared.capture.End.{End}, specs.declared.format.Order.{Order}, specs.declared.format.TimeUnit.{TimeUnit}, specs.declared.link.Link.{Link}, specs.Links.{link_number, link_length, direction_of, kind_in}, specs.Numbers.{number_bytes}, specs.Values.{most_entries, EntryValue, At}}
+use Rattle.bus_captures.{specs.declared.capture.CaptureFault.{CaptureFault}, specs.declared.capture.End.{End}, specs.declared.format.Order.{Order}, specs.declared.format.TimeUnit.{TimeUnit}, specs.declared.link.Link.{Link}, specs.Links.{link_number, link_length, direction_of, index_of, kind_in}, specs.Numbers.{number_bytes}, specs.Values.{most_entries, EntryValue, At, on_linux}}
 use Rattle.bus_captures.specs.declared.capture.CaptureFault.TheVariants as fault
 use Rattle.bus_captures.specs.declared.capture.End.TheVariants as end
 use Rattle.bus_captures.specs.declared.format.TimeUnit.TheVariants as unit
@@ -44,6 +44,7 @@ pub record IsEntryOf (unit : TimeUnit) (link : Link) (r : FileRecord) (e : Entry
   pub long : link_length link ≤ length r.bytes
   pub time : e.time ≡ At r.seconds (nanoseconds unit r.fraction)
   pub direction : e.direction ≡ direction_of link r.bytes
+  pub interface : e.interface ≡ on_linux (index_of link r.bytes)
   pub kind : e.kind ≡ kind_in link r.bytes
   pub bytes : e.bytes ≡ drop (link_length link) r.bytes
 

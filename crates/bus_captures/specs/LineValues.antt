@@ -1,6 +1,6 @@
 -- Lines of the code.
 use Rattle.std.specs.Prelude.{◌≡◌, ◌<◌, List, ℕ, [], length}
-use Rattle.bus_captures.{specs.declared.line.Line.{Line}, specs.declared.line.Head.{Head}, specs.Lines.{IsBlank, IsEntryText, IsBadText, HeadValue}, specs.Values.{entry_value, time_value}}
+use Rattle.bus_captures.{specs.declared.line.Line.{Line}, specs.declared.line.Head.{Head}, specs.Lines.{IsBlank, IsEntryText, IsBadText, HeadValue}, specs.Values.{entry_value, time_value, nowhere}}
 use Rattle.bus_captures.specs.declared.line.Line.TheVariants as line
 
 -- what the text of a line says
@@ -17,5 +17,11 @@ abbrev pub IsLineOf : HeadValue → List ℕ → Line → Type 0
 IsLineOf head bytes line.Nothing = ⊥
 IsLineOf head bytes (line.Entry e) =
     (0 < length bytes)
-    × (entry_value e ≡ record { time = head.time; direction = head.direction; kind = head.kind; bytes = bytes })
+    × (entry_value e ≡ record {
+      time = head.time;
+      direction = head.direction;
+      interface = nowhere;
+      kind = head.kind;
+      bytes = bytes;
+    })
 IsLineOf head bytes line.Bad = bytes ≡ []

@@ -1,6 +1,6 @@
 -- A line of a text capture: a time, words up to a colon, bytes in hex, and a comment. All but the bytes may be missing.
 use Rattle.std.{specs.Prelude.{◌≡◌, ℕ, ◌+◌, ◌-◌, ◌<◌, ◌==◌, ◌&&◌, Bool, nat_lt, List, length, take, drop, slice_index, codes, Option, None, Some, if◌then◌else◌}, specs.List.{ends_with}}
-use Rattle.bus_captures.{specs.declared.capture.Direction.{Direction}, specs.declared.capture.Kind.{Kind}, specs.Hex.{IsHex}, specs.Sorts.{before, behind}, specs.Values.{TimeValue, Unknown, Written, EntryValue}}
+use Rattle.bus_captures.{specs.declared.capture.Direction.{Direction}, specs.declared.capture.Kind.{Kind}, specs.Hex.{IsHex}, specs.Sorts.{before, behind}, specs.Values.{TimeValue, Unknown, Written, EntryValue, nowhere}}
 use Rattle.bus_captures.specs.declared.capture.Direction.TheVariants as direction
 use Rattle.bus_captures.specs.declared.capture.Kind.TheVariants as kind
 use Rattle.bus_captures.specs.declared.sort.Sort.TheVariants as sort
@@ -72,6 +72,7 @@ IsBlank text = before sort.NoSpace text ≡ length text
 pub record IsEntryText (text : List ℕ) (e : EntryValue) : Type 0 where
   pub time : e.time ≡ (head_of text).time
   pub direction : e.direction ≡ (head_of text).direction
+  pub interface : e.interface ≡ nowhere
   pub kind : e.kind ≡ (head_of text).kind
   pub bytes : IsHex (head_of text).hex e.bytes
   pub some : 0 < length e.bytes

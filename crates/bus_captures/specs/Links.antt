@@ -33,6 +33,12 @@ direction_of link.Raw bytes = None
 direction_of link.Cooked bytes = Some (sent_or_received (big_number 2 bytes))
 direction_of link.CookedAgain bytes = Some (sent_or_received (slice_index bytes 10))
 
+-- one of the second version has the number of its interface at byte 4
+abbrev pub index_of : Link → List ℕ → Option ℕ
+index_of link.Raw bytes = None
+index_of link.Cooked bytes = None
+index_of link.CookedAgain bytes = Some (big_number 4 (drop 4 bytes))
+
 abbrev pub kind_in : Link → List ℕ → Kind
 kind_in link.Raw bytes = kind.Packet
 kind_in link.Cooked bytes = kind_of (big_number 2 (drop 14 bytes))

@@ -1,6 +1,6 @@
 -- What the entries of the code stand for, wherever their bytes lie.
-use Rattle.std.specs.Prelude.{◌≡◌, ℕ, List, [], ◌∷◌, ◌++◌, map, Option}
-use Rattle.bus_captures.{specs.declared.capture.Direction.{Direction}, specs.declared.capture.Kind.{Kind}, specs.declared.capture.Entry.{Entry}, specs.declared.capture.Time.{Time}}
+use Rattle.std.specs.Prelude.{◌≡◌, ℕ, List, [], ◌∷◌, ◌++◌, map, Option, None}
+use Rattle.bus_captures.{specs.declared.capture.Direction.{Direction}, specs.declared.capture.Interface.{Interface}, specs.declared.capture.Kind.{Kind}, specs.declared.capture.Entry.{Entry}, specs.declared.capture.Time.{Time}}
 use Rattle.bus_captures.specs.declared.capture.Time.TheVariants as time
 
 -- the most entries of a capture
@@ -16,8 +16,16 @@ pub data TimeValue : Type 0 where
 pub record EntryValue : Type 0 where
   pub time : TimeValue
   pub direction : Option Direction
+  pub interface : Interface
   pub kind : Kind
   pub bytes : List ℕ
+
+-- no interface is told, or only Linux' number of it
+abbrev pub nowhere : Interface
+nowhere = record { number = None; index = None }
+
+abbrev pub on_linux : Option ℕ → Interface
+on_linux index = record { number = None; index = index }
 
 abbrev pub time_value : Time → TimeValue
 time_value time.Unknown = Unknown
@@ -25,7 +33,13 @@ time_value (time.Written text) = Written text.now
 time_value (time.At seconds nanoseconds) = At seconds nanoseconds
 
 abbrev pub entry_value : Entry → EntryValue
-entry_value e = record { time = time_value e.time; direction = e.direction; kind = e.kind; bytes = e.bytes.items }
+entry_value e = record {
+  time = time_value e.time;
+  direction = e.direction;
+  interface = e.interface;
+  kind = e.kind;
+  bytes = e.bytes.items;
+}
 
 -- one entry of which this holds is added at the end
 abbrev pub Adds : (EntryValue → Type 0) → List Entry → List Entry → Type 0

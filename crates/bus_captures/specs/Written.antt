@@ -1,7 +1,7 @@
 -- Capture files that are written: packets of MCTP alone, of the second cooked link type, with times in nanoseconds.
 use Rattle.std.{specs.Prelude.{◌≡◌, ℕ, ◌+◌, ◌-◌, ◌<◌, ◌≤◌, ◌^◌, List, [], ◌∷◌, ◌++◌, length, map, Some, replicate}, specs.List.{flat_map}}
 use Rattle.byteorder.specs.Endian.{big_bytes}
-use Rattle.bus_captures.{specs.declared.capture.End.{End}, specs.declared.carried.CarriedPacket.{CarriedPacket}, specs.Captures.{IsCapture}, specs.Files.{FileRecord, magic, record_bytes}, specs.Links.{link_number}, specs.Numbers.{number_bytes}, specs.Values.{EntryValue, At}}
+use Rattle.bus_captures.{specs.declared.capture.End.{End}, specs.declared.carried.CarriedPacket.{CarriedPacket}, specs.Captures.{IsCapture}, specs.Files.{FileRecord, magic, record_bytes}, specs.Links.{link_number}, specs.Numbers.{number_bytes}, specs.Values.{EntryValue, At, on_linux}}
 use Rattle.bus_captures.specs.declared.capture.Direction.TheVariants as direction
 use Rattle.bus_captures.specs.declared.capture.End.TheVariants as end
 use Rattle.bus_captures.specs.declared.capture.Kind.TheVariants as kind
@@ -30,6 +30,7 @@ carried_value p = record {
 pub record IsCarried (p : CarriedValue) : Type 0 where
   pub seconds : p.seconds < 2 ^ 32
   pub nanoseconds : p.nanoseconds < 2 ^ 32
+  pub interface : p.interface < 2 ^ 32
   pub address : length p.address ≤ 8
   pub bytes : length p.bytes ≤ 1028
 
@@ -64,6 +65,7 @@ abbrev pub carried_entry : CarriedValue → EntryValue
 carried_entry p = record {
   time = At p.seconds p.nanoseconds;
   direction = Some direction.Received;
+  interface = on_linux (Some p.interface);
   kind = kind.Packet;
   bytes = p.bytes;
 }

@@ -27,6 +27,15 @@ pub enum Direction {
     Received,
 }
 
+/// On which interface an entry was captured, as far as the capture says.
+#[derive(Clone, Copy, Debug, PartialEq, Eq)]
+pub struct Interface {
+    /// Its number in a file that lists its interfaces, from 0 on.
+    pub number: Option<u32>,
+    /// Linux' number of it (the interface index).
+    pub index: Option<u32>,
+}
+
 /// What the bytes of an entry are.
 #[derive(Clone, Copy, Debug, PartialEq, Eq)]
 pub enum Kind {
@@ -45,6 +54,8 @@ pub struct Entry<'a> {
     pub time: Time<'a>,
     /// Which way it went, where the capture says so.
     pub direction: Option<Direction>,
+    /// Where it was captured.
+    pub interface: Interface,
     /// What its bytes are.
     pub kind: Kind,
     /// What was captured of it, behind the header of the link.

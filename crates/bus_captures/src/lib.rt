@@ -17,7 +17,9 @@ mod text;
 mod time;
 mod writing;
 
-pub use capture::{Capture, CaptureFault, Direction, End, Entry, Kind, MAX_ENTRIES, Time};
+pub use capture::{
+    Capture, CaptureFault, Direction, End, Entry, Interface, Kind, MAX_ENTRIES, Time,
+};
 pub use carried::CarriedPacket;
 pub use laws::one_list_of_records;
 pub use line::{split_word, uncommented};

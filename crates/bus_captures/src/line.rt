@@ -2,7 +2,7 @@
 ghost use Rattle.std.specs.Prelude.{◌≡◌, IfOk};
 ghost use Rattle.bus_captures.{specs.Lines.{uncommented, is_time, word, behind_word, time_of, untimed, direction_in, head_of, packet_head, message_head}, specs.LineValues.{Says, head_value, IsLineOf}, specs.Values.{time_value}};
 
-use crate::capture::{Direction, Entry, Kind, Time};
+use crate::capture::{Direction, Entry, Interface, Kind, Time};
 use crate::hex_text::bytes_of_hex;
 use crate::sort::{Sort, skip};
 use std::alloc::{AllocError, Global};
@@ -25,6 +25,12 @@ struct Head<'a> {
     kind: Kind,
     hex: &'a [u8],
 }
+
+/// A line says nothing of its interface.
+const NOWHERE: Interface = Interface {
+    number: None,
+    index: None,
+};
 
 /// What the line says.
 pub fn read_line<'a>(alloc: Global, line: &'a [u8]) -> Result<Line<'a>, AllocError>
@@ -63,6 +69,7 @@ fn line_of<'a>(head: &Head<'a>, bytes: Vec<u8>) -> Line<'a>
     Line::Entry(Entry {
         time: head.time,
         direction: head.direction,
+        interface: NOWHERE,
         kind: head.kind,
         bytes,
     })

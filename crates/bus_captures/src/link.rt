@@ -1,6 +1,6 @@
 //! What stands before the packet in a record of a capture file.
 ghost use Rattle.std.specs.Prelude.{◌≡◌, ◌≢◌, ◌≤◌, length, drop, MatchOption};
-ghost use Rattle.bus_captures.{specs.Links.{link_number, link_length, sent_or_received, kind_of, direction_of, kind_in}, specs.declared.link.Link.{Link}};
+ghost use Rattle.bus_captures.{specs.Links.{link_number, link_length, sent_or_received, kind_of, direction_of, index_of, kind_in}, specs.declared.link.Link.{Link}};
 
 use crate::capture::{Direction, Kind};
 use byteorder::{BigEndian, ByteOrder};
@@ -55,6 +55,17 @@ impl Link {
             Link::Raw => None,
             Link::Cooked => Some(sent_or_received(BigEndian::read_u16(bytes))),
             Link::CookedAgain => Some(sent_or_received(u16::from(bytes[10]))),
+        }
+    }
+
+    /// Linux' number of the interface over which the bytes of a record went.
+    pub fn index(self, bytes: &[u8]) -> Option<u32>
+        requires { link_length self ≤ length bytes.now }
+        ensures { result ≡ index_of self bytes.now }
+    {
+        match self {
+            Link::Raw | Link::Cooked => None,
+            Link::CookedAgain => Some(BigEndian::read_u32(&bytes[4..])),
         }
     }
 

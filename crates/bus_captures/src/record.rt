@@ -2,7 +2,7 @@
 ghost use Rattle.std.specs.Prelude.{◌≡◌, ◌≢◌, ◌≤◌, ◌<◌, ◌++◌, List, [], length, IfOk, MatchOption, MatchResult};
 ghost use Rattle.bus_captures.{specs.Files.{FileRecord, IsRecord, record_bytes, Begins, IsBrokenBy, IsEntryOf}, specs.Links.{link_length}, specs.Records.{record_value}, specs.Values.{entry_value}};
 
-use crate::capture::{CaptureFault, Entry, Time};
+use crate::capture::{CaptureFault, Entry, Interface, Time};
 use crate::format::{Order, TimeUnit, split_number};
 use crate::link::Link;
 use crate::time::nanoseconds;
@@ -76,6 +76,10 @@ pub fn entry_of<'a>(
 {
     let direction = link.direction(kept.bytes);
     let kind = link.kind(kept.bytes);
+    let interface = Interface {
+        number: None,
+        index: link.index(kept.bytes),
+    };
     let time = Time::At {
         seconds: kept.seconds,
         nanoseconds: nanoseconds(unit, kept.fraction),
@@ -84,6 +88,7 @@ pub fn entry_of<'a>(
     Ok(Entry {
         time,
         direction,
+        interface,
         kind,
         bytes,
     })

@@ -3,16 +3,17 @@ use Rattle.std.{specs.Prelude.{◌≡◌, ℕ, ◌+◌, List, [], ◌∷◌, ◌
 use Rattle.bus_captures.{specs.Values.{EntryValue, entry_value}, specs.declared.capture.Capture.{Capture}, specs.declared.capture.CaptureFault.{CaptureFault}, specs.declared.capture.End.{End}}
 use Rattle.heard_captures.specs.Seen.{Seen, AreSeen}
 use Rattle.plan_values.specs.declared.plan.Plan.{Plan}
-use Rattle.decoded_texts.specs.Seen.{IsToldAs}
+use Rattle.decoded_texts.{specs.Heads.{head_words}, specs.Seen.{IsToldAs}}
 use Rattle.bus_captures.specs.declared.capture.CaptureFault.TheVariants as fault
 use Rattle.bus_captures.specs.declared.capture.End.TheVariants as end
 
--- These are the lines of what was seen, one after the other, with the names that a plan has. Entries are numbered
--- from 1.
-pub data AreTold (plan : Option Plan) : List Seen → List ℕ → Type 0 where
-  None : AreTold plan [] []
-  More : (seen : List Seen) (lines : List ℕ) (s : Seen) (told : List ℕ) → AreTold plan seen lines
-      → IsToldAs plan (length seen + 1) s told → AreTold plan (seen ++ s ∷ []) (lines ++ told)
+-- These are the lines of entries and of what became of them, one after the other, with the names that a plan has.
+-- Entries are numbered from 1.
+pub data AreTold (plan : Option Plan) : List EntryValue → List Seen → List ℕ → Type 0 where
+  None : AreTold plan [] [] []
+  More : (entries : List EntryValue) (seen : List Seen) (lines : List ℕ) (e : EntryValue) (s : Seen) (told : List ℕ)
+      → AreTold plan entries seen lines → IsToldAs plan s told
+      → AreTold plan (entries ++ e ∷ []) (seen ++ s ∷ []) (lines ++ (head_words (length entries + 1) e ++ told))
 
 abbrev pub fault_word : CaptureFault → List ℕ
 fault_word fault.Header = codes "header"
@@ -38,7 +39,7 @@ unit_by (Some plan) = plan.unit
 -- the text tells what became of the entries, with the names that a plan has, and how reading them ended
 abbrev pub IsDecodedBy : Option Plan → List EntryValue → End → List ℕ → Type 0
 IsDecodedBy plan entries how text =
-    (seen : List Seen) × (lines : List ℕ) × AreSeen (unit_by plan) entries seen × AreTold plan seen lines
+    (seen : List Seen) × (lines : List ℕ) × AreSeen (unit_by plan) entries seen × AreTold plan entries seen lines
     × (text ≡ lines ++ end_line (length entries) how)
 
 -- the same without a plan, and with one

@@ -3,6 +3,7 @@ pub mod Platform
 pub mod Messages
 pub mod Names
 pub mod NameTables
+pub mod Heads
 pub mod Seen
 pub mod Steps
 pub mod Decoding

@@ -26,13 +26,11 @@ packet_line p words =
     codes "packet " ++ (address_words_of p ++ (codes " " ++ (position_words_of p ++ (codes " " ++ (tag_words_of p
     ++ (codes " payload " ++ (encode_lower p.payload ++ (words ++ codes "\n"))))))))
 
-abbrev pub fed_line : Option Plan → ℕ → PacketValue → Answer → List ℕ
-fed_line plan number p answer =
-    decimal number ++ (codes " " ++ (answer_word answer ++ (codes " " ++ packet_line p (names_of plan p))))
+abbrev pub fed_line : Option Plan → PacketValue → Answer → List ℕ
+fed_line plan p answer = codes " " ++ (answer_word answer ++ (codes " " ++ packet_line p (names_of plan p)))
 
-abbrev pub told_line : ℕ → Option Direction → List ℕ → List ℕ
-told_line number way message =
-    decimal number ++ (codes " " ++ (way_word way ++ (codes " " ++ (encode_lower message ++ codes "\n"))))
+abbrev pub told_line : Option Direction → List ℕ → List ℕ
+told_line way message = codes " " ++ (way_word way ++ (codes " " ++ (encode_lower message ++ codes "\n")))
 
 -- behind a packet that ends a message stands what the message says
 abbrev pub IsSaidOf : Answer → List ℕ → Type 0
@@ -40,13 +38,9 @@ IsSaidOf (Whole message) said = IsSaid message said
 IsSaidOf Held said = said ≡ []
 IsSaidOf (Dropped cause) said = said ≡ []
 
--- the lines of what was seen, by its number, with the names that a plan has
-abbrev pub IsToldAs : Option Plan → ℕ → Seen → List ℕ → Type 0
-IsToldAs plan number (Fed p answer) lines =
-    (said : List ℕ) × IsSaidOf answer said × (lines ≡ fed_line plan number p answer ++ said)
-IsToldAs plan number (NoPacket why) lines =
-    lines ≡ decimal number ++ (codes " " ++ refused_bytes (refusals.code_of why))
-IsToldAs plan number (Told way message) lines =
-    (said : List ℕ) × IsSaid message said × (lines ≡ told_line number way message ++ said)
-IsToldAs plan number (Other protocol) lines =
-    lines ≡ decimal number ++ (codes " protocol " ++ (decimal protocol ++ codes "\n"))
+-- the lines of what was seen, behind what stands before it, with the names that a plan has
+abbrev pub IsToldAs : Option Plan → Seen → List ℕ → Type 0
+IsToldAs plan (Fed i p answer) lines = (said : List ℕ) × IsSaidOf answer said × (lines ≡ fed_line plan p answer ++ said)
+IsToldAs plan (NoPacket why) lines = lines ≡ codes " " ++ refused_bytes (refusals.code_of why)
+IsToldAs plan (Told way message) lines = (said : List ℕ) × IsSaid message said × (lines ≡ told_line way message ++ said)
+IsToldAs plan (Other protocol) lines = lines ≡ codes " protocol " ++ (decimal protocol ++ codes "\n")

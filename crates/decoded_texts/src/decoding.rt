@@ -6,14 +6,16 @@ ghost use Rattle.decoded_texts.specs.Decoding.{fault_word, end_line, IsDecodedBy
 use crate::entries::push_entry;
 use crate::names::Names;
 use bus_captures::{Capture, CaptureFault, End};
-use heard_captures::idle_assemblers;
+use heard_captures::Stations;
 use plan_values::Plan;
 use std::alloc::{AllocError, Global};
 
-/// For each entry of a capture a line with its number and what became of it, and behind it what its message says; and
-/// last how many entries there are and how reading them ended.
+/// For each entry of a capture a line with its number, its time, its interface and its way, as far as the capture has
+/// them, and what became of it, and behind it what its message says; and last how many entries there are and how reading
+/// them ended.
 ///
-/// The packets to one destination are joined by an assembler of 16 slots for messages of at most 4096 bytes.
+/// The packets to one destination on one interface are joined by an assembler of 16 slots for messages of at most 4096
+/// bytes.
 pub fn decoded_lines(alloc: Global, capture: &Capture) -> Result<String, AllocError>
     ensures { IfOk result (λ text. IsDecodedCapture capture.now (string_bytes text)) }
 {
@@ -31,10 +33,10 @@ pub fn named_lines(alloc: Global, plan: &Plan, capture: &Capture) -> Result<Stri
 fn lines_by(alloc: Global, names: Option<&Names>, capture: &Capture) -> Result<String, AllocError>
     ensures { IfOk result (λ text. IsDecodedBy (option_map (λ n. n.now.plan.now) names.entry) (map entry_value capture.now.entries.items) capture.now.end (string_bytes text)) }
 {
-    let mut assemblers = idle_assemblers(alloc)?;
+    let mut stations = Stations::new(alloc);
     let mut text = String::new(alloc);
     for (i, entry) in capture.entries.iter().enumerate() {
-        push_entry(alloc, &mut text, &mut assemblers, names, i + 1, entry)?;
+        push_entry(alloc, &mut text, &mut stations, names, i + 1, entry)?;
     }
     let end = end_line(alloc, capture.entries.len(), capture.end)?;
     text.push_str(&end)?;

@@ -4,6 +4,7 @@
 mod control;
 mod decoding;
 mod entries;
+mod heads;
 mod message;
 mod names;
 mod platform;

@@ -1,3 +1,5 @@
+pub mod PlaceLaws
 pub mod StationLaws
 pub mod SeenLaws
+pub mod TimesLaws
 pub mod HearingLaws

@@ -1,42 +1,41 @@
 -- A packet for one of the assemblers.
-use Rattle.std.{proofs.Common.{◌≡◌, Global, ℕ, ◌<◌, All, List, length, arith, ◌∙◌, sym, subst, slice_index_or, slice_set, refl}, specs.Prelude.{Result, Ok, Err, IfOk, Vec}, proofs.lemmas.List.{get_or_default}}
-use Rattle.mctp_transport.{specs.Assembly.{HoldsHistory, assembler_slots, assembler_limit}, specs.PacketValues.{PacketValue}, specs.Heard.{IsIdle}, specs.Hearing.{Answer, HearsOnly}, specs.Histories.{History, Arrived, after}, specs.declared.assembler.Assembler.{Assembler}}
-use Rattle.heard_captures.specs.Stations.{AreIdle, HasBeenGiven, IsFedAt}
+use Rattle.std.{proofs.Common.{◌≡◌, ◌&&◌, ◌==◌, ℕ, [], true, false, true≢false, arith, ◌∙◌, sym, subst}, specs.Prelude.{Result, Ok, Err, IfOk, Option, Some, None}, specs.BTreeMap.{Updates, get, is_at}, proofs.lemmas.Bool.Decides.{nat_tests}}
+use Rattle.bus_captures.specs.declared.capture.Interface.{Interface}
+use Rattle.mctp_transport.{specs.Assembly.{HoldsHistory, assembler_slots, assembler_limit}, specs.PacketValues.{PacketValue}, specs.Hearing.{Answer, HearsOnly}, specs.Histories.{History, Arrived, after}, specs.declared.assembler.Assembler.{Assembler}}
+use Rattle.heard_captures.{specs.Places.{is_same, place_of, place_cmp}, specs.Stations.{station_at, HasBeenGiven, IsFedAt}, specs.declared.stations.Stations.{Stations}, proofs.PlaceLaws.{other_place}}
 
-fed_at : (old new : List Assembler) (p : PacketValue) (answer : Answer) (before fed : Assembler) → p.destination < length old
-    → before ≡ slice_index_or old p.destination before → new ≡ slice_set old p.destination fed
-    → assembler_slots fed ≡ assembler_slots before → assembler_limit fed ≡ assembler_limit before
-    → ((h : History) → HoldsHistory before h → HearsOnly (assembler_slots before) (assembler_limit before) h p answer)
-    → ((h : History) → HoldsHistory before h → HoldsHistory fed (after h (Arrived p))) → IsFedAt old new p answer
-fed_at old new p answer before fed within there others slots limit hears stands =
-    let same : (x : Assembler) → slice_index_or old p.destination x ≡ before =
-    λ x. get_or_default old p.destination x before within ∙ sym there in
-    let as_before : (x : Assembler) (h : History) → HasBeenGiven (slice_index_or old p.destination x) h → HasBeenGiven before h =
-    λ x h given. subst (λ (a : Assembler). HasBeenGiven a h) (same x) given in
-    record {
-      fed = fed;
-      others = others;
-      hears = λ x h given.
-          let was = as_before x h given in
-          subst (λ (n : ℕ). HearsOnly n 4096 h p answer) was.1
-          (subst (λ (n : ℕ). HearsOnly (assembler_slots before) n h p answer) was.2 (hears h was.0));
-      given = λ x h given.
-          let was = as_before x h given in
-          (stands h was.0, slots ∙ was.1, limit ∙ was.2);
-    }
+module _ (old between new : Stations) (i : Interface) (p : PacketValue) (before after_it : Assembler) where
+  pub fed_at : (answer : Answer)
+      → ((h : History) → HasBeenGiven (station_at old i p.destination) h → HasBeenGiven (Some before) h)
+      → ((q : ℕ × ℕ × ℕ) → is_at (place_cmp (place_of i p.destination)) q ≡ false → get place_cmp between.by_place q ≡ get place_cmp old.by_place q)
+      → Updates place_cmp between.by_place new.by_place (place_of i p.destination) (Some after_it)
+      → assembler_slots after_it ≡ assembler_slots before → assembler_limit after_it ≡ assembler_limit before
+      → ((h : History) → HoldsHistory before h → HearsOnly (assembler_slots before) (assembler_limit before) h p answer)
+      → ((h : History) → HoldsHistory before h → HoldsHistory after_it (after h (Arrived p)))
+      → IsFedAt old new i p answer
+  fed_at answer was taken updates slots limit hears stands = record {
+    hears = λ h given.
+        let held = was h given in
+        subst (λ (n : ℕ). HearsOnly n 4096 h p answer) held.1
+        (subst (λ (n : ℕ). HearsOnly (assembler_slots before) n h p answer) held.2 (hears h held.0));
+    given = λ h given.
+        let held = was h given in
+        subst (λ (o : Option Assembler). HasBeenGiven o (after h (Arrived p))) (sym updates.1) (stands h held.0, slots ∙ held.1, limit ∙ held.2);
+    others = λ j d other.
+        let elsewhere = other_place i j p.destination d (λ same to. true≢false (sym (here j d same to) ∙ other)) in
+        updates.2 (place_of j d) elsewhere ∙ taken (place_of j d) elsewhere;
+  }
+    where
+      here : (j : Interface) (d : ℕ) → is_same i j ≡ true → p.destination ≡ d → (is_same i j && (p.destination == d)) ≡ true
+      here j d same to = grind (arith, nat_tests)
 
--- where an answer comes
-pub fed_at_if : {T E : Type 0} (answer_of : T → Answer) (old new : List Assembler) (p : PacketValue) (result : Result T E) (before fed : Assembler)
-    → p.destination < length old → before ≡ slice_index_or old p.destination before → new ≡ slice_set old p.destination fed
-    → assembler_slots fed ≡ assembler_slots before → assembler_limit fed ≡ assembler_limit before
-    → IfOk result (λ t. (h : History) → HoldsHistory before h → HearsOnly (assembler_slots before) (assembler_limit before) h p (answer_of t))
-    → ((h : History) → HoldsHistory before h → HoldsHistory fed (after h (Arrived p))) → IfOk result (λ t. IsFedAt old new p (answer_of t))
-fed_at_if answer_of old new p (Ok t) before fed within there others slots limit hears stands =
-    fed_at old new p (answer_of t) before fed within there others slots limit hears stands
-fed_at_if answer_of old new p (Err e) before fed within there others slots limit hears stands = hears
+-- an assembler that was taken out, or an idle one, was given what was given there
+pub taken_given : (o : Option Assembler) (a : Assembler) → o ≡ Some a → (h : History) → HasBeenGiven o h → HasBeenGiven (Some a) h
+taken_given o a is h given = subst (λ (x : Option Assembler). HasBeenGiven x h) is given
 
--- idle assemblers, as many as there are destinations
-pub idle_given : {E : Type 0} (result : Result (Vec Assembler Global) E) → IfOk result (λ v. length v.items ≡ 256) → IfOk result (λ v. All IsIdle v.items)
-    → IfOk result (λ v. AreIdle v.items)
-idle_given (Ok v) many idle = record { many = many; each = λ d x small. let is = idle d x (omega (arith, many)) in (is.2, is.0, is.1) }
-idle_given (Err e) many idle = many
+pub idle_given : {E : Type 0} (o : Option Assembler) (result : Result Assembler E) → o ≡ None → IfOk result (λ a. assembler_slots a ≡ 16) → IfOk result (λ a. assembler_limit a ≡ 4096)
+    → IfOk result (λ a. HoldsHistory a []) → IfOk result (λ a. (h : History) → HasBeenGiven o h → HasBeenGiven (Some a) h)
+idle_given o (Ok a) none slots limit stands = λ h given.
+    let nothing : h ≡ [] = subst (λ (x : Option Assembler). HasBeenGiven x h) none given in
+    rw nothing (stands, slots, limit)
+idle_given o (Err e) none slots limit stands = slots

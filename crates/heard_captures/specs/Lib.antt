@@ -1,5 +1,9 @@
+pub mod Places
 pub mod Stations
 pub mod Seen
 pub mod Sights
 pub mod Steps
 pub mod Messages
+pub mod Said
+pub mod Times
+pub mod Hearing

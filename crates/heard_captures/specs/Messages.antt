@@ -1,8 +1,8 @@
 -- The messages of a capture that came whole.
-use Rattle.std.{specs.Prelude.{◌≡◌, ℕ, Bool, List, [], ◌∷◌, ◌++◌, map}, specs.List.{flat_map}}
-use Rattle.bus_captures.specs.Values.{EntryValue}
-use Rattle.mctp_transport.{specs.PacketValues.{PacketValue}, specs.Hearing.{Answer, Whole, Held, Dropped}, specs.declared.assembler.Assembler.{Assembler}}
-use Rattle.heard_captures.{specs.Seen.{Seen, Fed, NoPacket, Told, Other, AreSeen}, specs.Steps.{Sees}, specs.declared.messages.Message.{Message}}
+use Rattle.std.{specs.Prelude.{ℕ, Bool, List, [], ◌∷◌}, specs.List.{flat_map}}
+use Rattle.bus_captures.specs.declared.capture.Interface.{Interface}
+use Rattle.mctp_transport.{specs.PacketValues.{PacketValue}, specs.Hearing.{Answer, Whole, Held, Dropped}}
+use Rattle.heard_captures.{specs.Seen.{Seen, Fed, NoPacket, Told, Other}, specs.declared.messages.Message.{Message}}
 
 -- the endpoint IDs from which and to which a message went, its tag and whether the sender owns it, and its bytes
 pub record MessageValue : Type 0 where
@@ -21,31 +21,29 @@ message_value m = record {
   bytes = m.bytes.items;
 }
 
--- the message that a packet ended, if it ended one; its header is that of its last packet
-abbrev pub ended_by : PacketValue → Answer → List MessageValue
-ended_by p (Whole bytes) =
-    record { source = p.source; destination = p.destination; owner = p.owner; tag = p.tag; bytes = bytes } ∷ []
-ended_by p Held = []
-ended_by p (Dropped cause) = []
+-- a message that came whole, and the interface on which it did
+pub record Came : Type 0 where
+  pub on : Interface
+  pub message : MessageValue
+
+-- the message of these bytes that a packet ended; its header is that of its last packet
+abbrev pub ended_by : PacketValue → List ℕ → MessageValue
+ended_by p bytes =
+    record { source = p.source; destination = p.destination; owner = p.owner; tag = p.tag; bytes = bytes }
+
+-- the message that a packet ended, if it ended one
+abbrev pub came_of : Interface → PacketValue → Answer → List Came
+came_of i p (Whole bytes) = record { on = i; message = ended_by p bytes } ∷ []
+came_of i p Held = []
+came_of i p (Dropped cause) = []
 
 -- A message that was captured by itself has no endpoint IDs, so it isn't among those that came in packets.
-abbrev pub messages_of : Seen → List MessageValue
-messages_of (Fed p answer) = ended_by p answer
+abbrev pub messages_of : Seen → List Came
+messages_of (Fed i p answer) = came_of i p answer
 messages_of (NoPacket why) = []
 messages_of (Told way message) = []
 messages_of (Other protocol) = []
 
 -- the messages that came whole, in the order of the packets that ended them
-abbrev pub messages_in : List Seen → List MessageValue
+abbrev pub messages_in : List Seen → List Came
 messages_in seen = flat_map messages_of seen
-
--- the entry was seen, and the messages that it ended were added
-pub record HearsMore (unit : ℕ) (old new : List Assembler) (e : EntryValue)
-    (before after : List Message) : Type 0 where
-  pub seen : Seen
-  pub sees : Sees unit old new e seen
-  pub added : map message_value after ≡ map message_value before ++ messages_of seen
-
--- the messages are those of the entries that came whole, in packets under a transmission unit
-abbrev pub AreHeard : (unit : ℕ) → List EntryValue → List MessageValue → Type 0
-AreHeard unit entries messages = (seen : List Seen) × AreSeen unit entries seen × (messages ≡ messages_in seen)

@@ -1,12 +1,13 @@
 //! What was heard in a capture: what an assembler makes of each packet, and the messages that came whole.
 #![tactic(auto)]
 
-mod assembling;
 mod laws;
 mod messages;
 mod seeing;
+mod stations;
+mod times;
 
-pub use assembling::idle_assemblers;
 pub use laws::one_entry_more;
 pub use messages::{Message, heard_messages};
 pub use seeing::{Sight, see};
+pub use stations::Stations;

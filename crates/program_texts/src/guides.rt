@@ -647,10 +647,11 @@ Status 1: why the bytes are no record, D01 to D06.
 const OF_DECODE: &str = r#"mctpplan decode CAPTURE [PLAN]
 
 Reads a capture file (pcap) or a text of hex lines, and prints a line for each entry with its
-number: the packet, and whether it is held, dropped or ends a message. Behind the last packet of a
-message stands what the message says. Packets to one destination are joined as its assembler would,
-16 messages at a time. With PLAN, which isn't checked, the line of a packet ends with the names of
-the nodes that hold its source and its destination, and packets may be as long as the plan's
+number, and its time, its interface and its direction where the capture has them: the packet, and
+whether it is held, dropped or ends a message. Behind the last packet of a message stands what the
+message says. Packets to one destination on one interface are joined as its assembler would, 16
+messages at a time. With PLAN, which isn't checked, the line of a packet ends with the names of the
+nodes that hold its source and its destination, and packets may be as long as the plan's
 transmission unit allows. Without it they have at most 64 payload bytes.
 
 Status 0: the entries.
@@ -726,9 +727,9 @@ Status 1: a fault of the plan or the certificate.
 
   $ mctpplan capture examples/riser/plan.json examples/riser/certificate.json examples/riser/events-to-ssd.json > run.pcap
   $ mctpplan decode run.pcap examples/riser/plan.json
-  1 whole packet reserved 0 destination 18 source 8 som 1 eom 1 number 0 owner 1 tag 3 payload 01800002 from host to ssd
+  1 time 2.000000000 ifindex 1 in whole packet reserved 0 destination 18 source 8 som 1 eom 1 number 0 owner 1 tag 3 payload 01800002 from host to ssd
   pldm request instance 0 type 0 command 2 data 
-  2 whole packet reserved 0 destination 18 source 8 som 1 eom 1 number 0 owner 1 tag 3 payload 01800002 from host to ssd
+  2 time 3.000000000 ifindex 2 in whole packet reserved 0 destination 18 source 8 som 1 eom 1 number 0 owner 1 tag 3 payload 01800002 from host to ssd
   pldm request instance 0 type 0 command 2 data 
   entries 2
 "#;

@@ -5,8 +5,8 @@ use Rattle.decoded_texts.proofs.decoding.lines_by.Goals as goal
 pub loop-i-init : goal.loop-i-init
 loop-i-init c =
     let plan = option_map (λ n. n.now.plan.now) c.args.names in
-    let assemblers = c.in_ok-assemblers.assemblers.items in
-    subst (λ (text : List ℕ). HasTold plan 0 [] assemblers text) (sym c.new-text.ensures.bytes) (nothing_told plan assemblers c.in_ok-assemblers.ensures)
+    let stations = c.new-stations.result in
+    subst (λ (text : List ℕ). HasTold plan [] stations text) (sym c.new-text.ensures.bytes) (nothing_told plan stations c.new-stations.ensures)
 
 pub loop-i-preserved : goal.loop-i-preserved
 loop-i-preserved c =
@@ -16,4 +16,4 @@ loop-i-preserved c =
     let item = c.entry-item.result in
     let within : i < length items = search rules in
     let is : item ≡ slice_index_or items i item = search rules in
-    next_told plan items i item c.loop-i.assemblers.items c.push_entry.new.assemblers.items (string_bytes c.loop-i.text) _ within is c.loop-i.invariant c.in_ok-push_entry.ensures
+    next_told plan items i item c.loop-i.stations c.push_entry.new.stations (string_bytes c.loop-i.text) _ within is c.loop-i.invariant c.in_ok-push_entry.ensures

@@ -6,9 +6,9 @@ use Rattle.decoded_texts.proofs.entries.push_entry.Goals as goal
 
 pub returns : goal.returns
 returns c =
-    let old = c.args.assemblers.now.items in
-    let new = c.see.new.assemblers.items in
+    let old = c.args.stations.now in
+    let new = c.see.new.stations in
     let e = entry_value c.args.entry.now in
     let s = seen_of c.in_ok-sight.sight in
-    step_if (option_map (λ n. n.now.plan.now) c.args.names) old new c.args.number e s _ _ c.push_sight.result
-    (subst (λ n. Sees n old new e s) c.unit_by.ensures.unit c.in_ok-sight.ensures) c.push_sight.ensures
+    step_if (option_map (λ n. n.now.plan.now) c.args.names) old new c.args.number e s _ _ _ c.push_sight.result
+    (subst (λ n. Sees n old new e s) c.unit_by.ensures.unit c.in_ok-sight.ensures) c.in_ok-push_head.ensures c.push_sight.ensures

@@ -4,4 +4,4 @@ use Rattle.heard_captures.{specs.Messages.{message_value}, proofs.HearingLaws.{H
 use Rattle.heard_captures.proofs.messages.heard_messages.Given as goal
 
 abbrev pub invariant-loop-entry : goal.invariant-loop-entry
-invariant-loop-entry l = HaveHeard l.unit (map entry_value (take l.entry-index l.capture.entries.items)) l.assemblers.items (map message_value l.messages.items)
+invariant-loop-entry l = HaveHeard l.unit (map entry_value (take l.entry-index l.capture.entries.items)) l.stations l.tally (map message_value l.messages.items)

@@ -7,7 +7,7 @@ pub returns-in_ok-heard-in-Ok : goal.returns-in_ok-heard-in-Ok
 returns-in_ok-heard-in-Ok c =
     let p = packet_value_of c.in-Ok.packet in
     let spelled = subst (λ (bytes : List ℕ). Spelled c.args.unit p bytes) c.deref.ensures.value c.in-Ok.ensures.ok in
-    (c.requires.kind, spelled, c.in_ok-heard-in-Ok.ensures)
+    (c.requires.kind, refl, spelled, c.in_ok-heard-in-Ok.ensures)
 
 pub returns-in-Err : goal.returns-in-Err
 returns-in-Err c =

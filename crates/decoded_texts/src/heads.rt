@@ -1,0 +1,80 @@
+//! What stands before what became of an entry: its number, when and where it was captured, and which way it went.
+ghost use Rattle.std.specs.Prelude.{◌≡◌, ◌++◌, OnOk, string_bytes};
+ghost use Rattle.bus_captures.specs.Values.{entry_value, time_value};
+ghost use Rattle.decoded_texts.specs.Heads.{head_words, nine_digits, time_words, interface_words, number_words, way_words};
+
+use bus_captures::{Direction, Entry, Interface, Kind, Time};
+use std::alloc::{AllocError, Global};
+
+/// How many nanoseconds a second has.
+const SECOND: u64 = 1_000_000_000;
+
+/// Adds the number of an entry, its time in seconds, its interface and its way, as far as the capture has them.
+pub fn push_head(
+    alloc: Global,
+    text: &mut String,
+    number: usize,
+    entry: &Entry,
+) -> Result<(), AllocError>
+    ensures { OnOk result (string_bytes text.new ≡ string_bytes text.old ++ head_words number (entry_value entry.now)) }
+{
+    write!(text, "{number}")?;
+    push_time(alloc, text, entry.time)?;
+    push_interface(text, entry.interface)?;
+    text.push_str(way_words(entry.kind, entry.direction))
+}
+
+fn push_time(alloc: Global, text: &mut String, time: Time) -> Result<(), AllocError>
+    ensures { OnOk result (string_bytes text.new ≡ string_bytes text.old ++ time_words (time_value time.entry)) }
+{
+    match time {
+        Time::Unknown => Ok(()),
+        Time::Written(digits) => {
+            let digits = String::from_utf8_lossy(alloc, digits)?;
+            write!(text, " time {digits}")
+        }
+        Time::At {
+            seconds,
+            nanoseconds,
+        } => {
+            let whole = u64::from(seconds) + nanoseconds / SECOND;
+            write!(text, " time {whole}.")?;
+            push_nine_digits(text, nanoseconds % SECOND)
+        }
+    }
+}
+
+/// Adds a number with zeros before it, in nine digits.
+fn push_nine_digits(text: &mut String, number: u64) -> Result<(), AllocError>
+    ensures { OnOk result (string_bytes text.new ≡ string_bytes text.old ++ nine_digits number) }
+{
+    write!(text, "{number:09}")
+}
+
+fn push_interface(text: &mut String, interface: Interface) -> Result<(), AllocError>
+    ensures { OnOk result (string_bytes text.new ≡ string_bytes text.old ++ interface_words interface) }
+{
+    push_number(text, " interface ", interface.number)?;
+    push_number(text, " ifindex ", interface.index)
+}
+
+/// Adds a number behind its words, if there is one.
+fn push_number(text: &mut String, words: &str, number: Option<u32>) -> Result<(), AllocError>
+    ensures { OnOk result (string_bytes text.new ≡ string_bytes text.old ++ number_words words.now number) }
+{
+    match number {
+        None => Ok(()),
+        Some(number) => write!(text, "{words}{number}"),
+    }
+}
+
+/// The way of what isn't a message: a message has it in words of its own.
+fn way_words(kind: Kind, way: Option<Direction>) -> &'static str
+    ensures { result.now ≡ way_words kind way }
+{
+    match (kind, way) {
+        (Kind::Message, _) | (_, None) => "",
+        (_, Some(Direction::Sent)) => " out",
+        (_, Some(Direction::Received)) => " in",
+    }
+}
