@@ -13,7 +13,7 @@ def wide_lines(text):
 
 
 def try_all(trial):
-    paths = [*TOP.glob("*.md"), *TOP.glob("docs/**/*.md"), *TOP.glob("examples/*/*.md"), *TOP.glob("crates/*/specs/*.antt")]
+    paths = [*TOP.glob("*.md"), *TOP.glob("docs/**/*.md"), *TOP.glob("examples/*/*.md"), *TOP.glob("crates/*/README.md"), *TOP.glob("crates/*/specs/*.antt")]
     for path in (it for it in paths if trial.has(it.name)):
         wide = wide_lines(path.read_text(encoding="utf-8"))
         trial.note(not wide, f"{path.relative_to(TOP)}: more than {MOST} characters in line {', '.join(map(str, wide))}")

@@ -1,0 +1,9 @@
+mod CircleLaws
+mod IndexLaws
+mod RecordLaws
+mod NextLaws
+mod OwnerLoopLaws
+mod RoutingLoopLaws
+mod ChainListed
+mod ListLaws
+mod NothingLeft

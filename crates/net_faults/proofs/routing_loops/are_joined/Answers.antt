@@ -1,0 +1,1 @@
+use Rattle.net_faults.proofs.routing_loops.are_joined.Goals as goal

@@ -1,0 +1,4 @@
+pub mod Circles
+pub mod FirstRows
+pub mod Chains
+pub mod PlanFaults
