@@ -1,12 +1,15 @@
 """Inputs that are made to take long, each at any of four sizes.
 
-`ROWS` has what each is, a function that makes its files and words at a size, and the smallest of the sizes: the others are
-two, four and eight times as large. tools/try crawls tries each, and bench/measure_adversarial.py measures each.
+`ROWS` has what each is, a function that makes its files and words at a size, the smallest of the sizes, and whether its
+answer is about all pairs of nodes. The other sizes are two, four and eight times as large. A file called `stdin` is standard input. tools/try crawls tries each, and
+bench/measure_adversarial.py measures each.
 """
 
 import json
 import random
 import struct
+from collections.abc import Callable
+from typing import NamedTuple
 
 import plans
 
@@ -270,36 +273,166 @@ def sensors_of_one_id(size):
     return {"plan.json": plan_of_sensors([7] * size)}, ["lint", "plan.json"]
 
 
+def line_plan(count):
+    """The text of bridges in a line."""
+    return plans.text_of("line", count)
+
+
+def line_certificate(count):
+    """That plan's certificate: ranks are the hops along the line."""
+    ranks = [
+        {
+            "node": f"n{place}",
+            "ranges": [
+                {"first": plans.FIRST_EID + other, "size": 1, "rank": abs(place - other)} for other in range(count) if other != place
+            ],
+        }
+        for place in range(count)
+    ]
+    return certificate_of(ranks=ranks)
+
+
+def over_a_line(size, before, behind=()):
+    """Words that ask something of bridges in a line."""
+    files = {"plan.json": line_plan(size), "certificate.json": line_certificate(size)}
+    return files, [*before, "plan.json", "certificate.json", *behind]
+
+
+def traced_in_json(size):
+    return over_a_line(size, ["trace", "--json"], ["n0", f"n{size - 1}"])
+
+
+def matrix_of_a_line(size):
+    return over_a_line(size, ["matrix"])
+
+
+def reported(size):
+    return over_a_line(size, ["report"])
+
+
+def wishes(size):
+    """Many wishes that each node is reached."""
+    lines = "".join("host -> *\n" for _ in range(size))
+    return {"wanted.txt": lines}, ["require", f"{RISER}/plan.json", f"{RISER}/certificate.json", "wanted.txt"]
+
+
+def rows_of_a_line(size):
+    """Bridges in a line that have no rows yet."""
+    buses, nodes = plans.line(size)
+    return {"plan.json": plan_of(buses, [{**node, "rows": []} for node in nodes])}, ["rows", "plan.json"]
+
+
+def board_of_a_line(size, rows_at):
+    """The board of bridges in a line, each with the rows that it gives."""
+    tables = [f'[[bus]]\nname = "b{place}"\nbinding = "smbus"\n' for place in range(1, size)]
+    for place in range(size):
+        ports = [f'"b{at} {32 + 2 * place:02x}"' for at in (place, place + 1) if 0 < at < size]
+        node = [f'[[node]]\nname = "n{place}"\nkind = "bridge"\neid = {plans.FIRST_EID + place}\nports = [{", ".join(ports)}]\n']
+        given = rows_at(place)
+        tables.append("".join([*node, f"rows = [{', '.join(given)}]\n"] if given else node))
+    return {"board.toml": "\n".join(tables)}, ["make", "board.toml"]
+
+
+def made_line(size):
+    return board_of_a_line(size, lambda place: [])
+
+
+def made_line_with_rows(size):
+    """Each bridge gives the rows towards the first, of one endpoint ID each."""
+    return board_of_a_line(size, lambda place: [f'"{plans.FIRST_EID + it} via n{place - 1} port 0"' for it in range(place)])
+
+
+def ring(size, step):
+    """Bridges in a ring, which send all on the same way round, but what is for themselves."""
+    buses = [plans.bus_named(f"b{place}") for place in range(size)]
+    nodes = []
+    for place in range(size):
+        ports = [plans.port_on(f"b{place}", place), plans.port_on(f"b{(place + 1) % size}", place)]
+        port, following = (1, (place + 1) % size) if step > 0 else (0, (place - 1) % size)
+        spans = [(0, place), (place + 1, size - place - 1)]
+        rows = [plans.row_to(plans.FIRST_EID + first, many, port, following) for first, many in spans if many]
+        nodes.append(plans.node_at(place, "bridge", ports, rows))
+    return plan_of(buses, nodes)
+
+
+def turned_ring(size):
+    """The steps by which a ring is turned round."""
+    return {"old.json": ring(size, 1), "new.json": ring(size, -1)}, ["rollout", "old.json", "new.json"]
+
+
+def broken_row(size):
+    """Bridges on one bus, of which the last row has a port that isn't there."""
+    buses, nodes = plans.bus(size)
+    nodes[-1]["rows"][-1]["port"] = 31
+    return {"plan.json": plan_of(buses, nodes)}, ["explain", "plan.json"]
+
+
+def mended_row(size):
+    files, words = broken_row(size)
+    return files, ["fix", *words[1:]]
+
+
+def answered_packets(size):
+    """Packets that an emulated node is given, line by line."""
+    return {"stdin": f"b1 {OTHER}\n" * size}, ["emulate", f"{RISER}/plan.json", f"{RISER}/certificate.json", "nic"]
+
+
+def decoded_packets(size):
+    """The same packets in a capture."""
+    return {"capture.txt": f"{OTHER}\n" * size}, ["decode", "capture.txt"]
+
+
+class Input(NamedTuple):
+    """An input that is made at a size."""
+
+    name: str
+    made: Callable
+    smallest: int
+    is_of_pairs: bool = False
+
+
 ROWS = [
-    ("different names in a certificate", different_names, 2_500),
-    ("names in order in a certificate", names_in_order, 2_500),
-    ("names that begin alike in a certificate", names_that_begin_alike, 2_500),
-    ("different keys in a plan", different_keys, 2_500),
-    ("lists 120 deep", deep_lists, 250),
-    ("handles that ascend", handles_up, 512),
-    ("handles that descend", handles_down, 512),
-    ("handles that go to and fro", handles_to_and_fro, 512),
-    ("handles that are far apart", handles_far_apart, 512),
-    ("rows in the order of endpoint IDs", full_plan, 8),
-    ("rows in the other order", rows_backwards, 8),
-    ("rows in no order", rows_in_no_order, 8),
-    ("64 buses, nodes of 32 ports", buses_with_ports, 8),
-    ("ranks in ranges of one endpoint ID", broken_ranks, 32),
-    ("asks while packets are on their way", asks_among_flights, 2_000),
-    ("asks while messages wait", asks_among_messages, 2_000),
-    ("copies of a packet", copies, 2_000),
-    ("packets that are lost, oldest first", losses, 2_000),
-    ("packets that are lost, newest first", losses_backwards, 2_000),
-    ("answers to requests that all wait", answers, 2_000),
-    ("a walker that is told over and over", told, 2_000),
-    ("walkers that begin", walkers, 512),
-    ("messages that come to walkers", messages_to_walkers, 512),
-    ("sensors of different IDs", sensors, 512),
-    ("diff of many records", changed_records, 128),
-    ("diff of many records of one handle", records_of_one_handle, 128),
-    ("faults of many rows", broken_rows, 8),
-    ("faults of many rows and a certificate", rows_without_ranks, 8),
-    ("faults of many records", broken_records, 64),
-    ("faults of many records, in JSON", as_json(broken_records), 64),
-    ("lint of many sensors of one ID, in JSON", as_json(sensors_of_one_id), 64),
+    Input("different names in a certificate", different_names, 2_500),
+    Input("names in order in a certificate", names_in_order, 2_500),
+    Input("names that begin alike in a certificate", names_that_begin_alike, 2_500),
+    Input("different keys in a plan", different_keys, 2_500),
+    Input("lists 120 deep", deep_lists, 250),
+    Input("handles that ascend", handles_up, 512),
+    Input("handles that descend", handles_down, 512),
+    Input("handles that go to and fro", handles_to_and_fro, 512),
+    Input("handles that are far apart", handles_far_apart, 512),
+    Input("rows in the order of endpoint IDs", full_plan, 8),
+    Input("rows in the other order", rows_backwards, 8),
+    Input("rows in no order", rows_in_no_order, 8),
+    Input("64 buses, nodes of 32 ports", buses_with_ports, 8),
+    Input("ranks in ranges of one endpoint ID", broken_ranks, 32),
+    Input("asks while packets are on their way", asks_among_flights, 2_000),
+    Input("asks while messages wait", asks_among_messages, 2_000),
+    Input("copies of a packet", copies, 2_000),
+    Input("packets that are lost, oldest first", losses, 2_000),
+    Input("packets that are lost, newest first", losses_backwards, 2_000),
+    Input("answers to requests that all wait", answers, 2_000),
+    Input("a walker that is told over and over", told, 2_000),
+    Input("walkers that begin", walkers, 512),
+    Input("messages that come to walkers", messages_to_walkers, 512),
+    Input("sensors of different IDs", sensors, 512),
+    Input("diff of many records", changed_records, 128),
+    Input("diff of many records of one handle", records_of_one_handle, 128),
+    Input("faults of many rows", broken_rows, 8),
+    Input("faults of many rows and a certificate", rows_without_ranks, 8),
+    Input("faults of many records", broken_records, 64),
+    Input("faults of many records, in JSON", as_json(broken_records), 64),
+    Input("lint of many sensors of one ID, in JSON", as_json(sensors_of_one_id), 64),
+    Input("trace of a line, in JSON", traced_in_json, 8),
+    Input("matrix of a line", matrix_of_a_line, 8, is_of_pairs=True),
+    Input("report of a line", reported, 8, is_of_pairs=True),
+    Input("wishes for all nodes", wishes, 512),
+    Input("rows of a line", rows_of_a_line, 8, is_of_pairs=True),
+    Input("make of a line", made_line, 8, is_of_pairs=True),
+    Input("make of a line with rows of its own", made_line_with_rows, 8, is_of_pairs=True),
+    Input("rollout of a ring", turned_ring, 8, is_of_pairs=True),
+    Input("explain of a broken row", broken_row, 8),
+    Input("fix of a broken row", mended_row, 8),
+    Input("packets for an emulated node", answered_packets, 512),
+    Input("packets of a capture", decoded_packets, 512),
 ]

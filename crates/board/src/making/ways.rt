@@ -1,6 +1,6 @@
 //! Ways of the fewest hops over buses and bridges.
 use super::{given_row, kind_of};
-use crate::board::{Board, BoardNode};
+use crate::board::{Board, BoardNode, BoardRow};
 use plan_values::Kind;
 use std::alloc::{AllocError, Global};
 
@@ -85,14 +85,55 @@ pub fn steps_to(
     destination: usize,
     eid: u8,
 ) -> Result<Vec<Option<Step>>, AllocError> {
-    let mut steps = Vec::new(alloc);
-    for node in 0..board.nodes.len() {
-        steps.push(first_step(node, destination))?;
-    }
+    let given = given_links(alloc, board, eid)?;
+    let mut steps = first_steps(alloc, board.nodes.len(), destination)?;
+    let mut last = [destination].to_vec(alloc)?;
     for hops in 0..board.nodes.len() {
-        if !add_steps(board, net, destination, eid, hops, &mut steps) {
+        last = next_nodes(alloc, net, &given, &last, hops, &mut steps)?;
+        if last.is_empty() {
             return Ok(steps);
         }
+    }
+    Ok(steps)
+}
+
+/// The links of the rows that the board gives for an endpoint ID.
+#[derive(Drop)]
+struct GivenLinks {
+    /// For each node, its row's.
+    links: Vec<Option<Link>>,
+    /// The nodes that have such a row.
+    nodes: Vec<usize>,
+}
+
+fn given_links(alloc: Global, board: &Board, eid: u8) -> Result<GivenLinks, AllocError> {
+    let mut links = Vec::new(alloc);
+    let mut nodes = Vec::new(alloc);
+    for (index, node) in board.nodes.iter().enumerate() {
+        let row = given_row(node, eid);
+        if row.is_some() {
+            nodes.push(index)?;
+        }
+        links.push(row.map(link_of))?;
+    }
+    Ok(GivenLinks { links, nodes })
+}
+
+fn link_of(row: BoardRow) -> Link {
+    Link {
+        next: row.next,
+        port: row.port,
+    }
+}
+
+fn first_steps(
+    alloc: Global,
+    nodes: usize,
+    destination: usize,
+) -> Result<Vec<Option<Step>>, AllocError> {
+    let mut steps = Vec::new(alloc);
+    for node in 0..nodes {
+        steps.push(first_step(node, destination))?;
     }
     Ok(steps)
 }
@@ -110,26 +151,45 @@ fn first_step(node: usize, destination: usize) -> Option<Step> {
     })
 }
 
-/// Adds the nodes that are one hop further, and tells whether there are any.
-fn add_steps(
-    board: &Board,
+/// The nodes that are one hop further than the last ones. Each is on a bus of one of these, or has a given row.
+fn next_nodes(
+    alloc: Global,
     net: &Net,
-    destination: usize,
-    eid: u8,
+    given: &GivenLinks,
+    last: &[usize],
     hops: usize,
     steps: &mut Vec<Option<Step>>,
-) -> bool {
-    let mut are_some = false;
-    for (index, node) in board.nodes.iter().enumerate() {
-        if is_open(steps, index) {
-            let link = link_on(net, node, index, destination, eid, hops, steps);
-            if let Some(link) = link {
-                set_step(steps, index, hops, link);
-                are_some = true;
+) -> Result<Vec<usize>, AllocError> {
+    let mut found = Vec::new(alloc);
+    for node in last {
+        if let Some(links) = net.links.get(*node) {
+            for link in links {
+                add_node(net, given, link.next, hops, steps, &mut found)?;
             }
         }
     }
-    are_some
+    for node in &given.nodes {
+        add_node(net, given, *node, hops, steps, &mut found)?;
+    }
+    Ok(found)
+}
+
+/// Adds a node, if it is one hop further and wasn't found before.
+fn add_node(
+    net: &Net,
+    given: &GivenLinks,
+    node: usize,
+    hops: usize,
+    steps: &mut Vec<Option<Step>>,
+    found: &mut Vec<usize>,
+) -> Result<(), AllocError> {
+    if is_open(steps, node) {
+        if let Some(link) = link_on(net, given, node, hops, steps) {
+            set_step(steps, node, hops, link);
+            found.push(node)?;
+        }
+    }
+    Ok(())
 }
 
 fn is_open(steps: &[Option<Step>], node: usize) -> bool {
@@ -151,39 +211,32 @@ fn set_step(steps: &mut Vec<Option<Step>>, node: usize, hops: usize, link: Link)
 /// By which link a node comes to one that is so many hops away and sends on.
 fn link_on(
     net: &Net,
-    node: &BoardNode,
-    index: usize,
-    destination: usize,
-    eid: u8,
+    given: &GivenLinks,
+    node: usize,
     hops: usize,
     steps: &[Option<Step>],
 ) -> Option<Link> {
-    if let Some(row) = given_row(node, eid) {
-        let link = Link {
-            next: row.next,
-            port: row.port,
-        };
-        return if leads(net, link, destination, hops, steps) {
-            Some(link)
+    if let Some(Some(link)) = given.links.get(node) {
+        return if leads(net, *link, hops, steps) {
+            Some(*link)
         } else {
             None
         };
     }
-    for link in net.links.get(index)? {
-        if leads(net, *link, destination, hops, steps) {
+    for link in net.links.get(node)? {
+        if leads(net, *link, hops, steps) {
             return Some(*link);
         }
     }
     None
 }
 
-/// Whether the link leads to a node that is so many hops away, and sends on.
-fn leads(net: &Net, link: Link, destination: usize, hops: usize, steps: &[Option<Step>]) -> bool {
-    let is_there = match steps.get(link.next) {
-        Some(Some(step)) => step.hops == hops,
+/// Whether the link leads to a node that is so many hops away, and sends on. (The destination alone is none away.)
+fn leads(net: &Net, link: Link, hops: usize, steps: &[Option<Step>]) -> bool {
+    match steps.get(link.next) {
+        Some(Some(step)) => step.hops == hops && (hops == 0 || is_bridge(net, link.next)),
         _ => false,
-    };
-    is_there && (link.next == destination || is_bridge(net, link.next))
+    }
 }
 
 /// Whether a node is a bridge.
