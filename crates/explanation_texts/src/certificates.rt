@@ -27,7 +27,7 @@ pub fn certificate_fault_lines(
     render(alloc, plan, &pieces)
 }
 
-fn certificate_pieces(
+pub fn certificate_pieces(
     alloc: Global,
     plan: &Plan,
     certificate: &Certificate,
