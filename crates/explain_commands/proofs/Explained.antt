@@ -4,7 +4,7 @@ use Rattle.net_rules.{specs.Faults.{IsFirstFault, site_of}, specs.declared.certi
 use Rattle.net_explained.{specs.declared.cause.Cause.{Cause}, specs.Causes.{IsCauseAt}}
 use Rattle.plan_values.{specs.declared.certificate.Certificate.{Certificate}, specs.declared.plan.Plan.{Plan}}
 use Rattle.command_answers.{specs.declared.answer.Answer.{Answer}, specs.declared.inputs.Unread.{Unread}, specs.declared.refused.Refused.{Refused}, specs.declared.status.Status.{Status}, specs.Answers.{Stream, GavePlanText, GaveCertificate}, specs.UnreadInputs.{IsNoPlanBy, IsNoCertificateBy}, proofs.UnreadTexts.{IsUnreadAnswer, plan_told, certificate_told}, specs.Certifying.{IsRuledOutBy}}
-use Rattle.explain_commands.specs.Explaining.{IsExplained, ExplainsSo, IsExplainedThere, IsObstacleText, IsToldWithEdits, AreMoreTold, IsFaultTold, both_words, IsBothExplained, IsExplainedWith, ExplainsWithSo, IsFaultExplained, IsRemedyTold, remedy_text}
+use Rattle.explain_commands.specs.Explaining.{IsExplained, ExplainsSo, IsExplainedThere, IsObstacleText, IsToldWithEdits, AreMoreTold, IsFaultTold, both_words, IsBothExplained, IsExplainedWith, ExplainsWithSo, IsFaultExplained, IsRemedyTold}
 use Rattle.plan_texts.specs.Lines.{fault_text}
 use Rattle.fault_texts.specs.Places.{IsPlaceTold, obstacle_pointer}
 use Rattle.net_rules.specs.declared.certify_error.CertifyError.TheVariants as error

@@ -1,5 +1,5 @@
 -- What is named where a fault, a loop or a bad chain is explained.
-use Rattle.std.{specs.Prelude.{◌≡◌, ℕ, ◌+◌, ◌-◌, ◌&&◌, ◌==◌, nat_le, nat_lt, Bool, length, take, List, [], ◌∷◌, Option, Some, None, option_and_then, option_map, position}, specs.List.{flat_map}}
+use Rattle.std.{specs.Prelude.{◌≡◌, ℕ, ◌+◌, ◌-◌, ◌&&◌, ◌==◌, nat_le, nat_lt, Bool, codes, length, take, List, [], ◌∷◌, Option, Some, None, option_and_then, option_map, position}, specs.List.{flat_map}}
 use Rattle.net_rules.{specs.Faults.{site_of}, specs.Circles.{IsLoopFrom}, specs.RecordChains.{IsFollowedBy}, specs.declared.certify_error.CertifyError.{CertifyError}, specs.declared.certifying.chains.ChainFault.{ChainFault}, specs.declared.certifying.chains.ChainFault.TheVariants.{Missing, Doubled, Circle}, specs.declared.fault.Fault.{Fault}}
 use Rattle.net_tables.{specs.Repositories.{records_of}, specs.Routing.{rows_of}}
 use Rattle.net_explained.{specs.declared.cause.Cause.{Cause}, specs.Causes.{IsCauseAt}}
@@ -90,6 +90,16 @@ IsNamedOf plan error.OutOfMemory named = ⊥
 -- the text explains what rules certificates of the plan out
 abbrev pub IsObstacleTold : Plan → CertifyError → List ℕ → Type 0
 IsObstacleTold plan obstacle text = (named : List Piece) × IsNamedOf plan obstacle named × Tells plan named text
+
+-- ---- certificates
+
+-- the certificate is at fault, and not the plan
+abbrev pub remedy_text : List ℕ
+remedy_text = codes "This plan has a certificate.\nHint: take the one that mctpplan certify makes.\n"
+
+-- no certificate fits the plan
+abbrev pub no_certificate_text : List ℕ
+no_certificate_text = codes "This plan has no certificate, whatever this one says. mctpplan certify says:\n"
 
 -- ---- one of all faults
 

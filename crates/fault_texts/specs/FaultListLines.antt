@@ -1,7 +1,7 @@
 -- The lines of all faults, a line for each.
 use Rattle.std.{specs.Prelude.{◌≡◌, ℕ, ◌-◌, List, [], ◌∷◌, ◌++◌, length, codes, Option, Some, None, option_map, nat_eq, if◌then◌else◌}, specs.Fmt.{decimal}}
 use Rattle.net_plan.specs.Finding.{Step}
-use Rattle.net_rules.{specs.declared.fault_run.EidSpan.{EidSpan}, specs.declared.fault_run.FaultRun.{FaultRun}, specs.Rules.{code_of}}
+use Rattle.net_rules.{specs.declared.certify_error.CertifyError.{CertifyError}, specs.declared.fault_run.EidSpan.{EidSpan}, specs.declared.fault_run.FaultRun.{FaultRun}, specs.Rules.{code_of}}
 use Rattle.net_faults.{specs.declared.plan_fault.PlanFault.{PlanFault}, specs.declared.plan_fault.PlanFault.TheVariants.{Broken, Obstacle}}
 use Rattle.plan_values.specs.declared.plan.Plan.{Plan}
 use Rattle.net_tables.specs.Names.{node_name}
@@ -28,11 +28,14 @@ abbrev pub more_eids_text : ℕ → List ℕ
 more_eids_text count = if nat_eq count 0 then [] else if nat_eq count 1 then codes " and 1 more endpoint ID"
     else (codes " and " ++ (decimal count ++ codes " more endpoint IDs"))
 
--- the words of a fault: those of a run; of a loop or a chain those of `certify`, and how many more endpoint IDs there are
+-- the words of `certify`, and how many more endpoint IDs go round
+abbrev pub words_with_more : Plan → CertifyError → ℕ → Option (List ℕ)
+words_with_more plan obstacle more = option_map (λ words. words ++ more_eids_text more) (obstacle_words plan obstacle)
+
+-- the words of a fault: those of a run, or those of a loop or a chain
 abbrev pub plan_fault_words : Plan → PlanFault → Option (List ℕ)
 plan_fault_words plan (Broken run) = Some (run_words plan run)
-plan_fault_words plan (Obstacle obstacle more) =
-    option_map (λ words. words ++ more_eids_text more) (obstacle_words plan obstacle)
+plan_fault_words plan (Obstacle obstacle more) = words_with_more plan obstacle more
 
 -- the line of a fault of the plan that stands in the text of this name: its words, and its place
 abbrev pub IsFaultLine : Plan → List ℕ → List ℕ → PlanFault → List ℕ → Type 0

@@ -2,14 +2,14 @@
 ghost use Rattle.std.specs.Prelude.{◌≡◌, IfOk, Some, string_bytes};
 ghost use Rattle.json.specs.Value.{value_view};
 ghost use Rattle.net_pointers.specs.Offsets.{IsTextOf};
-ghost use Rattle.fault_texts.specs.FaultListLines.{AreFaultLines, IsFaultLine, IsFaultsText, count_text, eids_text, more_eids_text, more_text, plan_fault_words, run_words, span_text};
+ghost use Rattle.fault_texts.specs.FaultListLines.{AreFaultLines, IsFaultLine, IsFaultsText, count_text, eids_text, more_eids_text, more_text, plan_fault_words, run_words, span_text, words_with_more};
 
 use crate::places::{at_in, plan_fault_pointer};
 use json::{Scratch, Value};
 use net_faults::PlanFault;
 use net_plan::json_of;
 use net_pointers::TextIndex;
-use net_rules::{EidSpan, FaultRun};
+use net_rules::{CertifyError, EidSpan, FaultRun};
 use net_tables::lookup::node_name;
 use plan_texts::{number_text, obstacle_words};
 use plan_values::Plan;
@@ -115,7 +115,7 @@ fn placed_line(
 }
 
 /// The words of a fault. Want of memory has none.
-pub fn plan_fault_words(
+fn plan_fault_words(
     alloc: Global,
     plan: &Plan,
     fault: &PlanFault,
@@ -124,12 +124,22 @@ pub fn plan_fault_words(
 {
     match fault {
         PlanFault::Broken(run) => run_words(alloc, plan, run),
-        PlanFault::Obstacle(obstacle, more) => {
-            let words = obstacle_words(alloc, plan, obstacle)?;
-            let more = more_eids_text(alloc, *more)?;
-            format!(in alloc; "{words}{more}")
-        }
+        PlanFault::Obstacle(obstacle, more) => words_with_more(alloc, plan, obstacle, *more),
     }
+}
+
+/// The words of a loop or a chain, and how many more endpoint IDs go round.
+pub fn words_with_more(
+    alloc: Global,
+    plan: &Plan,
+    obstacle: &CertifyError,
+    more: usize,
+) -> Result<String, AllocError>
+    ensures { IfOk result (λ words. words_with_more plan.now obstacle.now more ≡ Some (string_bytes words)) }
+{
+    let words = obstacle_words(alloc, plan, obstacle)?;
+    let more = more_eids_text(alloc, more)?;
+    format!(in alloc; "{words}{more}")
 }
 
 /// How many more endpoint IDs go round a loop.
@@ -144,7 +154,7 @@ fn more_eids_text(alloc: Global, count: usize) -> Result<String, AllocError>
 }
 
 /// A run of faults: its rule, its node, its entry and its endpoint IDs.
-fn run_words(alloc: Global, plan: &Plan, run: &FaultRun) -> Result<String, AllocError>
+pub fn run_words(alloc: Global, plan: &Plan, run: &FaultRun) -> Result<String, AllocError>
     ensures { IfOk result (λ text. string_bytes text ≡ run_words plan.now run.now) }
 {
     let rule = run.rule.code();

@@ -114,7 +114,8 @@ abbrev pub IsFindingNote : Form → (name text : List ℕ) → Plan → Finding 
 IsFindingNote form name text plan f d = (nodes place related : Data) × AreNodesTold plan (nodes_of f) nodes
     × IsPlaceTold form name text (finding_pointer f) place
     × IsPlaceListTold form name text (other_pointer f) related
-    × IsNote form (subject_of f) nodes place related (findings_text plan (f ∷ [])) d
+    × IsNote form (subject_of f) nodes place related (findings_text plan (f ∷ []))
+        (findings_text plan (f ∷ [])) d
 
 -- how a run ends that tells such findings
 abbrev pub status_of : List Finding → Status
