@@ -108,6 +108,7 @@ pub fn notes_at<'a, 't, 'i, N: Noted>(
 }
 
 /// Writes items over the index of a text.
+#[derive(Drop)]
 struct Placed<'a, 't, 'i, 'n, N> {
     placing: Placing<'a, 't, 'i>,
     noter: &'n N,
