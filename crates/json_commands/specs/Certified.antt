@@ -49,7 +49,8 @@ AreCheckedSaid (asks.Trace from to) name text plan certificate d =
 -- the value tells this fault alone, of a run of the command
 abbrev pub IsFaultAlone : List ℕ → (name text : List ℕ) → Plan → Certificate → Fault → Data → Type 0
 IsFaultAlone command name text plan cert fault d = (results : Data)
-    × IsObstacleAlone Json name text plan (Some cert) (error.Fault fault) results × IsReport Json command status.Fault results d
+    × IsObstacleAlone Json name text plan (Some cert) (error.Fault fault) results
+    × IsReport Json command status.Fault results d
 
 -- the value tells of the plan and the certificate, which have this fault
 abbrev pub IsFaultSaid : CertifiedJson → (name text : List ℕ) → Plan → Certificate → Fault → Data → Type 0

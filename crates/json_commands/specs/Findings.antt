@@ -111,7 +111,8 @@ subject_of f = record { kind = codes "finding"; code = code_of f; eids = eids_of
 -- The value is the note of a finding in the plan, which stands in the text of this name: with its place, the nodes,
 -- where the other stands that it is about, the line of `lint`, and a sentence, which is free.
 abbrev pub IsFindingNote : Form → (name text : List ℕ) → Plan → Finding → Data → Type 0
-IsFindingNote form name text plan f d = (nodes place related : Data) × (sentence : List ℕ) × AreNodesTold plan (nodes_of f) nodes
+IsFindingNote form name text plan f d = (nodes place related : Data) × (sentence : List ℕ)
+    × AreNodesTold plan (nodes_of f) nodes
     × IsPlaceTold form name text (finding_pointer f) place
     × IsPlaceListTold form name text (other_pointer f) related
     × IsNote form (subject_of f) nodes place related

@@ -132,10 +132,10 @@ abbrev pub message_text : List ℕ → List ℕ → List ℕ
 message_text line [] = line
 message_text line why = why
 
--- The value is the note of a fault of the plan, or of it and the certificate, with this line: the line and what explains
--- the fault are its lines.
-abbrev pub IsNoteWith : Form → Plan → Option Certificate → CertifyError → SubjectValue → (nodes place related : Data)
-    → List ℕ → Data → Type 0
+-- The value is the note of a fault of the plan, or of it and the certificate, with this line: the line and what
+-- explains the fault are its lines.
+abbrev pub IsNoteWith : Form → Plan → Option Certificate → CertifyError → SubjectValue
+    → (nodes place related : Data) → List ℕ → Data → Type 0
 IsNoteWith form plan cert obstacle subject nodes place related line d = (why : List ℕ)
     × IsWhyTold plan cert obstacle why
     × IsNote form subject nodes place related (line ++ (codes "\n" ++ why)) (message_text line why) d
@@ -145,7 +145,8 @@ IsNoteWith form plan cert obstacle subject nodes place related line d = (why : L
 -- The value is the note of what rules certificates of the plan out, which stands in the text of this name: with its
 -- place, the nodes, where the others stand, the words by which `certify` tells it, and how many more endpoint IDs there
 -- are.
-abbrev pub IsObstacleNote : Form → (name text : List ℕ) → Plan → Option Certificate → CertifyError → ℕ → Data → Type 0
+abbrev pub IsObstacleNote : Form → (name text : List ℕ) → Plan → Option Certificate → CertifyError → ℕ → Data
+    → Type 0
 IsObstacleNote form name text plan cert obstacle more d = (nodes place related : Data) × (line : List ℕ)
     × AreNodesTold plan (nodes_of obstacle) nodes
     × IsPlaceTold form name text (obstacle_pointer plan obstacle) place

@@ -1004,7 +1004,7 @@ const ANSWER: &str = r##"{
             "maxItems": 3
           },
           "more": {
-            "description": "How many more runs of faults there are; faults lists them.",
+            "description": "How many more faults there are; faults lists them.",
             "type": "integer",
             "minimum": 0
           },
@@ -1219,7 +1219,7 @@ const ANSWER: &str = r##"{
           }
         },
         "sentences": {
-          "description": "The lines that the command prints of it without --json.",
+          "description": "The line that the command prints of it without --json, and behind it what explains it.",
           "type": "array",
           "items": {
             "type": "string"
