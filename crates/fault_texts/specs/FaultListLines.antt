@@ -1,6 +1,5 @@
 -- The lines of all faults, a line for each.
 use Rattle.std.{specs.Prelude.{◌≡◌, ℕ, ◌-◌, List, [], ◌∷◌, ◌++◌, length, codes, Option, Some, None, option_map, nat_eq, if◌then◌else◌}, specs.Fmt.{decimal}}
-use Rattle.net_plan.specs.Finding.{Step}
 use Rattle.net_rules.{specs.declared.certify_error.CertifyError.{CertifyError}, specs.declared.fault_run.EidSpan.{EidSpan}, specs.declared.fault_run.FaultRun.{FaultRun}, specs.Rules.{code_of}}
 use Rattle.net_faults.{specs.declared.plan_fault.PlanFault.{PlanFault}, specs.declared.plan_fault.PlanFault.TheVariants.{Broken, Obstacle}}
 use Rattle.plan_values.specs.declared.plan.Plan.{Plan}

@@ -1,10 +1,10 @@
 -- What is told of all faults, and of the first.
-use Rattle.std.{proofs.Common.{◌≡◌, ◌≢◌, ℕ, List, [], ◌∷◌, map, sym, ◌∙◌, Some, Result, Ok, Err, Bor, refl,  subst, arith, inl, inr}, specs.Prelude.{IfOk, Contains}, specs.Cow.{cow_str_bytes}}
+use Rattle.std.{proofs.Common.{◌≡◌, ◌≢◌, ℕ, List, [], ◌∷◌, map, sym, ◌∙◌, Some, Result, Ok, Err, Bor, refl, subst, arith, inl, inr}, specs.Prelude.{IfOk, Contains}, specs.Cow.{cow_str_bytes}}
 use Rattle.plan_values.{specs.declared.plan.Plan.{Plan}, specs.declared.certificate.Certificate.{Certificate}}
 use Rattle.net_rules.{specs.declared.fault.Fault.{Fault}, specs.declared.fault_run.FaultRun.{FaultRun}, specs.FaultLists.{AreFaults}, specs.Faults.{IsFirstFault, site_of}}
 use Rattle.command_answers.{specs.declared.answer.Answer.{Answer}, specs.declared.refused.Refused.{Refused}, specs.Answers.{IsFaultText}}
 use Rattle.command_questions.specs.declared.certified.Question.{Question}
-use Rattle.plan_commands.{specs.Certified.{IsFaultAnswer}}
+use Rattle.plan_commands.specs.Certified.{IsFaultAnswer}
 use Rattle.net_faults.{specs.declared.plan_fault.PlanFault.{PlanFault}, specs.declared.plan_fault.PlanFault.TheVariants.{Broken}, specs.PlanFaults.{AreAllFaults}}
 use Rattle.command_questions.specs.declared.certified.Question.TheVariants as question
 use Rattle.command_answers.specs.declared.status.Status.TheVariants as status
