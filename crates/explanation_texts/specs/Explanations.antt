@@ -104,15 +104,15 @@ no_certificate_text = codes "This plan has no certificate, whatever this one say
 -- ---- one of all faults
 
 -- what is named of a fault: by its cause in the plan, or else by what the certificate gives
-abbrev pub reason_subjects : Plan → Option Certificate → Fault → Option Cause → List Piece
-reason_subjects plan cert fault (Some cause) = cause_subjects plan fault cause
-reason_subjects plan (Some cert) fault None = certificate_subjects plan cert fault
-reason_subjects plan None fault None = []
+abbrev pub reason_subjects : Plan → Fault → Option Cause → Option Certificate → List Piece
+reason_subjects plan fault (Some cause) cert = cause_subjects plan fault cause
+reason_subjects plan fault None (Some cert) = certificate_subjects plan cert fault
+reason_subjects plan fault None None = []
 
 -- that is named of one of all faults of the plan, or of it and the certificate; of a circle of records the first one
 abbrev pub IsNamedWhy : Plan → Option Certificate → CertifyError → List Piece → Type 0
 IsNamedWhy plan cert (error.Fault fault) named = (cause : Option Cause) × IsCauseAt plan (site_of fault) cause
-    × (named ≡ reason_subjects plan cert fault cause)
+    × (named ≡ reason_subjects plan fault cause cert)
 IsNamedWhy plan cert (error.OwnerLoop nodes) named = named ≡ flat_map owner_subjects (around nodes.items)
 IsNamedWhy plan cert (error.Loop eid nodes) named =
     named ≡ flat_map (λ n. way_subjects (row_for plan eid.value n)) (around nodes.items)

@@ -113,7 +113,7 @@ fn given_pieces(
     certificate: Option<&Certificate>,
     fault: &Fault,
 ) -> Result<Vec<Piece>, AllocError>
-    ensures { IfOk result (λ pieces. subjects pieces.items ≡ reason_subjects plan.now (option_map (λ c. c.now) certificate.entry) fault.now None) }
+    ensures { IfOk result (λ pieces. subjects pieces.items ≡ reason_subjects plan.now fault.now None (option_map (λ c. c.now) certificate.entry)) }
 {
     match certificate {
         Some(certificate) => certificate_pieces(alloc, plan, certificate, fault),
