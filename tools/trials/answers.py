@@ -2,9 +2,8 @@
 
 Each value meets docs/schema/answer.schema.json, ends as the command without the option, has a result for each line of
 `faults` and of `lint`, and places that are there: the JSON pointer leads to a value of the file, and the line and the
-column lie within it. The sentences of a result begin with its line; behind it, the first one has what `explain` says.
-A message of SARIF is what stands behind the line. It needs the Python package jsonschema (Debian: python3-jsonschema),
-and says where that is missing.
+column lie within it. The sentences are those of the lines. It needs the Python package jsonschema (Debian:
+python3-jsonschema), and says where that is missing.
 """
 import json
 
@@ -58,12 +57,6 @@ def placed(result):
     return f"{result['sentences'][0]} at {place['file']}:{place['line']}:{place['column']}"
 
 
-def message(result):
-    """What a log of SARIF says of a result: what explains it, or all of its lines where nothing does."""
-    why = result["sentences"][1:]
-    return "\n".join(why if why and result["kind"] != "unreadable" else result["sentences"])
-
-
 def unlike(words, lines, value):
     """What of the sentences isn't as the lines of the command have it."""
     listed, results = lines.decode().splitlines(), value["results"]
@@ -73,10 +66,8 @@ def unlike(words, lines, value):
         return [f"{placed(it)}, not {line}" for it, line in zip(results, listed) if placed(it) != line]
     if words[0] != "explain":
         return []
-    # (a circle of records is told whole by `explain` alone)
-    why, rest = results[0]["sentences"], iter(listed)
-    is_told = why[0] == listed[0] and (value["sentences"][:len(why) - 1] == why[1:] or " circle " in why[0])
-    return [*(["other sentences"] if not is_told else []), *(f"not told: {it}" for it in value["sentences"] if it not in rest)]
+    rest = iter(listed)
+    return [f"not told: {it}" for it in (*results[0]["sentences"], *value["sentences"]) if it not in rest]
 
 
 def try_all(trial):
@@ -113,7 +104,7 @@ def try_all(trial):
             # (a file that can't be opened breaks no rule)
             known = {"file", *(it["id"] for it in run["tool"]["driver"]["rules"])}
             is_right = ended == status and len(run["results"]) == len(value["results"])
-            is_right = is_right and [it["message"]["text"] for it in run["results"]] == [message(it) for it in value["results"]]
+            is_right = is_right and [it["message"]["text"] for it in run["results"]] == ["\n".join(it["sentences"]) for it in value["results"]]
             trial.note(is_right and {it["ruleId"] for it in run["results"]} <= known, f"{name} --sarif: other results")
 
     each(row, rows())

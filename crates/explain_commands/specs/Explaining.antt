@@ -6,8 +6,8 @@ use Rattle.net_explained.{specs.declared.cause.Cause.{Cause}, specs.declared.hop
 use Rattle.plan_values.{specs.declared.certificate.Certificate.{Certificate}, specs.declared.plan.Plan.{Plan}, specs.PlanValues.{plan_value}}
 use Rattle.command_answers.{specs.declared.status.Status.{Status}, specs.Answers.{Stream, GavePlanText, GaveCertificate}, specs.Certifying.{IsRuledOutBy}, specs.Statuses.{yes_line}, specs.UnreadTexts.{IsUnreadText, IsUnreadCertificateText}}
 use Rattle.plan_texts.specs.Lines.{fault_text}
-use Rattle.explanation_texts.{specs.CertificateSubjects.{certificate_subjects}, specs.EditLines.{edits_text}, specs.Explanations.{told_subjects, IsObstacleTold, no_certificate_text, remedy_text}, specs.Pieces.{Tells}, specs.SummaryLines.{summary_text}}
-use Rattle.fault_texts.{specs.FaultListLines.{more_text}, specs.Places.{IsPlaceTold, obstacle_pointer}}
+use Rattle.explanation_texts.{specs.CertificateSubjects.{certificate_subjects}, specs.EditLines.{edits_text}, specs.Explanations.{told_subjects, IsObstacleTold}, specs.Pieces.{Tells}, specs.SummaryLines.{summary_text}}
+use Rattle.fault_texts.{specs.FaultListLines.{more_text, no_certificate_text, remedy_text}, specs.Places.{IsPlaceTold, obstacle_pointer}}
 use Rattle.net_rules.specs.declared.certify_error.CertifyError.TheVariants as error
 use Rattle.command_answers.specs.declared.status.Status.TheVariants as status
 

@@ -1,10 +1,10 @@
 -- What is named where a fault, a loop or a bad chain is explained.
-use Rattle.std.{specs.Prelude.{◌≡◌, ℕ, ◌+◌, ◌-◌, ◌&&◌, ◌==◌, nat_le, nat_lt, Bool, codes, length, take, List, [], ◌∷◌, Option, Some, None, option_and_then, option_map, position}, specs.List.{flat_map}}
+use Rattle.std.{specs.Prelude.{◌≡◌, ℕ, ◌+◌, ◌-◌, ◌&&◌, ◌==◌, nat_le, nat_lt, Bool, length, take, List, [], ◌∷◌, Option, Some, None, option_and_then, option_map, position}, specs.List.{flat_map}}
 use Rattle.net_rules.{specs.Faults.{site_of}, specs.Circles.{IsLoopFrom}, specs.RecordChains.{IsFollowedBy}, specs.declared.certify_error.CertifyError.{CertifyError}, specs.declared.certifying.chains.ChainFault.{ChainFault}, specs.declared.certifying.chains.ChainFault.TheVariants.{Missing, Doubled, Circle}, specs.declared.fault.Fault.{Fault}}
 use Rattle.net_tables.{specs.Repositories.{records_of}, specs.Routing.{rows_of}}
 use Rattle.net_explained.{specs.declared.cause.Cause.{Cause}, specs.Causes.{IsCauseAt}}
-use Rattle.plan_values.{specs.declared.certificate.Certificate.{Certificate}, specs.declared.nodes.Row.{Row}, specs.declared.plan.Plan.{Plan}}
-use Rattle.explanation_texts.{specs.CauseSubjects.{cause_subjects}, specs.CertificateSubjects.{certificate_subjects}, specs.Pieces.{Tells, entry_at, record_of}, specs.declared.pieces.Entry.{Entry}, specs.declared.pieces.Piece.{Piece}, specs.declared.pieces.Piece.TheVariants.{Given, Name, OwnerName, At, RowPort, RowBus, RowAddress, RowNext, Handle, NextHandle}}
+use Rattle.plan_values.{specs.declared.nodes.Row.{Row}, specs.declared.plan.Plan.{Plan}}
+use Rattle.explanation_texts.{specs.CauseSubjects.{cause_subjects}, specs.Pieces.{Tells, entry_at, record_of}, specs.declared.pieces.Entry.{Entry}, specs.declared.pieces.Piece.{Piece}, specs.declared.pieces.Piece.TheVariants.{Given, Name, OwnerName, At, RowPort, RowBus, RowAddress, RowNext, Handle, NextHandle}}
 use Rattle.net_rules.specs.declared.certify_error.CertifyError.TheVariants as error
 
 -- ---- faults
@@ -90,38 +90,3 @@ IsNamedOf plan error.OutOfMemory named = ⊥
 -- the text explains what rules certificates of the plan out
 abbrev pub IsObstacleTold : Plan → CertifyError → List ℕ → Type 0
 IsObstacleTold plan obstacle text = (named : List Piece) × IsNamedOf plan obstacle named × Tells plan named text
-
--- ---- certificates
-
--- the certificate is at fault, and not the plan
-abbrev pub remedy_text : List ℕ
-remedy_text = codes "This plan has a certificate.\nHint: take the one that mctpplan certify makes.\n"
-
--- no certificate fits the plan
-abbrev pub no_certificate_text : List ℕ
-no_certificate_text = codes "This plan has no certificate, whatever this one says. mctpplan certify says:\n"
-
--- ---- one of all faults
-
--- what is named of a fault: by its cause in the plan, or else by what the certificate gives
-abbrev pub reason_subjects : Plan → Fault → Option Cause → Option Certificate → List Piece
-reason_subjects plan fault (Some cause) cert = cause_subjects plan fault cause
-reason_subjects plan fault None (Some cert) = certificate_subjects plan cert fault
-reason_subjects plan fault None None = []
-
--- that is named of one of all faults of the plan, or of it and the certificate; of a circle of records the first one
-abbrev pub IsNamedWhy : Plan → Option Certificate → CertifyError → List Piece → Type 0
-IsNamedWhy plan cert (error.Fault fault) named = (cause : Option Cause) × IsCauseAt plan (site_of fault) cause
-    × (named ≡ reason_subjects plan fault cause cert)
-IsNamedWhy plan cert (error.OwnerLoop nodes) named = named ≡ flat_map owner_subjects (around nodes.items)
-IsNamedWhy plan cert (error.Loop eid nodes) named =
-    named ≡ flat_map (λ n. way_subjects (row_for plan eid.value n)) (around nodes.items)
-IsNamedWhy plan cert (error.BadChain n Missing j) named = named ≡ missing_subjects n j
-IsNamedWhy plan cert (error.BadChain n Doubled j) named = named ≡ doubled_subjects plan n j
-IsNamedWhy plan cert (error.BadChain n Circle j) named = named ≡ record_subjects (entry_at n j)
-IsNamedWhy plan cert error.OutOfMemory named = ⊥
-
--- the text explains one of all faults
-abbrev pub IsWhyTold : Plan → Option Certificate → CertifyError → List ℕ → Type 0
-IsWhyTold plan cert obstacle text =
-    (named : List Piece) × IsNamedWhy plan cert obstacle named × Tells plan named text

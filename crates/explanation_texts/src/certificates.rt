@@ -27,7 +27,7 @@ pub fn certificate_fault_lines(
     render(alloc, plan, &pieces)
 }
 
-pub fn certificate_pieces(
+fn certificate_pieces(
     alloc: Global,
     plan: &Plan,
     certificate: &Certificate,

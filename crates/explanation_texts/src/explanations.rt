@@ -1,12 +1,10 @@
 //! What the command `explain` prints below its first line.
-ghost use Rattle.std.{specs.Prelude.{◌≡◌, ◌==◌, IfOk, None, Some, option_map, position, string_bytes}, specs.List.{flat_map}};
+ghost use Rattle.std.{specs.Prelude.{◌≡◌, ◌==◌, IfOk, Some, position, string_bytes}, specs.List.{flat_map}};
 ghost use Rattle.net_rules.{specs.Certificates.{NamesObstacle}, specs.Circles.{IsOnCircle}, specs.RecordChains.{HaveNewHandles, IsBadChain, IsFollowedBy}};
 ghost use Rattle.net_tables.{specs.Repositories.{records_of}, specs.Routing.{rows_of}};
-ghost use Rattle.explanation_texts.{specs.Explanations.{IsNamedOf, IsNamedOfChain, IsNamedOfCircle, IsNamedOfFault, IsNamedWhy, IsObstacleTold, IsWhyTold, around, covers_eid, doubled_subjects, missing_subjects, next_handle, owner_subjects, reason_subjects, record_before, record_subjects, row_for, told_subjects, way_subjects}, specs.Pieces.{Tells, entry_at, subjects}};
-ghost use Rattle.net_rules.specs.declared.certify_error.CertifyError.TheVariants as error;
+ghost use Rattle.explanation_texts.{specs.Explanations.{IsNamedOf, IsNamedOfChain, IsNamedOfCircle, IsNamedOfFault, IsObstacleTold, around, covers_eid, doubled_subjects, missing_subjects, next_handle, owner_subjects, record_before, record_subjects, row_for, told_subjects, way_subjects}, specs.Pieces.{Tells, entry_at, subjects}};
 
 use crate::causes::cause_pieces;
-use crate::certificates::certificate_pieces;
 use crate::lookups::record_of;
 use crate::pieces::Piece::{
     At, Given, Handle, Name, NextHandle, OwnerName, RowAddress, RowBus, RowNext, RowPort,
@@ -16,7 +14,7 @@ use mctp_transport::Eid;
 use net_explained::{Cause, circle_from, find_cause};
 use net_rules::{CertifyError, ChainFault, Fault};
 use net_tables::lookup::{records_at, rows_at};
-use plan_values::{Certificate, Plan, PlannedRecord, Row};
+use plan_values::{Plan, PlannedRecord, Row};
 use std::alloc::{AllocError, Global};
 
 /// Explains what rules certificates of a plan out.
@@ -51,75 +49,7 @@ fn obstacle_pieces(
     }
 }
 
-/// Explains one of all faults of a plan, or of a plan and a certificate. Of a circle of records it tells the first one.
-pub fn why_lines(
-    alloc: Global,
-    plan: &Plan,
-    certificate: Option<&Certificate>,
-    obstacle: &CertifyError,
-) -> Result<String, AllocError>
-    ensures { IfOk result (λ text. IsWhyTold plan.now (option_map (λ c. c.now) certificate.entry) obstacle.now (string_bytes text)) }
-{
-    let pieces = why_pieces(alloc, plan, certificate, obstacle)?;
-    render(alloc, plan, &pieces)
-}
-
-fn why_pieces(
-    alloc: Global,
-    plan: &Plan,
-    certificate: Option<&Certificate>,
-    obstacle: &CertifyError,
-) -> Result<Vec<Piece>, AllocError>
-    ensures { IfOk result (λ pieces. IsNamedWhy plan.now (option_map (λ c. c.now) certificate.entry) obstacle.now (subjects pieces.items)) }
-{
-    match obstacle {
-        CertifyError::Fault(fault) => reason_pieces(alloc, plan, certificate, fault),
-        CertifyError::OwnerLoop(nodes) => owners_pieces(alloc, around(nodes)),
-        CertifyError::Loop(eid, nodes) => ways_pieces(alloc, plan, *eid, around(nodes)),
-        CertifyError::BadChain(node, ChainFault::Missing, entry) => {
-            missing_pieces(alloc, *node, *entry)
-        }
-        CertifyError::BadChain(node, ChainFault::Doubled, entry) => {
-            doubled_pieces(alloc, plan, *node, *entry)
-        }
-        CertifyError::BadChain(node, ChainFault::Circle, entry) => {
-            back_pieces(alloc, entry_at(*node, *entry))
-        }
-        CertifyError::OutOfMemory => Err(AllocError),
-    }
-}
-
 // ---- faults
-
-/// The cause of a fault, or where the plan meets the rule, what the certificate gives.
-fn reason_pieces(
-    alloc: Global,
-    plan: &Plan,
-    certificate: Option<&Certificate>,
-    fault: &Fault,
-) -> Result<Vec<Piece>, AllocError>
-    ensures { IfOk result (λ pieces. IsNamedWhy plan.now (option_map (λ c. c.now) certificate.entry) (error.Fault fault.now) (subjects pieces.items)) }
-{
-    match find_cause(plan, fault) {
-        Some(cause) => cause_pieces(alloc, plan, fault, cause),
-        None => given_pieces(alloc, plan, certificate, fault),
-    }
-}
-
-/// What a certificate, if there is one, gives by which it breaks the rule of a fault.
-fn given_pieces(
-    alloc: Global,
-    plan: &Plan,
-    certificate: Option<&Certificate>,
-    fault: &Fault,
-) -> Result<Vec<Piece>, AllocError>
-    ensures { IfOk result (λ pieces. subjects pieces.items ≡ reason_subjects plan.now fault.now None (option_map (λ c. c.now) certificate.entry)) }
-{
-    match certificate {
-        Some(certificate) => certificate_pieces(alloc, plan, certificate, fault),
-        None => Ok(Vec::new(alloc)),
-    }
-}
 
 /// Tells a cause of a fault.
 pub fn cause_lines(
@@ -317,14 +247,6 @@ fn records_pieces(alloc: Global, node: usize, records: &[usize]) -> Result<Vec<P
         pieces.extend_from_slice(&record_pieces(alloc, entry_at(node, index))?)?;
     }
     Ok(pieces)
-}
-
-/// The first record of a circle.
-fn back_pieces(alloc: Global, at: Entry) -> Result<Vec<Piece>, AllocError>
-    ensures { IfOk result (λ pieces. subjects pieces.items ≡ record_subjects at) }
-{
-    told!(alloc; "Record " {At(at)} ": handle " {Handle(at)} " next " {NextHandle(at)}
-        "\nFrom there the next handles lead back to it.\n")
 }
 
 fn record_pieces(alloc: Global, at: Entry) -> Result<Vec<Piece>, AllocError>

@@ -10,7 +10,7 @@ mod proposals;
 mod summaries;
 
 pub use certificates::certificate_fault_lines;
-pub use explanations::{around, cause_lines, index_for, obstacle_lines, why_lines};
+pub use explanations::{around, cause_lines, index_for, obstacle_lines};
 pub use proposals::{edit_line, edit_lines, value_text};
 pub use summaries::summary_lines;
 

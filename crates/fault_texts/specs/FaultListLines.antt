@@ -57,6 +57,14 @@ abbrev pub IsFaultsText : Plan → List ℕ → List ℕ → List PlanFault → 
 IsFaultsText plan name text faults lines = (listed : List ℕ) × AreFaultLines plan name text faults listed
     × (lines ≡ listed ++ count_text (length faults))
 
+-- what is said of a plan whose certificate is at fault: that another fits it
+abbrev pub remedy_text : List ℕ
+remedy_text = codes "This plan has a certificate.\nHint: take the one that mctpplan certify makes.\n"
+
+-- or that none does
+abbrev pub no_certificate_text : List ℕ
+no_certificate_text = codes "This plan has no certificate, whatever this one says. mctpplan certify says:\n"
+
 -- how many more faults there are than one, and what lists them; nothing where there are none
 abbrev pub more_text : List ℕ → ℕ → List ℕ
 more_text words count = if nat_eq (count - 1) 0 then []

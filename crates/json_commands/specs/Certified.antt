@@ -47,10 +47,9 @@ AreCheckedSaid (asks.Trace from to) name text plan certificate d =
     IsWaySaid name text from.now to.now plan certificate d
 
 -- the value tells this fault alone, of a run of the command
-abbrev pub IsFaultAlone : List ℕ → (name text : List ℕ) → Plan → Certificate → Fault → Data → Type 0
-IsFaultAlone command name text plan cert fault d = (results : Data)
-    × IsObstacleAlone Json name text plan (Some cert) (error.Fault fault) results
-    × IsReport Json command status.Fault results d
+abbrev pub IsFaultAlone : List ℕ → (name text : List ℕ) → Plan → Fault → Data → Type 0
+IsFaultAlone command name text plan fault d = (results : Data)
+    × IsObstacleAlone Json name text plan (error.Fault fault) results × IsReport Json command status.Fault results d
 
 -- the value tells of the plan and the certificate, which have this fault
 abbrev pub IsFaultSaid : CertifiedJson → (name text : List ℕ) → Plan → Certificate → Fault → Data → Type 0
@@ -58,10 +57,9 @@ IsFaultSaid asks.Explain name text plan certificate fault d =
     IsFaultExplained name text plan certificate fault d
 IsFaultSaid (asks.Faults form) name text plan certificate fault d =
     AreFaultsSaid form name text plan (Some certificate) d
-IsFaultSaid asks.Reach name text plan certificate fault d =
-    IsFaultAlone (codes "reach") name text plan certificate fault d
+IsFaultSaid asks.Reach name text plan certificate fault d = IsFaultAlone (codes "reach") name text plan fault d
 IsFaultSaid (asks.Trace from to) name text plan certificate fault d =
-    IsFaultAlone (codes "trace") name text plan certificate fault d
+    IsFaultAlone (codes "trace") name text plan fault d
 
 -- the same of the first fault
 abbrev pub IsFirstFaultSaid : CertifiedJson → (name text : List ℕ) → Plan → Certificate → Data → Type 0

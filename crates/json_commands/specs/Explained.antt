@@ -6,7 +6,8 @@ use Rattle.plan_values.{specs.declared.certificate.Certificate.{Certificate}, sp
 use Rattle.net_faults.{specs.declared.plan_fault.PlanFault.{PlanFault}, specs.PlanFaults.{AreAllFaults}}
 use Rattle.net_rules.{specs.declared.certify_error.CertifyError.{CertifyError}, specs.declared.fault.Fault.{Fault}, specs.Certificates.{HasNoCertificate, IsExact, NamesObstacle}, specs.Faults.{site_of}, specs.Rules.{Accepts}}
 use Rattle.command_answers.{specs.declared.status.Status.{Status}, specs.Statuses.{number_of}}
-use Rattle.explanation_texts.{specs.CertificateSubjects.{certificate_subjects}, specs.Explanations.{IsObstacleTold, no_certificate_text, remedy_text, told_subjects}, specs.Pieces.{Tells}, specs.SummaryLines.{summary_text}}
+use Rattle.explanation_texts.{specs.CertificateSubjects.{certificate_subjects}, specs.Explanations.{IsObstacleTold, told_subjects}, specs.Pieces.{Tells}, specs.SummaryLines.{summary_text}}
+use Rattle.fault_texts.specs.FaultListLines.{no_certificate_text, remedy_text}
 use Rattle.command_questions.specs.declared.form.Form.TheVariants.{Json}
 use Rattle.json_commands.{specs.Edits.{edit_data}, specs.Lists.{IsListTold, empty_data}, specs.Notes.{lines_data}, specs.Obstacles.{IsObstacleAlone}, specs.Places.{number_data}}
 use Rattle.net_rules.specs.declared.certify_error.CertifyError.TheVariants as error
@@ -46,7 +47,7 @@ AreMore plan cert more = (faults : List PlanFault) × AreAllFaults plan cert fau
 -- tried, and how many more faults there are.
 abbrev pub IsToldWithEdits : (name text : List ℕ) → Plan → Option Certificate → CertifyError → List ℕ → Data → Type 0
 IsToldWithEdits name text plan cert obstacle lines d = (results edits : Data) × (more : ℕ)
-    × IsObstacleAlone Json name text plan cert obstacle results × AreEditsTold plan obstacle edits
+    × IsObstacleAlone Json name text plan obstacle results × AreEditsTold plan obstacle edits
     × AreMore plan cert more
     × (d ≡ explained_data status.Fault results (lines_data lines) edits more null)
 
@@ -75,7 +76,7 @@ remedy_of _ = no_certificate_text
 -- breaks the rule, whether another fits the plan, how many more faults there are, and what explains the plan alone.
 abbrev pub IsCertificateTold : (name text : List ℕ) → Plan → Certificate → Fault → Data → Type 0
 IsCertificateTold name text plan cert fault d = (results alone : Data) × (lines : List ℕ) × (more : ℕ)
-    × (ended : Status) × IsObstacleAlone Json name text plan (Some cert) (error.Fault fault) results
+    × (ended : Status) × IsObstacleAlone Json name text plan (error.Fault fault) results
     × Tells plan (certificate_subjects plan cert fault) lines × AreMore plan (Some cert) more
     × IsExplainedSaid name text plan ended alone
     × (d ≡ explained_data status.Fault results (lines_data (lines ++ remedy_of ended)) empty_data more alone)

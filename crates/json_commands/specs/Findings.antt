@@ -1,5 +1,5 @@
 -- Notes of what `lint` finds.
-use Rattle.std.specs.Prelude.{◌≡◌, ℕ, List, [], ◌∷◌, ◌++◌, codes, Option, Some, None}
+use Rattle.std.specs.Prelude.{◌≡◌, ℕ, List, [], ◌∷◌, codes, Option, Some, None}
 use Rattle.mctp_transport.specs.declared.address.Eid.{Eid}
 use Rattle.serde_json.specs.Data.{Data}
 use Rattle.net_plan.specs.Finding.{Step, key, index}
@@ -109,14 +109,12 @@ abbrev pub subject_of : Finding → SubjectValue
 subject_of f = record { kind = codes "finding"; code = code_of f; eids = eids_of f; entry = entry_of f }
 
 -- The value is the note of a finding in the plan, which stands in the text of this name: with its place, the nodes,
--- where the other stands that it is about, the line of `lint`, and a sentence, which is free.
+-- where the other stands that it is about, and the line of `lint`.
 abbrev pub IsFindingNote : Form → (name text : List ℕ) → Plan → Finding → Data → Type 0
-IsFindingNote form name text plan f d = (nodes place related : Data) × (sentence : List ℕ)
-    × AreNodesTold plan (nodes_of f) nodes
+IsFindingNote form name text plan f d = (nodes place related : Data) × AreNodesTold plan (nodes_of f) nodes
     × IsPlaceTold form name text (finding_pointer f) place
     × IsPlaceListTold form name text (other_pointer f) related
-    × IsNote form (subject_of f) nodes place related
-        (findings_text plan (f ∷ []) ++ (sentence ++ codes "\n")) sentence d
+    × IsNote form (subject_of f) nodes place related (findings_text plan (f ∷ [])) d
 
 -- how a run ends that tells such findings
 abbrev pub status_of : List Finding → Status

@@ -61,8 +61,8 @@ result_data code place related message =
     (member (codes "message") (object (member (codes "text") (string message) no_members))
     (member (codes "relatedLocations") related (member (codes "ruleId") (string code) no_members)))))
 
--- the value is the note, in the form: with all lines in JSON, with the message in SARIF
-abbrev pub IsNote : Form → SubjectValue → (nodes place related : Data) → (words message : List ℕ) → Data → Type 0
-IsNote Json subject nodes place related words message d = d ≡ note_data subject nodes place related words
-IsNote Sarif subject nodes place related words message d = (text : List ℕ) × IsMessageOf message text
-    × (d ≡ result_data subject.code place related text)
+-- the value is the note, in the form
+abbrev pub IsNote : Form → SubjectValue → (nodes place related : Data) → List ℕ → Data → Type 0
+IsNote Json subject nodes place related words d = d ≡ note_data subject nodes place related words
+IsNote Sarif subject nodes place related words d = (message : List ℕ) × IsMessageOf words message
+    × (d ≡ result_data subject.code place related message)

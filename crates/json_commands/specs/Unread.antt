@@ -89,7 +89,7 @@ unread_subject code = record { kind = codes "unreadable"; code = code; eids = No
 -- The value tells this alone of a run of the command: a note with this code, place and lines.
 abbrev pub IsUnreadSaid : Form → (command code : List ℕ) → (place related : Data) → List ℕ → Data → Type 0
 IsUnreadSaid form command code place related words d =
-    (note : Data) × IsNote form (unread_subject code) empty_data place related words words note
+    (note : Data) × IsNote form (unread_subject code) empty_data place related words note
     × IsReport form command status.Unreadable (one_data note) d
 
 -- The value tells why a source gave nothing to read for an input: by the lines of `explain`, with its code, and where

@@ -239,8 +239,8 @@ fn said_of_fault(
         CertifiedJson::Faults(form) => {
             Ok(faults_of_both(alloc, form, name, given, certificate)?)
         }
-        CertifiedJson::Reach => Ok(first_fault(alloc, "reach", name, given, certificate, fault)?),
-        CertifiedJson::Trace { .. } => Ok(first_fault(alloc, "trace", name, given, certificate, fault)?),
+        CertifiedJson::Reach => Ok(first_fault(alloc, "reach", name, given, fault)?),
+        CertifiedJson::Trace { .. } => Ok(first_fault(alloc, "trace", name, given, fault)?),
     }
 }
 
@@ -250,13 +250,12 @@ fn first_fault(
     command: &str,
     name: &str,
     given: &PlanText,
-    certificate: &Certificate,
     fault: &Fault,
 ) -> Result<Said, AllocError>
-    ensures { IfOk result (λ said. (said.status ≡ status.Fault) × IsFaultAlone command.now name.now given.now.text.items given.now.plan certificate.now fault.now (view said.value)) }
+    ensures { IfOk result (λ said. (said.status ≡ status.Fault) × IsFaultAlone command.now name.now given.now.text.items given.now.plan fault.now (view said.value)) }
 {
     let obstacle = CertifyError::Fault(*fault);
-    let results = obstacle_results(alloc, Form::Json, name, given, Some(certificate), &obstacle)?;
+    let results = obstacle_results(alloc, Form::Json, name, given, &obstacle)?;
     Ok(report(alloc, Form::Json, command, Status::Fault, results)?)
 }
 

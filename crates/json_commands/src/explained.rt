@@ -122,7 +122,7 @@ fn told_with_edits(
     ensures { IfOk result (λ said. (said.status ≡ status.Fault)
         × IsToldWithEdits name.now given.now.text.items given.now.plan (option_map (λ c. c.now) certificate.entry) obstacle.now lines.now (view said.value)) }
 {
-    let results = obstacle_results(alloc, Form::Json, name, given, certificate, obstacle)?;
+    let results = obstacle_results(alloc, Form::Json, name, given, obstacle)?;
     let edits = edits_of(alloc, given, obstacle)?;
     let more = more_than(alloc, &given.plan, certificate)?;
     Ok(said_of(alloc, Status::Fault, results, lines, edits, more, nothing())?)
@@ -215,7 +215,7 @@ fn certificate_told(
     let alone = explained_plan(alloc, name, given)?;
     let remedy = remedy_of(alone.status);
     let lines = format!(in alloc; "{told}{remedy}")?;
-    let results = obstacle_results(alloc, Form::Json, name, given, Some(certificate), &obstacle)?;
+    let results = obstacle_results(alloc, Form::Json, name, given, &obstacle)?;
     let more = more_than(alloc, &given.plan, Some(certificate))?;
     let edits = empty_list(alloc);
     Ok(said_of(

@@ -1,5 +1,5 @@
 //! `faults`: every fault of a plan, or of a plan and its certificate.
-ghost use Rattle.std.specs.Prelude.{◌≡◌, ◌∷◌, [], IfOk, option_map};
+ghost use Rattle.std.specs.Prelude.{◌≡◌, IfOk, None, Some};
 ghost use Rattle.serde_json.specs.View.{view};
 ghost use Rattle.json_commands.{specs.Faults.{AreFaultsSaid, AreNotesSaid, IsFaultsSaid}, specs.Lists.{IsListTold}, specs.Obstacles.{IsObstacleAlone}};
 ghost use Rattle.command_answers.specs.declared.status.Status.TheVariants as status;
@@ -31,7 +31,7 @@ pub fn faults_of_plan(
     if faults.is_empty() {
         return Ok(report(alloc, form, "faults", Status::Yes, empty_list(alloc))?);
     }
-    Ok(faults_said(alloc, form, name, given, None, &faults)?)
+    Ok(faults_said(alloc, form, name, given, &faults)?)
 }
 
 /// Every fault of a plan and a certificate that are not accepted.
@@ -46,44 +46,36 @@ pub fn faults_of_both(
         × AreFaultsSaid form name.now given.now.text.items given.now.plan (Some certificate.now) (view said.value)) }
 {
     let faults = all_faults(alloc, &given.plan, Some(certificate))?;
-    Ok(faults_said(alloc, form, name, given, Some(certificate), &faults)?)
+    Ok(faults_said(alloc, form, name, given, &faults)?)
 }
 
-/// What is said of these faults of a plan, or of a plan and a certificate.
+/// What is said of these faults of a plan.
 fn faults_said(
     alloc: Global,
     form: Form,
     name: &str,
     given: &PlanText,
-    certificate: Option<&Certificate>,
     faults: &[PlanFault],
 ) -> Result<Said, AllocError>
     ensures { IfOk result (λ said. (said.status ≡ status.Fault)
-        × AreNotesSaid form name.now given.now.text.items given.now.plan (option_map (λ c. c.now) certificate.entry) faults.now (view said.value)) }
+        × AreNotesSaid form name.now given.now.text.items given.now.plan faults.now (view said.value)) }
 {
-    let noter = FaultNoter {
-        plan: &given.plan,
-        certificate,
-    };
+    let noter = FaultNoter { plan: &given.plan };
     let results = notes_of(alloc, form, name, given.text.as_slice(), &noter, faults)?;
     Ok(report(alloc, form, "faults", Status::Fault, results)?)
 }
 
-/// The one note of what rules certificates of a plan out, or of the first fault of a plan and a certificate.
+/// The one note of what rules certificates of a plan out.
 pub fn obstacle_results(
     alloc: Global,
     form: Form,
     name: &str,
     given: &PlanText,
-    certificate: Option<&Certificate>,
     obstacle: &CertifyError,
 ) -> Result<Value, AllocError>
-    ensures { IfOk result (λ value. IsObstacleAlone form name.now given.now.text.items given.now.plan (option_map (λ c. c.now) certificate.entry) obstacle.now (view value)) }
+    ensures { IfOk result (λ value. IsObstacleAlone form name.now given.now.text.items given.now.plan obstacle.now (view value)) }
 {
-    let noter = ObstacleNoter {
-        plan: &given.plan,
-        certificate,
-    };
+    let noter = ObstacleNoter { plan: &given.plan };
     let alone = slice::from_ref(obstacle);
     notes_of(alloc, form, name, given.text.as_slice(), &noter, alone)
 }

@@ -15,7 +15,7 @@ use mctp_transport::Eid;
 use net_plan::PointerStep;
 use net_questions::Finding;
 use plan_values::Plan;
-use question_texts::{finding_sentence, lint_lines};
+use question_texts::lint_lines;
 use serde_json::Value;
 use std::alloc::{AllocError, Global};
 
@@ -54,12 +54,10 @@ fn finding_note(
     let place = place_of(alloc, placing, &pointer)?;
     let other = other_pointer(alloc, finding)?;
     let related = places_of(alloc, placing, other)?;
-    let line = lint_lines(alloc, plan, &[*finding])?;
-    let sentence = finding_sentence(alloc, plan, finding)?;
-    let words = format!(in alloc; "{line}{sentence}\n")?;
+    let words = lint_lines(alloc, plan, &[*finding])?;
     let nodes = finding_nodes(alloc, plan, finding)?;
     let subject = subject_of(finding);
-    note_value(alloc, placing.form, &subject, nodes, place, related, &words, &sentence)
+    note_value(alloc, placing.form, &subject, nodes, place, related, &words)
 }
 
 /// What a finding is about.

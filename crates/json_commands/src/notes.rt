@@ -22,8 +22,7 @@ pub struct Subject {
     pub entry: Option<usize>,
 }
 
-/// A note, by its subject, the nodes, where it is, where the others are that are involved, the lines that tell it, and
-/// the message of a result of SARIF.
+/// A note, by its subject, the nodes, where it is, where the others are that are involved, and what is said.
 pub fn note_value(
     alloc: Global,
     form: Form,
@@ -32,13 +31,12 @@ pub fn note_value(
     place: Value,
     related: Value,
     words: &str,
-    message: &str,
 ) -> Result<Value, AllocError>
-    ensures { IfOk result (λ value. IsNote form (subject_value subject.now) (view nodes) (view place) (view related) words.now message.now (view value)) }
+    ensures { IfOk result (λ value. IsNote form (subject_value subject.now) (view nodes) (view place) (view related) words.now (view value)) }
 {
     match form {
         Form::Json => json_note(alloc, subject, nodes, place, related, words),
-        Form::Sarif => result_value(alloc, subject.code, place, related, message_of(message)),
+        Form::Sarif => result_value(alloc, subject.code, place, related, message_of(words)),
     }
 }
 

@@ -1,17 +1,18 @@
 //! Notes of what rules certificates out, and of runs of faults.
-ghost use Rattle.std.specs.Prelude.{◌≡◌, ◌++◌, IfOk, None, Some, codes, map, option_map};
+ghost use Rattle.std.specs.Prelude.{◌≡◌, IfOk, None, Some, map, option_map};
 ghost use Rattle.json.specs.Value.{value_view};
 ghost use Rattle.net_plan.specs.Finding.{step_value};
 ghost use Rattle.net_pointers.specs.Offsets.{IsTextOf};
+ghost use Rattle.plan_texts.specs.Lines.{as_line};
 ghost use Rattle.serde_json.specs.View.{view};
-ghost use Rattle.json_commands.{specs.Obstacles.{AreRelated, IsCausePlaced, IsFaultNote, IsHopPlaced, IsObstacleNote, IsRunNote, bus_pointer, cause_pointer, eids_of, entry_of, first_fault, hop_pointer, kind_of, message_text, nodes_of, rule_of, run_subject, subject_of}, specs.Notes.{AreNodesTold, IsNote, subject_value}, specs.Places.{IsPlaceListTold}};
+ghost use Rattle.json_commands.{specs.Obstacles.{AreRelated, IsCausePlaced, IsFaultNote, IsHopPlaced, IsObstacleNote, IsRunNote, bus_pointer, cause_pointer, eids_of, entry_of, first_fault, hop_pointer, kind_of, nodes_of, rule_of, run_subject, subject_of}, specs.Notes.{AreNodesTold, IsNote, subject_value}, specs.Places.{IsPlaceListTold}};
 
 use crate::lists::{empty_list, list_of_one};
 use crate::noted::{Noted, notes_at};
 use crate::notes::{Subject, nodes_value, note_value};
 use crate::places::{Placing, place_of};
 use command_questions::Form;
-use explanation_texts::{around, index_for, why_lines};
+use explanation_texts::{around, index_for};
 use fault_texts::{
     obstacle_pointer, part_pointer, record_pointer, row_pointer, run_pointer, run_words,
     way_pointer, words_with_more,
@@ -21,21 +22,20 @@ use net_explained::{Cause, find_cause};
 use net_faults::PlanFault;
 use net_plan::PointerStep;
 use net_rules::{CertifyError, Fault, FaultRun};
-use plan_values::{Certificate, Plan};
+use plan_values::Plan;
 use serde_json::Value;
 use std::alloc::{AllocError, Global};
 
-/// Makes the notes of faults of a plan, or of a plan and a certificate.
+/// Makes the notes of faults of a plan.
 #[derive(Clone, Copy)]
 pub struct FaultNoter<'a> {
     pub plan: &'a Plan,
-    pub certificate: Option<&'a Certificate>,
 }
 
 impl<'a> Noted for FaultNoter<'a> {
     type Item = PlanFault;
 
-    ghost noted = { λ s form name text fault d. IsFaultNote form name text s.plan.now (option_map (λ c. c.now) s.certificate) fault d };
+    ghost noted = { λ s form name text fault d. IsFaultNote form name text s.plan.now fault d };
 
     fn note(
         &self,
@@ -44,25 +44,24 @@ impl<'a> Noted for FaultNoter<'a> {
         item: &PlanFault,
     ) -> Result<Value, AllocError> {
         match item {
-            PlanFault::Broken(run) => run_note(alloc, placing, self.plan, self.certificate, run),
+            PlanFault::Broken(run) => run_note(alloc, placing, self.plan, run),
             PlanFault::Obstacle(obstacle, more) => {
-                obstacle_note(alloc, placing, self.plan, self.certificate, obstacle, *more)
+                obstacle_note(alloc, placing, self.plan, obstacle, *more)
             }
         }
     }
 }
 
-/// Makes the note of what rules certificates of a plan out, or of the first fault of a plan and a certificate.
+/// Makes the note of what rules certificates of a plan out.
 #[derive(Clone, Copy)]
 pub struct ObstacleNoter<'a> {
     pub plan: &'a Plan,
-    pub certificate: Option<&'a Certificate>,
 }
 
 impl<'a> Noted for ObstacleNoter<'a> {
     type Item = CertifyError;
 
-    ghost noted = { λ s form name text obstacle d. IsObstacleNote form name text s.plan.now (option_map (λ c. c.now) s.certificate) obstacle 0 d };
+    ghost noted = { λ s form name text obstacle d. IsObstacleNote form name text s.plan.now obstacle 0 d };
 
     fn note(
         &self,
@@ -70,7 +69,7 @@ impl<'a> Noted for ObstacleNoter<'a> {
         placing: &Placing<'_, '_, '_>,
         item: &CertifyError,
     ) -> Result<Value, AllocError> {
-        obstacle_note(alloc, placing, self.plan, self.certificate, item, 0)
+        obstacle_note(alloc, placing, self.plan, item, 0)
     }
 }
 
@@ -79,46 +78,35 @@ fn obstacle_note(
     alloc: Global,
     placing: &Placing<'_, '_, '_>,
     plan: &Plan,
-    certificate: Option<&Certificate>,
     obstacle: &CertifyError,
     more: usize,
 ) -> Result<Value, AllocError>
     requires { IsTextOf placing.now.index.now (value_view placing.now.tree.now) }
-    ensures { IfOk result (λ value. IsObstacleNote placing.now.form placing.now.name.now placing.now.index.now plan.now (option_map (λ c. c.now) certificate.entry) obstacle.now more (view value)) }
+    ensures { IfOk result (λ value. IsObstacleNote placing.now.form placing.now.name.now placing.now.index.now plan.now obstacle.now more (view value)) }
 {
     let pointer = obstacle_pointer(alloc, plan, obstacle)?;
     let place = place_of(alloc, placing, &pointer)?;
     let related = related_to(alloc, placing, plan, obstacle)?;
-    let line = words_with_more(alloc, plan, obstacle, more)?;
+    let words = words_with_more(alloc, plan, obstacle, more)?;
     let nodes = obstacle_nodes(alloc, plan, obstacle)?;
     let subject = subject_of(obstacle);
-    let why = why_lines(alloc, plan, certificate, obstacle)?;
-    said_note(alloc, placing.form, &subject, nodes, place, related, &line, &why)
+    line_note(alloc, placing.form, &subject, nodes, place, related, &words)
 }
 
-/// A note with a line and what explains it.
-fn said_note(
+/// A note with these words as its line.
+fn line_note(
     alloc: Global,
     form: Form,
     subject: &Subject,
     nodes: Value,
     place: Value,
     related: Value,
-    line: &str,
-    why: &str,
+    words: &str,
 ) -> Result<Value, AllocError>
-    ensures { IfOk result (λ value. IsNote form (subject_value subject.now) (view nodes) (view place) (view related) (line.now ++ (codes "\n" ++ why.now)) (message_text line.now why.now) (view value)) }
+    ensures { IfOk result (λ value. IsNote form (subject_value subject.now) (view nodes) (view place) (view related) (as_line words.now) (view value)) }
 {
-    let words = format!(in alloc; "{line}\n{why}")?;
-    let message = message_text(line, why);
-    note_value(alloc, form, subject, nodes, place, related, &words, message)
-}
-
-/// What explains a fault, or its line where nothing does.
-fn message_text<'a>(line: &'a str, why: &'a str) -> &'a str
-    ensures { result.now ≡ message_text line.now why.now }
-{
-    if why.is_empty() { line } else { why }
+    let line = format!(in alloc; "{words}\n")?;
+    note_value(alloc, form, subject, nodes, place, related, &line)
 }
 
 /// What an obstacle is about.
@@ -361,21 +349,18 @@ fn run_note(
     alloc: Global,
     placing: &Placing<'_, '_, '_>,
     plan: &Plan,
-    certificate: Option<&Certificate>,
     run: &FaultRun,
 ) -> Result<Value, AllocError>
     requires { IsTextOf placing.now.index.now (value_view placing.now.tree.now) }
-    ensures { IfOk result (λ value. IsRunNote placing.now.form placing.now.name.now placing.now.index.now plan.now (option_map (λ c. c.now) certificate.entry) run.now (view value)) }
+    ensures { IfOk result (λ value. IsRunNote placing.now.form placing.now.name.now placing.now.index.now plan.now run.now (view value)) }
 {
     let pointer = run_pointer(alloc, run)?;
     let place = place_of(alloc, placing, &pointer)?;
-    let first = first_fault(run);
-    let related = cause_places(alloc, placing, plan, &first)?;
-    let line = run_words(alloc, plan, run)?;
+    let related = cause_places(alloc, placing, plan, &first_fault(run))?;
+    let words = run_words(alloc, plan, run)?;
     let nodes = nodes_value(alloc, plan, &[run.node])?;
     let subject = run_subject(run);
-    let why = why_lines(alloc, plan, certificate, &CertifyError::Fault(first))?;
-    said_note(alloc, placing.form, &subject, nodes, place, related, &line, &why)
+    line_note(alloc, placing.form, &subject, nodes, place, related, &words)
 }
 
 /// What a run of faults is about.

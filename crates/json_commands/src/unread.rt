@@ -92,7 +92,6 @@ fn unread_said(
         places.place,
         places.related,
         words,
-        words,
     )?;
     let results = list_of_one(alloc, note)?;
     Ok(report(alloc, form, command, Status::Unreadable, results)?)

@@ -577,8 +577,7 @@ Each line ends with the file, the line and the column of the value at fault in t
 Faults at neighboring endpoint IDs of a row, a record or a node are one line.
 
 With --json the faults are one JSON value, and with --sarif a log of SARIF 2.1.0, by which a code
-review shows each fault at its line. Each fault has the sentences there that explain has for the
-first one, and the places of the others that are involved.
+review shows each fault at its line.
 
 Status 0: yes. A plan alone has a certificate then, and with status 1 it has none.
 Status 1: the faults.

@@ -1219,7 +1219,7 @@ const ANSWER: &str = r##"{
           }
         },
         "sentences": {
-          "description": "The line that the command prints of it without --json, and behind it what explains it.",
+          "description": "The lines that the command prints of it without --json.",
           "type": "array",
           "items": {
             "type": "string"

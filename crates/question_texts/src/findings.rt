@@ -170,7 +170,7 @@ fn shared_address_line(
 }
 
 /// The name of a port's bus, or a dash where there is none.
-pub fn bus_name_of_port(plan: &Plan, node: usize, port: usize) -> &str
+fn bus_name_of_port(plan: &Plan, node: usize, port: usize) -> &str
     ensures { result.now ≡ bus_text plan.now (bus_of_port plan.now node port) }
 {
     bus_text(plan, bus_of_port(plan, node, port))

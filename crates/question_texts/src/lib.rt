@@ -3,10 +3,8 @@
 
 mod findings;
 mod pairs;
-mod sentences;
 mod ways;
 
 pub use findings::lint_lines;
 pub use pairs::reach_lines;
-pub use sentences::finding_sentence;
 pub use ways::trace_lines;
