@@ -115,11 +115,7 @@ fn placed_line(
 }
 
 /// The words of a fault. Want of memory has none.
-fn plan_fault_words(
-    alloc: Global,
-    plan: &Plan,
-    fault: &PlanFault,
-) -> Result<String, AllocError>
+fn plan_fault_words(alloc: Global, plan: &Plan, fault: &PlanFault) -> Result<String, AllocError>
     ensures { IfOk result (λ words. plan_fault_words plan.now fault.now ≡ Some (string_bytes words)) }
 {
     match fault {
