@@ -2,7 +2,8 @@
 
 Each value meets docs/schema/answer.schema.json, ends as the command without the option, has a result for each line of
 `faults` and of `lint`, and places that are there: the JSON pointer leads to a value of the file, and the line and the
-column lie within it. It needs the Python package jsonschema (Debian: python3-jsonschema), and says where that is missing.
+column lie within it. The sentences are those of the lines. It needs the Python package jsonschema (Debian:
+python3-jsonschema), and says where that is missing.
 """
 import json
 
@@ -50,6 +51,25 @@ def counted(command, lines):
     return {"faults": 0, "lint": 0 if listed == ["clean"] else len(listed)}.get(command) if listed in (["yes"], ["clean"]) or command == "lint" else None
 
 
+def placed(result):
+    """The line of `faults` for a result."""
+    place = result["place"]
+    return f"{result['sentences'][0]} at {place['file']}:{place['line']}:{place['column']}"
+
+
+def unlike(words, lines, value):
+    """What of the sentences isn't as the lines of the command have it."""
+    listed, results = lines.decode().splitlines(), value["results"]
+    if value["status"] != 1:
+        return []
+    if words[0] == "faults":
+        return [f"{placed(it)}, not {line}" for it, line in zip(results, listed) if placed(it) != line]
+    if words[0] != "explain":
+        return []
+    rest = iter(listed)
+    return [f"not told: {it}" for it in (*results[0]["sentences"], *value["sentences"]) if it not in rest]
+
+
 def try_all(trial):
     try:
         from jsonschema import Draft202012Validator as Validator
@@ -73,6 +93,7 @@ def try_all(trial):
                 *(["another status"] if (ended, value["status"]) != (status, status) else []),
                 *(f"no such place: {it}" for it in places if not is_there(it)),
                 *([f"{len(value['results'])} results of {many}"] if many is not None and len(value["results"]) != many else []),
+                *unlike(words, lines, value),
             ]
         except (ValueError, KeyError, IndexError, TypeError) as why:
             wrong = [f"{type(why).__name__}: {why}"]
@@ -83,6 +104,7 @@ def try_all(trial):
             # (a file that can't be opened breaks no rule)
             known = {"file", *(it["id"] for it in run["tool"]["driver"]["rules"])}
             is_right = ended == status and len(run["results"]) == len(value["results"])
+            is_right = is_right and [it["message"]["text"] for it in run["results"]] == ["\n".join(it["sentences"]) for it in value["results"]]
             trial.note(is_right and {it["ruleId"] for it in run["results"]} <= known, f"{name} --sarif: other results")
 
     each(row, rows())

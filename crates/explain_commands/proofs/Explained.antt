@@ -4,7 +4,7 @@ use Rattle.net_rules.{specs.Faults.{IsFirstFault, site_of}, specs.declared.certi
 use Rattle.net_explained.{specs.declared.cause.Cause.{Cause}, specs.Causes.{IsCauseAt}}
 use Rattle.plan_values.{specs.declared.certificate.Certificate.{Certificate}, specs.declared.plan.Plan.{Plan}}
 use Rattle.command_answers.{specs.declared.answer.Answer.{Answer}, specs.declared.inputs.Unread.{Unread}, specs.declared.refused.Refused.{Refused}, specs.declared.status.Status.{Status}, specs.Answers.{Stream, GavePlanText, GaveCertificate}, specs.UnreadInputs.{IsNoPlanBy, IsNoCertificateBy}, proofs.UnreadTexts.{IsUnreadAnswer, plan_told, certificate_told}, specs.Certifying.{IsRuledOutBy}}
-use Rattle.explain_commands.specs.Explaining.{IsExplained, ExplainsSo, IsExplainedThere, IsObstacleText, IsToldWithEdits, AreMoreTold, IsFaultTold, both_words, IsBothExplained, IsExplainedWith, ExplainsWithSo, IsFaultExplained, IsRemedyTold, remedy_text}
+use Rattle.explain_commands.specs.Explaining.{IsExplained, ExplainsSo, IsExplainedThere, IsObstacleText, IsToldWithEdits, AreMoreTold, IsFaultTold, both_words, IsBothExplained, IsExplainedWith, ExplainsWithSo, IsFaultExplained, IsRemedyTold}
 use Rattle.plan_texts.specs.Lines.{fault_text}
 use Rattle.fault_texts.specs.Places.{IsPlaceTold, obstacle_pointer}
 use Rattle.net_rules.specs.declared.certify_error.CertifyError.TheVariants as error
@@ -28,7 +28,7 @@ of_nothing name plans u (Err why) by h = tt
 
 -- what explains an obstacle, between its place and how many more faults there are
 pub there_written : {A E : Type 0} (bytes : A → List ℕ) (name text : List ℕ) (plan : Plan) (obstacle : CertifyError) (place told more : List ℕ) (r : Result A E)
-    → IsPlaceTold name text (obstacle_pointer plan obstacle) place → IsToldWithEdits plan obstacle told → AreMoreTold plan None obstacle name more
+    → IsPlaceTold name text (obstacle_pointer plan obstacle) place → IsToldWithEdits plan obstacle told → AreMoreTold plan None name more
     → IfOk r (λ t. bytes t ≡ place ++ (told ++ more)) → IfOk r (λ t. IsExplainedThere name text plan obstacle (bytes t))
 there_written bytes name text plan obstacle place told more (Ok t) placed explained others written = record {
   place = place;
@@ -90,7 +90,7 @@ module _ (name certified_by text : List ℕ) where
   -- the lines of the first fault
   pub fault_written : {A E : Type 0} (bytes : A → List ℕ) (plan : Plan) (cert : Certificate) (fault : Fault) (cause : Option Cause) (place told more : List ℕ) (r : Result A E)
       → IsFirstFault plan cert (site_of fault) → IsCauseAt plan (site_of fault) cause → IsPlaceTold name text (obstacle_pointer plan (error.Fault fault)) place
-      → IsFaultTold name text plan cert fault cause told → AreMoreTold plan (Some cert) (error.Fault fault) (both_words name certified_by) more
+      → IsFaultTold name text plan cert fault cause told → AreMoreTold plan (Some cert) (both_words name certified_by) more
       → IfOk r (λ t. bytes t ≡ fault_text plan fault ++ (place ++ (told ++ more))) → IfOk r (λ t. IsFaultExplained name certified_by text plan cert (bytes t))
   fault_written bytes plan cert fault cause place told more (Ok t) first at_site placed explained others written = record {
     fault = fault;

@@ -1,22 +1,15 @@
 -- What `explain` prints, and what the end of it says.
 use Rattle.std.{specs.Prelude.{◌≡◌, ◌≤◌, ◌⊎◌, ℕ, List, ◌++◌, codes, length, Option, Some, None}, specs.List.{All}}
-use Rattle.net_rules.{specs.Certificates.{IsExact}, specs.FaultLists.{AreFaults}, specs.Faults.{IsFirstFault, site_of}, specs.Rules.{Accepts}, specs.declared.certify_error.CertifyError.{CertifyError}, specs.declared.fault.Fault.{Fault}, specs.declared.fault_run.FaultRun.{FaultRun}}
+use Rattle.net_rules.{specs.Certificates.{IsExact}, specs.Faults.{IsFirstFault, site_of}, specs.Rules.{Accepts}, specs.declared.certify_error.CertifyError.{CertifyError}, specs.declared.fault.Fault.{Fault}}
+use Rattle.net_faults.{specs.declared.plan_fault.PlanFault.{PlanFault}, specs.PlanFaults.{AreAllFaults}}
 use Rattle.net_explained.{specs.declared.cause.Cause.{Cause}, specs.declared.hops.MostHops.{MostHops}, specs.declared.trial.Tried.{Tried}, specs.Causes.{IsCauseAt}, specs.Obstacles.{IsTried}}
 use Rattle.plan_values.{specs.declared.certificate.Certificate.{Certificate}, specs.declared.plan.Plan.{Plan}, specs.PlanValues.{plan_value}}
-use Rattle.command_answers.{specs.declared.status.Status.{Status}, specs.Answers.{Stream, GavePlanText, GaveCertificate}, specs.Certifying.{IsRuledOutBy, others_of}, specs.Statuses.{yes_line}, specs.UnreadTexts.{IsUnreadText, IsUnreadCertificateText}}
+use Rattle.command_answers.{specs.declared.status.Status.{Status}, specs.Answers.{Stream, GavePlanText, GaveCertificate}, specs.Certifying.{IsRuledOutBy}, specs.Statuses.{yes_line}, specs.UnreadTexts.{IsUnreadText, IsUnreadCertificateText}}
 use Rattle.plan_texts.specs.Lines.{fault_text}
 use Rattle.explanation_texts.{specs.CertificateSubjects.{certificate_subjects}, specs.EditLines.{edits_text}, specs.Explanations.{told_subjects, IsObstacleTold}, specs.Pieces.{Tells}, specs.SummaryLines.{summary_text}}
-use Rattle.fault_texts.{specs.FaultListLines.{more_text}, specs.Places.{IsPlaceTold, obstacle_pointer}}
+use Rattle.fault_texts.{specs.FaultListLines.{more_text, no_certificate_text, remedy_text}, specs.Places.{IsPlaceTold, obstacle_pointer}}
 use Rattle.net_rules.specs.declared.certify_error.CertifyError.TheVariants as error
 use Rattle.command_answers.specs.declared.status.Status.TheVariants as status
-
--- the certificate is at fault, and not the plan
-abbrev pub remedy_text : List ℕ
-remedy_text = codes "This plan has a certificate.\nHint: take the one that mctpplan certify makes.\n"
-
--- no certificate fits the plan
-abbrev pub no_certificate_text : List ℕ
-no_certificate_text = codes "This plan has no certificate, whatever this one says. mctpplan certify says:\n"
 
 -- ---- what rules certificates out
 
@@ -32,10 +25,11 @@ abbrev pub IsToldWithEdits : Plan → CertifyError → List ℕ → Type 0
 IsToldWithEdits plan obstacle text = (lines : List ℕ) × (edits : List ℕ)
     × IsObstacleTold plan obstacle lines × AreEditsTold plan obstacle edits × (text ≡ lines ++ edits)
 
--- the line tells how many more faults the plan has, or it and the certificate, and by which words they are listed
-abbrev pub AreMoreTold : Plan → Option Certificate → CertifyError → List ℕ → List ℕ → Type 0
-AreMoreTold plan cert obstacle words line = (runs : List FaultRun) × AreFaults plan cert runs
-    × (line ≡ more_text words (others_of obstacle (length runs)))
+-- the line tells how many more faults than one `faults` lists of the plan, or of it and the certificate, and by which
+-- words
+abbrev pub AreMoreTold : Plan → Option Certificate → List ℕ → List ℕ → Type 0
+AreMoreTold plan cert words line = (faults : List PlanFault) × AreAllFaults plan cert faults
+    × (line ≡ more_text words (length faults))
 
 -- The lines explain an obstacle of the plan: where it stands in the text of this name; why it is one, with edits; and
 -- how many more faults there are.
@@ -46,7 +40,7 @@ pub record IsExplainedThere (name text : List ℕ) (plan : Plan) (obstacle : Cer
   pub more : List ℕ
   pub placed : IsPlaceTold name text (obstacle_pointer plan obstacle) place
   pub explained : IsToldWithEdits plan obstacle told
-  pub others : AreMoreTold plan None obstacle name more
+  pub others : AreMoreTold plan None name more
   pub written : lines ≡ place ++ (told ++ more)
 
 -- The lines are that of what comes first, in the order of the rules, of what rules certificates of the plan out, and
@@ -128,7 +122,7 @@ pub record IsFaultExplained (name certified_by text : List ℕ) (plan : Plan) (c
   pub at_site : IsCauseAt plan (site_of fault) cause
   pub placed : IsPlaceTold name text (obstacle_pointer plan (error.Fault fault)) place
   pub told : IsFaultTold name text plan certificate fault cause explained
-  pub others : AreMoreTold plan (Some certificate) (error.Fault fault) (both_words name certified_by) more
+  pub others : AreMoreTold plan (Some certificate) (both_words name certified_by) more
   pub written : lines ≡ fault_text plan fault ++ (place ++ (explained ++ more))
 
 -- every rule holds of the plan and the certificate, and the text says yes and sums the plan up

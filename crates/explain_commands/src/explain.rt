@@ -11,12 +11,13 @@ pub mod events;
 pub mod moved;
 
 use command_answers::{
-    Answer, Input, PlanText, Refused, Status, YES, others_of, plan_or_text, tell, unread_answer,
+    Answer, Input, PlanText, Refused, Status, YES, plan_or_text, tell, unread_answer,
 };
 use explanation_texts::{edit_lines, obstacle_lines, summary_lines};
 use fault_texts::{more_line, obstacle_place};
-use net_check::{CertifyError, certify, faults};
+use net_check::{CertifyError, certify};
 use net_explained::{most_hops, tried_edits};
+use net_faults::all_faults;
 use net_plan::{Sink, Source};
 use plan_texts::obstacle_line;
 use plan_values::{Certificate, Plan};
@@ -121,23 +122,22 @@ fn told_there(
     ensures { IfOk result (λ lines. IsExplainedThere name.now given.now.text.items given.now.plan obstacle.now (string_bytes lines)) }
 {
     let place = obstacle_place(alloc, name, given.text.as_slice(), &given.plan, obstacle)?;
-    let more = more_faults(alloc, name, &given.plan, None, obstacle)?;
+    let more = more_faults(alloc, name, &given.plan, None)?;
     format!(in alloc; "{place}{told}{more}")
 }
 
-/// Says how many more faults a plan has than the one that is told, or a plan and a certificate, and by which words they
-/// are listed.
+/// Says how many more faults `faults` lists of a plan than the one that is told, or of a plan and a certificate, and by
+/// which words.
 pub fn more_faults(
     alloc: Global,
     words: &str,
     plan: &Plan,
     certificate: Option<&Certificate>,
-    obstacle: &CertifyError,
 ) -> Result<String, AllocError>
-    ensures { IfOk result (λ line. AreMoreTold plan.now (option_map (λ c. c.now) certificate.entry) obstacle.now words.now (string_bytes line)) }
+    ensures { IfOk result (λ line. AreMoreTold plan.now (option_map (λ c. c.now) certificate.entry) words.now (string_bytes line)) }
 {
-    let runs = faults(alloc, plan, certificate)?;
-    more_line(alloc, words, others_of(obstacle, runs.len()))
+    let faults = all_faults(alloc, plan, certificate)?;
+    more_line(alloc, words, faults.len())
 }
 
 /// Explains what rules certificates of a plan out, and proposes edits.

@@ -1,3 +1,3 @@
-mod RunLines
+mod FaultLines
 pub mod RuledOutMoves
 mod AtTold

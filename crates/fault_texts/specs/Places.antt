@@ -4,7 +4,8 @@ use Rattle.json.specs.Json.{Json}
 use Rattle.net_plan.{specs.Finding.{Step, key, index}, specs.Texts.{IsTree}, specs.Trees.{data_of}}
 use Rattle.plan_values.specs.declared.plan.Plan.{Plan}
 use Rattle.net_pointers.{specs.Positions.{is_line_feed, begins_character, last_line}, specs.declared.position.Position.{Position}, specs.declared.spots.Spot.{Spot}}
-use Rattle.net_rules.{specs.declared.certify_error.CertifyError.{CertifyError}, specs.declared.rule.Rule.{Rule}, specs.declared.rule.Rule.TheVariants.{C01, C02, C03, C04, C05, C06, C07, C08, C09, C10, C11, C12, C13, C14, C15, C16}}
+use Rattle.net_faults.{specs.declared.plan_fault.PlanFault.{PlanFault}, specs.declared.plan_fault.PlanFault.TheVariants.{Broken, Obstacle}}
+use Rattle.net_rules.{specs.declared.certify_error.CertifyError.{CertifyError}, specs.declared.fault_run.FaultRun.{FaultRun}, specs.declared.rule.Rule.{Rule}, specs.declared.rule.Rule.TheVariants.{C01, C02, C03, C04, C05, C06, C07, C08, C09, C10, C11, C12, C13, C14, C15, C16}}
 use Rattle.explanation_texts.specs.Explanations.{row_for}
 use Rattle.reading_texts.{specs.ReadingLines.{pointer_text}, specs.TroubleLines.{IsOffsetOf}}
 use Rattle.net_rules.specs.declared.certify_error.CertifyError.TheVariants as error
@@ -86,6 +87,15 @@ obstacle_pointer plan (error.Loop eid nodes) =
     way_pointer (first_of nodes.items) (row_for plan eid.value (first_of nodes.items)).index
 obstacle_pointer plan (error.BadChain node kind entry) = record_pointer node entry
 obstacle_pointer plan error.OutOfMemory = []
+
+-- what is at fault at the sites of a run
+abbrev pub run_pointer : FaultRun → List Step
+run_pointer run = site_pointer run.rule run.node run.entry
+
+-- what one of all faults speaks of
+abbrev pub plan_fault_pointer : Plan → PlanFault → List Step
+plan_fault_pointer plan (Broken run) = run_pointer run
+plan_fault_pointer plan (Obstacle obstacle more) = obstacle_pointer plan obstacle
 
 -- ---- places
 

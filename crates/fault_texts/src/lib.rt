@@ -4,8 +4,8 @@
 mod fault_lists;
 mod places;
 
-pub use fault_lists::{fault_lines, more_line, obstacle_list, run_line};
+pub use fault_lists::{fault_lines, more_line, run_words, words_with_more};
 pub use places::{
     obstacle_place, obstacle_pointer, part_pointer, pointer_place, record_pointer, row_pointer,
-    site_pointer, way_pointer,
+    run_pointer, way_pointer,
 };

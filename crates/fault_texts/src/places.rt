@@ -3,14 +3,15 @@ ghost use Rattle.std.specs.Prelude.{◌≡◌, ◌≤◌, IfOk, IfSome, length, 
 ghost use Rattle.json.specs.Value.{value_view};
 ghost use Rattle.net_plan.{specs.Finding.{step_value}, specs.Trees.{view}};
 ghost use Rattle.net_pointers.specs.Offsets.{IsTextOf};
-ghost use Rattle.fault_texts.specs.Places.{IsAtTold, IsPlaceTold, entry_pointer, first_of, node_pointer, obstacle_pointer, own_pointer, part_pointer, place_line, place_text, position_text, record_pointer, row_pointer, site_pointer, spot_words, way_pointer};
+ghost use Rattle.fault_texts.specs.Places.{IsAtTold, IsPlaceTold, entry_pointer, first_of, node_pointer, obstacle_pointer, own_pointer, part_pointer, place_line, place_text, plan_fault_pointer, position_text, record_pointer, row_pointer, run_pointer, site_pointer, spot_words, way_pointer};
 ghost use Rattle.reading_texts.specs.TroubleLines.{IsOffsetOf};
 
 use explanation_texts::index_for;
 use json::{Scratch, Value};
+use net_faults::PlanFault;
 use net_plan::{PointerStep, json_of};
 use net_pointers::{Position, Spot, TextIndex, offset_of_pointer, position_of};
-use net_rules::{CertifyError, Rule};
+use net_rules::{CertifyError, FaultRun, Rule};
 use plan_values::Plan;
 use reading_texts::pointer_text;
 use std::alloc::{AllocError, Global};
@@ -61,39 +62,7 @@ fn place_in(
     place_line(alloc, name, text, pointer, offset)
 }
 
-/// The words that tell behind a line where in its text a pointer leads.
-pub fn pointer_at(
-    alloc: Global,
-    name: &str,
-    text: &[u8],
-    pointer: &[PointerStep],
-) -> Result<String, AllocError>
-    ensures { IfOk result (λ words. IsAtTold name.now text.now (map step_value pointer.now) (string_bytes words)) }
-{
-    let mut scratch = Scratch::new(alloc);
-    match json_of(alloc, text, &mut scratch) {
-        Ok(tree) => at_from_start(alloc, name, text, &tree, pointer),
-        // no memory: the text was read before, so `json_of` has no other error.
-        Err(_) => Err(AllocError),
-    }
-}
-
-fn at_from_start(
-    alloc: Global,
-    name: &str,
-    text: &[u8],
-    tree: &Value<'_>,
-    pointer: &[PointerStep],
-) -> Result<String, AllocError>
-    requires { IsTextOf text.now (value_view tree.now) }
-    ensures { IfOk result (λ words. IsAtTold name.now text.now (map step_value pointer.now) (string_bytes words)) }
-{
-    let mut scratch = Scratch::new(alloc);
-    let index = TextIndex::of(alloc, text, &mut scratch)?;
-    at_in(alloc, name, &index, tree, pointer)
-}
-
-/// The same over the index of a text.
+/// The words that tell behind a line where in its text, which has this index, a pointer leads.
 pub fn at_in(
     alloc: Global,
     name: &str,
@@ -174,6 +143,27 @@ fn position_text(alloc: Global, name: &str, position: Position) -> Result<String
 
 // ---- pointers
 
+/// The pointer to what a fault speaks of.
+pub fn plan_fault_pointer(
+    alloc: Global,
+    plan: &Plan,
+    fault: &PlanFault,
+) -> Result<Vec<PointerStep>, AllocError>
+    ensures { IfOk result (λ pointer. map step_value pointer.items ≡ plan_fault_pointer plan.now fault.now) }
+{
+    match fault {
+        PlanFault::Broken(run) => run_pointer(alloc, run),
+        PlanFault::Obstacle(obstacle, _) => obstacle_pointer(alloc, plan, obstacle),
+    }
+}
+
+/// The pointer to what is at fault at the sites of a run.
+pub fn run_pointer(alloc: Global, run: &FaultRun) -> Result<Vec<PointerStep>, AllocError>
+    ensures { IfOk result (λ pointer. map step_value pointer.items ≡ run_pointer run.now) }
+{
+    site_pointer(alloc, run.rule, run.node, run.entry)
+}
+
 /// The pointer to what rules certificates of a plan out.
 pub fn obstacle_pointer(
     alloc: Global,
@@ -202,7 +192,7 @@ fn first_of(nodes: &[usize]) -> usize
 }
 
 /// The pointer to what is at fault where a rule is broken at a node or at one of its entries.
-pub fn site_pointer(
+fn site_pointer(
     alloc: Global,
     rule: Rule,
     node: usize,

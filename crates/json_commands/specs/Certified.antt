@@ -3,7 +3,7 @@ use Rattle.std.specs.Prelude.{◌≡◌, ◌⊎◌, ℕ, List, codes, Some, ⊤}
 use Rattle.mctp_transport.specs.declared.address.Eid.{Eid}
 use Rattle.serde_json.specs.Data.{Data}
 use Rattle.plan_values.{specs.declared.certificate.Certificate.{Certificate}, specs.declared.plan.Plan.{Plan}}
-use Rattle.net_rules.{specs.declared.fault.Fault.{Fault}, specs.declared.fault_run.FaultRun.{FaultRun}, specs.Faults.{IsFirstFault, site_of}, specs.Rules.{Accepts}}
+use Rattle.net_rules.{specs.declared.fault.Fault.{Fault}, specs.Faults.{IsFirstFault, site_of}, specs.Rules.{Accepts}}
 use Rattle.command_answers.{specs.declared.inputs.Unread.{Unread}, specs.declared.status.Status.{Status}, specs.Answers.{Stream, GavePlanText, GaveCertificate}, specs.Naming.{IsDestination, IsFirstNamed, NameTheEnds}, specs.UnreadInputs.{IsNoPlanBy, IsNoCertificateBy}}
 use Rattle.command_questions.{specs.declared.certified.CertifiedJson.{CertifiedJson}, specs.declared.form.Form.{Form}, specs.declared.form.Form.TheVariants.{Json}}
 use Rattle.json_commands.{specs.Explained.{IsFaultExplained, IsSummedUp}, specs.Faults.{AreFaultsSaid}, specs.Lists.{empty_data}, specs.Obstacles.{IsObstacleAlone}, specs.Reached.{IsReachSaid}, specs.Reports.{IsLineOf, IsReport}, specs.Traced.{IsTraceSaid}, specs.Unread.{IsCertificateUnreadSaid, IsPlanUnreadSaid, IsUnknownSaid}}
@@ -56,7 +56,7 @@ abbrev pub IsFaultSaid : CertifiedJson → (name text : List ℕ) → Plan → C
 IsFaultSaid asks.Explain name text plan certificate fault d =
     IsFaultExplained name text plan certificate fault d
 IsFaultSaid (asks.Faults form) name text plan certificate fault d =
-    (runs : List FaultRun) × AreFaultsSaid form name text plan (Some certificate) runs d
+    AreFaultsSaid form name text plan (Some certificate) d
 IsFaultSaid asks.Reach name text plan certificate fault d = IsFaultAlone (codes "reach") name text plan fault d
 IsFaultSaid (asks.Trace from to) name text plan certificate fault d =
     IsFaultAlone (codes "trace") name text plan fault d

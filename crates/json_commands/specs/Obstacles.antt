@@ -4,13 +4,14 @@ use Rattle.mctp_transport.specs.declared.address.Eid.{Eid}
 use Rattle.serde_json.specs.Data.{Data}
 use Rattle.net_plan.specs.Finding.{Step, key, index}
 use Rattle.net_explained.{specs.declared.cause.Cause.{Cause}, specs.Causes.{IsCauseAt}}
+use Rattle.net_faults.{specs.declared.plan_fault.PlanFault.{PlanFault}, specs.declared.plan_fault.PlanFault.TheVariants.{Broken, Obstacle}}
 use Rattle.plan_values.specs.declared.plan.Plan.{Plan}
 use Rattle.net_rules.{specs.declared.certify_error.CertifyError.{CertifyError}, specs.declared.fault.Fault.{Fault}, specs.declared.fault_run.EidSpan.{EidSpan}, specs.declared.fault_run.FaultRun.{FaultRun}, specs.Faults.{site_of}, specs.Rules.{code_of}}
 use Rattle.explanation_texts.specs.Explanations.{around, row_for}
-use Rattle.plan_texts.specs.Lines.{obstacle_text}
-use Rattle.fault_texts.{specs.FaultListLines.{run_text}, specs.Places.{obstacle_pointer, part_pointer, record_pointer, row_pointer, site_pointer, way_pointer}}
+use Rattle.plan_texts.specs.Lines.{as_line}
+use Rattle.fault_texts.{specs.FaultListLines.{run_words, words_with_more}, specs.Places.{obstacle_pointer, part_pointer, record_pointer, row_pointer, run_pointer, way_pointer}}
 use Rattle.command_questions.specs.declared.form.Form.{Form}
-use Rattle.json_commands.{specs.Lists.{IsListTold, empty_data, one_data}, specs.Notes.{AreNodesTold, IsNote, SubjectValue}, specs.Places.{IsPlaceListTold, IsPlaceTold}}
+use Rattle.json_commands.{specs.Lists.{IsListTold, empty_data}, specs.Notes.{AreNodesTold, IsNote, SubjectValue}, specs.Places.{IsPlaceListTold, IsPlaceTold}}
 use Rattle.net_explained.specs.declared.cause.Cause.TheVariants as cause
 use Rattle.net_rules.specs.declared.certify_error.CertifyError.TheVariants as error
 
@@ -128,18 +129,19 @@ AreRelated form name text plan error.OutOfMemory d = ⊥
 -- ---- notes
 
 -- The value is the note of what rules certificates of the plan out, which stands in the text of this name: with its
--- place, the nodes, where the others stand, and the line by which `certify` tells it.
-abbrev pub IsObstacleNote : Form → (name text : List ℕ) → Plan → CertifyError → Data → Type 0
-IsObstacleNote form name text plan obstacle d = (nodes place related : Data) × (words : List ℕ)
+-- place, the nodes, where the others stand, the words by which `certify` tells it, and how many more endpoint IDs there
+-- are.
+abbrev pub IsObstacleNote : Form → (name text : List ℕ) → Plan → CertifyError → ℕ → Data → Type 0
+IsObstacleNote form name text plan obstacle more d = (nodes place related : Data) × (words : List ℕ)
     × AreNodesTold plan (nodes_of obstacle) nodes
     × IsPlaceTold form name text (obstacle_pointer plan obstacle) place
-    × AreRelated form name text plan obstacle related × (obstacle_text plan obstacle ≡ Some words)
-    × IsNote form (subject_of obstacle) nodes place related words d
+    × AreRelated form name text plan obstacle related × (words_with_more plan obstacle more ≡ Some words)
+    × IsNote form (subject_of obstacle) nodes place related (as_line words) d
 
 -- the list of this one note
 abbrev pub IsObstacleAlone : Form → (name text : List ℕ) → Plan → CertifyError → Data → Type 0
 IsObstacleAlone form name text plan obstacle d =
-    (note : Data) × IsObstacleNote form name text plan obstacle note × (d ≡ one_data note)
+    IsListTold (λ told. IsObstacleNote form name text plan told 0) (obstacle ∷ []) d
 
 -- the first fault of a run
 abbrev pub first_fault : FaultRun → Fault
@@ -159,9 +161,14 @@ run_subject run = record {
 }
 
 -- The value is the note of a run of faults of the plan, which stands in the text of this name: with its place, where
--- the other stands that is involved in its first fault, and the line of `faults` but for the place.
+-- the other stands that is involved in its first fault, and the words of `faults`.
 abbrev pub IsRunNote : Form → (name text : List ℕ) → Plan → FaultRun → Data → Type 0
 IsRunNote form name text plan run d = (nodes place related : Data) × AreNodesTold plan (run.node ∷ []) nodes
-    × IsPlaceTold form name text (site_pointer run.rule run.node run.entry) place
+    × IsPlaceTold form name text (run_pointer run) place
     × IsCausePlaced form name text plan (first_fault run) related
-    × IsNote form (run_subject run) nodes place related (run_text plan run []) d
+    × IsNote form (run_subject run) nodes place related (as_line (run_words plan run)) d
+
+-- the note of one of all faults
+abbrev pub IsFaultNote : Form → (name text : List ℕ) → Plan → PlanFault → Data → Type 0
+IsFaultNote form name text plan (Broken run) d = IsRunNote form name text plan run d
+IsFaultNote form name text plan (Obstacle obstacle more) d = IsObstacleNote form name text plan obstacle more d

@@ -6,7 +6,7 @@ use Rattle.serde_json.specs.Data.{Data, null, string, object, member, no_members
 use Rattle.plan_values.{specs.declared.certificate.Certificate.{Certificate}, specs.declared.plan.Plan.{Plan}}
 use Rattle.net_questions.{specs.declared.step.WayStep.{WayStep}, specs.declared.way.End.{End}, specs.declared.way.End.TheVariants.{Arrives, Stops}, specs.Ways.{IsWay}}
 use Rattle.net_tables.specs.Ranks.{rank}
-use Rattle.command_questions.specs.declared.form.Form.TheVariants.{Json}
+use Rattle.command_questions.{specs.declared.form.Form.{Form}, specs.declared.form.Form.TheVariants.{Json}}
 use Rattle.json_commands.{specs.Lists.{IsListTold, empty_data}, specs.Notes.{node_data}, specs.Obstacles.{hop_pointer}, specs.Places.{IsPlaceTold, number_data}}
 
 -- a step: the node, the place of its row, the port and the next node
@@ -17,9 +17,9 @@ step_data plan step place = object (member (codes "next") (node_data plan step.h
 
 -- The value tells a step of the way of a packet for the endpoint ID, with where the first row for it stands in the text
 -- of this name.
-abbrev pub IsStepTold : (name text : List ℕ) → Plan → Eid → WayStep → Data → Type 0
-IsStepTold name text plan eid step d = (place : Data)
-    × IsPlaceTold Json name text (hop_pointer plan (Some eid) step.node) place × (d ≡ step_data plan step place)
+abbrev pub IsStepTold : Form → (name text : List ℕ) → Plan → Eid → WayStep → Data → Type 0
+IsStepTold form name text plan eid step d = (place : Data)
+    × IsPlaceTold form name text (hop_pointer plan (Some eid) step.node) place × (d ≡ step_data plan step place)
 
 -- why a way stops, or null where the packet arrives
 abbrev pub stop_data : End → Data
@@ -39,7 +39,7 @@ traced_data way = object (member (codes "command") (string (codes "trace"))
 -- the value tells these steps of a way for the endpoint ID, where it ends and why
 abbrev pub IsWayTold : (name text : List ℕ) → Plan → Eid → List WayStep → ℕ → End → Data → Type 0
 IsWayTold name text plan eid steps last end d = (told : Data)
-    × IsListTold (IsStepTold name text plan eid) steps told
+    × IsListTold (IsStepTold Json name text plan eid) steps told
     × (d ≡ traced_data (way_data plan eid.value told last end))
 
 -- The value tells the way of a packet for the endpoint ID that is put in at n. It has no more hops than the certified

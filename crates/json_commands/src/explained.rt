@@ -3,7 +3,7 @@ ghost use Rattle.std.specs.Prelude.{◌≡◌, IfOk, None, Some, option_map};
 ghost use Rattle.net_rules.specs.Certificates.{NamesObstacle, RulesOutCertificates};
 ghost use Rattle.serde_json.{specs.Data.{null}, specs.View.{view}};
 ghost use Rattle.command_answers.specs.UnreadInputs.{IsTextOf};
-ghost use Rattle.json_commands.{specs.Notes.{lines_data}, specs.Explained.{AreMore, IsExplainedSaid, IsFaultExplained, AreEditsTold, IsCertificateTold, IsFaultTold, IsObstacleExplained, IsSummedUp, IsToldWithEdits, explained_by, explained_data}};
+ghost use Rattle.json_commands.{specs.Notes.{lines_data}, specs.Explained.{AreMore, IsExplainedSaid, IsFaultExplained, AreEditsTold, IsCertificateTold, IsFaultTold, IsObstacleExplained, IsSummedUp, IsToldWithEdits, explained_by, explained_data, remedy_of}};
 ghost use Rattle.command_answers.specs.declared.status.Status.TheVariants as status;
 
 use crate::edits::edits_value;
@@ -11,11 +11,14 @@ use crate::faults::obstacle_results;
 use crate::lists::empty_list;
 use crate::said::Said;
 use crate::sentences::lines_value;
-use command_answers::{PlanText, Status, others_of};
+use command_answers::{PlanText, Status};
 use command_questions::Form;
-use explanation_texts::{cause_lines, certificate_fault_lines, obstacle_lines, summary_lines};
-use net_check::{CertifyError, Fault, certify, faults};
+use explanation_texts::{
+    NO_CERTIFICATE, REMEDY, cause_lines, certificate_fault_lines, obstacle_lines, summary_lines,
+};
+use net_check::{CertifyError, Fault, certify};
 use net_explained::{Cause, find_cause, most_hops, tried_edits};
+use net_faults::all_faults;
 use plan_values::{Certificate, Plan};
 use serde_json::{Value, json};
 use std::alloc::{AllocError, Global};
@@ -121,7 +124,7 @@ fn told_with_edits(
 {
     let results = obstacle_results(alloc, Form::Json, name, given, obstacle)?;
     let edits = edits_of(alloc, given, obstacle)?;
-    let more = more_than(alloc, &given.plan, certificate, obstacle)?;
+    let more = more_than(alloc, &given.plan, certificate)?;
     Ok(said_of(alloc, Status::Fault, results, lines, edits, more, nothing())?)
 }
 
@@ -134,17 +137,16 @@ fn edits_of(alloc: Global, given: &PlanText, obstacle: &CertifyError) -> Result<
     Ok(edits_value(alloc, &given.plan, edits.as_slice())?)
 }
 
-/// How many more faults a plan has, or a plan and a certificate, than the one that is told.
+/// How many more faults `faults` lists of a plan, or of a plan and a certificate, than the one that is told.
 fn more_than(
     alloc: Global,
     plan: &Plan,
     certificate: Option<&Certificate>,
-    obstacle: &CertifyError,
 ) -> Result<usize, AllocError>
-    ensures { IfOk result (λ more. AreMore plan.now (option_map (λ c. c.now) certificate.entry) obstacle.now more) }
+    ensures { IfOk result (λ more. AreMore plan.now (option_map (λ c. c.now) certificate.entry) more) }
 {
-    let runs = faults(alloc, plan, certificate)?;
-    Ok(others_of(obstacle, runs.len()))
+    let faults = all_faults(alloc, plan, certificate)?;
+    Ok(faults.len().saturating_sub(1))
 }
 
 /// Explains the first fault of a plan and a certificate.
@@ -209,10 +211,12 @@ fn certificate_told(
     ensures { IfOk result (λ said. (said.status ≡ status.Fault) × IsCertificateTold name.now given.now.text.items given.now.plan certificate.now fault.now (view said.value)) }
 {
     let obstacle = CertifyError::Fault(*fault);
-    let lines = certificate_fault_lines(alloc, &given.plan, certificate, fault)?;
+    let told = certificate_fault_lines(alloc, &given.plan, certificate, fault)?;
     let alone = explained_plan(alloc, name, given)?;
+    let remedy = remedy_of(alone.status);
+    let lines = format!(in alloc; "{told}{remedy}")?;
     let results = obstacle_results(alloc, Form::Json, name, given, &obstacle)?;
-    let more = more_than(alloc, &given.plan, Some(certificate), &obstacle)?;
+    let more = more_than(alloc, &given.plan, Some(certificate))?;
     let edits = empty_list(alloc);
     Ok(said_of(
         alloc,
@@ -223,4 +227,14 @@ fn certificate_told(
         more,
         alone.value,
     )?)
+}
+
+/// What is said where a certificate is at fault, and the run on its plan alone ends so.
+fn remedy_of(alone: Status) -> &'static str
+    ensures { result.now ≡ remedy_of alone }
+{
+    match alone {
+        Status::Yes => REMEDY,
+        Status::Fault | Status::Unreadable | Status::NoMemory => NO_CERTIFICATE,
+    }
 }

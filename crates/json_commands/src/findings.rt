@@ -4,9 +4,9 @@ ghost use Rattle.json.specs.Value.{value_view};
 ghost use Rattle.net_plan.specs.Finding.{step_value};
 ghost use Rattle.net_pointers.specs.Offsets.{IsTextOf};
 ghost use Rattle.serde_json.specs.View.{view};
-ghost use Rattle.json_commands.{specs.Findings.{IsFindingNote, address_pointer, code_of, eids_of, entry_of, finding_pointer, nodes_of, other_pointer, port_pointer, subject_of}, specs.Lists.{IsListTold}, specs.Notes.{AreNodesTold, subject_value}, specs.Places.{IsPlaceListTold}};
+ghost use Rattle.json_commands.{specs.Findings.{IsFindingNote, address_pointer, code_of, eids_of, entry_of, finding_pointer, nodes_of, other_pointer, port_pointer, subject_of}, specs.Notes.{AreNodesTold, subject_value}, specs.Places.{IsPlaceListTold}};
 
-use crate::lists::{Listed, list_of};
+use crate::noted::Noted;
 use crate::notes::{Subject, nodes_value, note_value};
 use crate::obstacles::{bus_pointer, places_of};
 use crate::places::{Placing, place_of};
@@ -19,39 +19,24 @@ use question_texts::lint_lines;
 use serde_json::Value;
 use std::alloc::{AllocError, Global};
 
-/// The notes of findings, in their order.
-pub fn finding_notes<'a, 't, 'i>(
-    alloc: Global,
-    placing: &Placing<'a, 't, 'i>,
-    plan: &'a Plan,
-    findings: &[Finding],
-) -> Result<Value, AllocError>
-    requires { IsTextOf placing.now.index.now (value_view placing.now.tree.now) }
-    ensures { IfOk result (λ value. IsListTold (IsFindingNote placing.now.form placing.now.name.now placing.now.index.now plan.now) findings.now (view value)) }
-{
-    let writer = FindingWriter {
-        placing: *placing,
-        plan,
-    };
-    list_of(alloc, &writer, findings)
-}
-
-/// Writes findings.
+/// Makes the notes of findings.
 #[derive(Clone, Copy)]
-struct FindingWriter<'a, 't, 'i> {
-    placing: Placing<'a, 't, 'i>,
-    plan: &'a Plan,
+pub struct FindingNoter<'a> {
+    pub plan: &'a Plan,
 }
 
-impl<'a, 't, 'i> Listed for FindingWriter<'a, 't, 'i> {
+impl<'a> Noted for FindingNoter<'a> {
     type Item = Finding;
 
-    ghost ready = { λ s. IsTextOf s.placing.index.now (value_view s.placing.tree.now) };
+    ghost noted = { λ s form name text finding d. IsFindingNote form name text s.plan.now finding d };
 
-    ghost told = { λ s finding d. IsFindingNote s.placing.form s.placing.name.now s.placing.index.now s.plan.now finding d };
-
-    fn value_of(&self, alloc: Global, item: &Finding) -> Result<Value, AllocError> {
-        finding_note(alloc, &self.placing, self.plan, item)
+    fn note(
+        &self,
+        alloc: Global,
+        placing: &Placing<'_, '_, '_>,
+        item: &Finding,
+    ) -> Result<Value, AllocError> {
+        finding_note(alloc, placing, self.plan, item)
     }
 }
 

@@ -9,6 +9,7 @@ mod faults;
 mod findings;
 mod linted;
 mod lists;
+mod noted;
 mod notes;
 mod obstacles;
 mod places;

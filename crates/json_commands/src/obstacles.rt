@@ -3,44 +3,110 @@ ghost use Rattle.std.specs.Prelude.{◌≡◌, IfOk, None, Some, map, option_map
 ghost use Rattle.json.specs.Value.{value_view};
 ghost use Rattle.net_plan.specs.Finding.{step_value};
 ghost use Rattle.net_pointers.specs.Offsets.{IsTextOf};
-ghost use Rattle.explanation_texts.specs.Explanations.{around};
+ghost use Rattle.plan_texts.specs.Lines.{as_line};
 ghost use Rattle.serde_json.specs.View.{view};
-ghost use Rattle.json_commands.{specs.Lists.{IsListTold}, specs.Obstacles.{AreRelated, IsCausePlaced, IsHopPlaced, IsObstacleNote, IsRunNote, bus_pointer, cause_pointer, eids_of, entry_of, first_fault, hop_pointer, kind_of, nodes_of, rule_of, run_subject, subject_of}, specs.Notes.{AreNodesTold, subject_value}, specs.Places.{IsPlaceListTold}};
+ghost use Rattle.json_commands.{specs.Obstacles.{AreRelated, IsCausePlaced, IsFaultNote, IsHopPlaced, IsObstacleNote, IsRunNote, bus_pointer, cause_pointer, eids_of, entry_of, first_fault, hop_pointer, kind_of, nodes_of, rule_of, run_subject, subject_of}, specs.Notes.{AreNodesTold, IsNote, subject_value}, specs.Places.{IsPlaceListTold}};
 
-use crate::lists::{Listed, empty_list, list_of, list_of_one};
+use crate::lists::{empty_list, list_of_one};
+use crate::noted::{Noted, notes_at};
 use crate::notes::{Subject, nodes_value, note_value};
 use crate::places::{Placing, place_of};
+use command_questions::Form;
 use explanation_texts::{around, index_for};
 use fault_texts::{
-    obstacle_pointer, part_pointer, record_pointer, row_pointer, run_line, site_pointer,
-    way_pointer,
+    obstacle_pointer, part_pointer, record_pointer, row_pointer, run_pointer, run_words,
+    way_pointer, words_with_more,
 };
 use mctp_transport::Eid;
 use net_explained::{Cause, find_cause};
+use net_faults::PlanFault;
 use net_plan::PointerStep;
 use net_rules::{CertifyError, Fault, FaultRun};
-use plan_texts::obstacle_line;
 use plan_values::Plan;
 use serde_json::Value;
 use std::alloc::{AllocError, Global};
 
+/// Makes the notes of faults of a plan.
+#[derive(Clone, Copy)]
+pub struct FaultNoter<'a> {
+    pub plan: &'a Plan,
+}
+
+impl<'a> Noted for FaultNoter<'a> {
+    type Item = PlanFault;
+
+    ghost noted = { λ s form name text fault d. IsFaultNote form name text s.plan.now fault d };
+
+    fn note(
+        &self,
+        alloc: Global,
+        placing: &Placing<'_, '_, '_>,
+        item: &PlanFault,
+    ) -> Result<Value, AllocError> {
+        match item {
+            PlanFault::Broken(run) => run_note(alloc, placing, self.plan, run),
+            PlanFault::Obstacle(obstacle, more) => {
+                obstacle_note(alloc, placing, self.plan, obstacle, *more)
+            }
+        }
+    }
+}
+
+/// Makes the note of what rules certificates of a plan out.
+#[derive(Clone, Copy)]
+pub struct ObstacleNoter<'a> {
+    pub plan: &'a Plan,
+}
+
+impl<'a> Noted for ObstacleNoter<'a> {
+    type Item = CertifyError;
+
+    ghost noted = { λ s form name text obstacle d. IsObstacleNote form name text s.plan.now obstacle 0 d };
+
+    fn note(
+        &self,
+        alloc: Global,
+        placing: &Placing<'_, '_, '_>,
+        item: &CertifyError,
+    ) -> Result<Value, AllocError> {
+        obstacle_note(alloc, placing, self.plan, item, 0)
+    }
+}
+
 /// The note of what rules certificates of a plan out. Want of memory has none.
-pub fn obstacle_note<'a, 't, 'i>(
+fn obstacle_note(
     alloc: Global,
-    placing: &Placing<'a, 't, 'i>,
-    plan: &'a Plan,
+    placing: &Placing<'_, '_, '_>,
+    plan: &Plan,
     obstacle: &CertifyError,
+    more: usize,
 ) -> Result<Value, AllocError>
     requires { IsTextOf placing.now.index.now (value_view placing.now.tree.now) }
-    ensures { IfOk result (λ value. IsObstacleNote placing.now.form placing.now.name.now placing.now.index.now plan.now obstacle.now (view value)) }
+    ensures { IfOk result (λ value. IsObstacleNote placing.now.form placing.now.name.now placing.now.index.now plan.now obstacle.now more (view value)) }
 {
     let pointer = obstacle_pointer(alloc, plan, obstacle)?;
     let place = place_of(alloc, placing, &pointer)?;
     let related = related_to(alloc, placing, plan, obstacle)?;
-    let words = obstacle_line(alloc, plan, obstacle)?;
+    let words = words_with_more(alloc, plan, obstacle, more)?;
     let nodes = obstacle_nodes(alloc, plan, obstacle)?;
     let subject = subject_of(obstacle);
-    note_value(alloc, placing.form, &subject, nodes, place, related, &words)
+    line_note(alloc, placing.form, &subject, nodes, place, related, &words)
+}
+
+/// A note with these words as its line.
+fn line_note(
+    alloc: Global,
+    form: Form,
+    subject: &Subject,
+    nodes: Value,
+    place: Value,
+    related: Value,
+    words: &str,
+) -> Result<Value, AllocError>
+    ensures { IfOk result (λ value. IsNote form (subject_value subject.now) (view nodes) (view place) (view related) (as_line words.now) (view value)) }
+{
+    let line = format!(in alloc; "{words}\n")?;
+    note_value(alloc, form, subject, nodes, place, related, &line)
 }
 
 /// What an obstacle is about.
@@ -128,10 +194,10 @@ fn nodes_of(alloc: Global, obstacle: &CertifyError) -> Result<Vec<usize>, AllocE
 }
 
 /// Where the others stand that are involved: what the cause of a fault names, the hops of a loop.
-fn related_to<'a, 't, 'i>(
+fn related_to(
     alloc: Global,
-    placing: &Placing<'a, 't, 'i>,
-    plan: &'a Plan,
+    placing: &Placing<'_, '_, '_>,
+    plan: &Plan,
     obstacle: &CertifyError,
 ) -> Result<Value, AllocError>
     requires { IsTextOf placing.now.index.now (value_view placing.now.tree.now) }
@@ -139,9 +205,15 @@ fn related_to<'a, 't, 'i>(
 {
     match obstacle {
         CertifyError::Fault(fault) => cause_places(alloc, placing, plan, fault),
-        CertifyError::OwnerLoop(nodes) => { hop_places(alloc, placing, plan, None, around(nodes)) }
+        CertifyError::OwnerLoop(nodes) => {
+            notes_at(alloc, placing, &HopNoter { plan, eid: None }, around(nodes))
+        }
         CertifyError::Loop(eid, nodes) => {
-            hop_places(alloc, placing, plan, Some(*eid), around(nodes))
+            let noter = HopNoter {
+                plan,
+                eid: Some(*eid),
+            };
+            notes_at(alloc, placing, &noter, around(nodes))
         }
         CertifyError::BadChain(..) => Ok(empty_list(alloc)),
         CertifyError::OutOfMemory => Err(AllocError),
@@ -231,43 +303,26 @@ pub fn bus_pointer(alloc: Global, bus: usize) -> Result<Vec<PointerStep>, AllocE
 
 // ---- loops
 
-/// Where the hops of a loop stand, one for each node: its row for the endpoint ID, or its owner where none is given.
-fn hop_places<'a, 't, 'i>(
-    alloc: Global,
-    placing: &Placing<'a, 't, 'i>,
-    plan: &'a Plan,
-    eid: Option<Eid>,
-    nodes: &[usize],
-) -> Result<Value, AllocError>
-    requires { IsTextOf placing.now.index.now (value_view placing.now.tree.now) }
-    ensures { IfOk result (λ value. IsListTold (IsHopPlaced placing.now.form placing.now.name.now placing.now.index.now plan.now eid) nodes.now (view value)) }
-{
-    let writer = HopWriter {
-        placing: *placing,
-        plan,
-        eid,
-    };
-    list_of(alloc, &writer, nodes)
-}
-
-/// Writes where nodes send what is for an endpoint ID, or where their owners stand.
+/// Tells where nodes send what is for an endpoint ID, or where their owners stand.
 #[derive(Clone, Copy)]
-struct HopWriter<'a, 't, 'i> {
-    placing: Placing<'a, 't, 'i>,
+struct HopNoter<'a> {
     plan: &'a Plan,
     eid: Option<Eid>,
 }
 
-impl<'a, 't, 'i> Listed for HopWriter<'a, 't, 'i> {
+impl<'a> Noted for HopNoter<'a> {
     type Item = usize;
 
-    ghost ready = { λ s. IsTextOf s.placing.index.now (value_view s.placing.tree.now) };
+    ghost noted = { λ s form name text n d. IsHopPlaced form name text s.plan.now s.eid n d };
 
-    ghost told = { λ s n d. IsHopPlaced s.placing.form s.placing.name.now s.placing.index.now s.plan.now s.eid n d };
-
-    fn value_of(&self, alloc: Global, item: &usize) -> Result<Value, AllocError> {
+    fn note(
+        &self,
+        alloc: Global,
+        placing: &Placing<'_, '_, '_>,
+        item: &usize,
+    ) -> Result<Value, AllocError> {
         let pointer = hop_pointer(alloc, self.plan, self.eid, *item)?;
-        place_of(alloc, &self.placing, &pointer)
+        place_of(alloc, placing, &pointer)
     }
 }
 
@@ -289,42 +344,6 @@ pub fn hop_pointer(
 
 // ---- runs of faults
 
-/// The notes of runs of faults, in their order.
-pub fn run_notes<'a, 't, 'i>(
-    alloc: Global,
-    placing: &Placing<'a, 't, 'i>,
-    plan: &'a Plan,
-    runs: &[FaultRun],
-) -> Result<Value, AllocError>
-    requires { IsTextOf placing.now.index.now (value_view placing.now.tree.now) }
-    ensures { IfOk result (λ value. IsListTold (IsRunNote placing.now.form placing.now.name.now placing.now.index.now plan.now) runs.now (view value)) }
-{
-    let writer = RunWriter {
-        placing: *placing,
-        plan,
-    };
-    list_of(alloc, &writer, runs)
-}
-
-/// Writes runs of faults.
-#[derive(Clone, Copy)]
-struct RunWriter<'a, 't, 'i> {
-    placing: Placing<'a, 't, 'i>,
-    plan: &'a Plan,
-}
-
-impl<'a, 't, 'i> Listed for RunWriter<'a, 't, 'i> {
-    type Item = FaultRun;
-
-    ghost ready = { λ s. IsTextOf s.placing.index.now (value_view s.placing.tree.now) };
-
-    ghost told = { λ s run d. IsRunNote s.placing.form s.placing.name.now s.placing.index.now s.plan.now run d };
-
-    fn value_of(&self, alloc: Global, item: &FaultRun) -> Result<Value, AllocError> {
-        run_note(alloc, &self.placing, self.plan, item)
-    }
-}
-
 /// The note of a run of faults: the other that is involved is that of its first fault.
 fn run_note(
     alloc: Global,
@@ -335,13 +354,13 @@ fn run_note(
     requires { IsTextOf placing.now.index.now (value_view placing.now.tree.now) }
     ensures { IfOk result (λ value. IsRunNote placing.now.form placing.now.name.now placing.now.index.now plan.now run.now (view value)) }
 {
-    let pointer = site_pointer(alloc, run.rule, run.node, run.entry)?;
+    let pointer = run_pointer(alloc, run)?;
     let place = place_of(alloc, placing, &pointer)?;
     let related = cause_places(alloc, placing, plan, &first_fault(run))?;
-    let words = run_line(alloc, plan, run, "")?;
+    let words = run_words(alloc, plan, run)?;
     let nodes = nodes_value(alloc, plan, &[run.node])?;
     let subject = run_subject(run);
-    note_value(alloc, placing.form, &subject, nodes, place, related, &words)
+    line_note(alloc, placing.form, &subject, nodes, place, related, &words)
 }
 
 /// What a run of faults is about.

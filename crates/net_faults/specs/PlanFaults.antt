@@ -1,5 +1,5 @@
 -- All that rules certificates of a plan out, in the order of the rules.
-use Rattle.std.specs.Prelude.{◌≡◌, ◌↔◌, ◌⊎◌, ℕ, ◌+◌, ◌<◌, List, [], ◌∷◌, ◌++◌, length, map, filter, slice_get, Some, None, Bool, nat_eq, unwrap_or}
+use Rattle.std.specs.Prelude.{◌≡◌, ◌↔◌, ◌⊎◌, ℕ, ◌+◌, ◌<◌, List, [], ◌∷◌, ◌++◌, length, map, filter, slice_get, Option, Some, None, Bool, nat_eq, unwrap_or}
 use Rattle.plan_values.{specs.declared.plan.Plan.{Plan}, specs.declared.certificate.Certificate.{Certificate}}
 use Rattle.net_tables.{specs.Ownership.{IsOwnedBy}, specs.Repositories.{records_of}}
 use Rattle.net_rules.{specs.declared.rule.Rule.{Rule}, specs.declared.rule.Rule.TheVariants.{C01, C02, C03, C04, C05, C06, C07, C08, C09, C10, C11, C12, C13, C14, C15, C16}, specs.declared.fault_run.FaultRun.{FaultRun}, specs.declared.certifying.chains.ChainFault.{ChainFault}, specs.Circles.{IsOnCircle}, specs.FaultLists.{AreFaults}, specs.Faults.{LessByFirstDifference}, specs.RecordChains.{IsBadChain}, specs.Rules.{Accepts}}
@@ -125,6 +125,12 @@ pub record ArePlanFaults (plan : Plan) (found : List PlanFault) : Type 0 where
 -- some certificate of the plan is accepted
 abbrev pub HasCertificate : Plan → Type 0
 HasCertificate plan = (cert : Certificate) × Accepts plan cert
+
+-- All that is wrong: with the plan alone, or with it and the certificate. With a certificate these are broken places.
+abbrev pub AreAllFaults : Plan → Option Certificate → List PlanFault → Type 0
+AreAllFaults plan None found = ArePlanFaults plan found
+AreAllFaults plan (Some cert) found =
+    (runs : List FaultRun) × AreFaults plan (Some cert) runs × (found ≡ map Broken runs)
 
 -- ---- lists that are being made
 

@@ -11,5 +11,5 @@ mod owner_loops;
 mod plan_fault;
 mod routing_loops;
 
-pub use listing::{broken_places, plan_faults};
+pub use listing::{all_faults, plan_faults};
 pub use plan_fault::PlanFault;

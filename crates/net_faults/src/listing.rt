@@ -1,13 +1,13 @@
 //! All that rules certificates of a plan out, in the order of the rules.
-ghost use Rattle.std.specs.Prelude.{◌≡◌, ◌↔◌, ◌++◌, ◌∷◌, [], IfOk, OnOk, map};
-ghost use Rattle.net_faults.{specs.declared.plan_fault.PlanFault.TheVariants.{Broken}, specs.PlanFaults.{ArePlanFaults, HasCertificate, broken_in, turn_of}};
+ghost use Rattle.std.specs.Prelude.{◌≡◌, ◌↔◌, ◌++◌, ◌∷◌, [], IfOk, OnOk, map, option_map};
+ghost use Rattle.net_faults.{specs.declared.plan_fault.PlanFault.TheVariants.{Broken}, specs.PlanFaults.{AreAllFaults, ArePlanFaults, HasCertificate, broken_in, turn_of}};
 
 use crate::chain_faults::bad_chains;
 use crate::owner_loops::owner_loops;
 use crate::plan_fault::PlanFault;
 use crate::routing_loops::routing_loops;
 use net_rules::{CertifyError, FaultRun, Rule, certify, faults};
-use plan_values::Plan;
+use plan_values::{Certificate, Plan};
 use std::alloc::{AllocError, Global};
 
 /// All that rules certificates of the plan out: the places where it breaks a rule, as `faults` lists them, each loop of
@@ -23,8 +23,23 @@ pub fn plan_faults(alloc: Global, plan: &Plan) -> Result<Vec<PlanFault>, AllocEr
     Ok(found)
 }
 
+/// All that is wrong: with a plan alone as `plan_faults` lists it; with a plan and a certificate the places where they
+/// break a rule, as `faults` lists them.
+pub fn all_faults(
+    alloc: Global,
+    plan: &Plan,
+    certificate: Option<&Certificate>,
+) -> Result<Vec<PlanFault>, AllocError>
+    ensures { IfOk result (λ found. AreAllFaults plan.now (option_map (λ c. c.now) certificate.entry) found.items) }
+{
+    match certificate {
+        None => plan_faults(alloc, plan),
+        Some(certificate) => broken_places(alloc, &faults(alloc, plan, Some(certificate))?),
+    }
+}
+
 /// Broken places as faults of this kind.
-pub fn broken_places(alloc: Global, runs: &[FaultRun]) -> Result<Vec<PlanFault>, AllocError>
+fn broken_places(alloc: Global, runs: &[FaultRun]) -> Result<Vec<PlanFault>, AllocError>
     ensures { IfOk result (λ found. found.items ≡ map Broken runs.now) }
 {
     let mut found = Vec::new(alloc);

@@ -1,41 +1,26 @@
 //! The command `faults`: every fault of a plan, or of a plan and its certificate.
-ghost use Rattle.std.{specs.Prelude.{◌≡◌, [], IfOk, IfErr, None, string_bytes}, specs.Cow.{cow_str_bytes}};
+ghost use Rattle.std.{specs.Prelude.{◌≡◌, IfOk, IfErr}, specs.Cow.{cow_str_bytes}};
 ghost use Rattle.net_check.specs.Errors.{NamesFirstFault};
-ghost use Rattle.net_rules.specs.FaultLists.{AreFaults};
 ghost use Rattle.command_answers.specs.declared.status.Status.TheVariants.{Fault};
 ghost use Rattle.plan_commands.specs.FaultListing.{IsFaultListOf, IsListed};
 
 use command_answers::{Answer, PlanText, Refused};
-use fault_texts::{fault_lines, obstacle_list};
-use net_check::{CheckError, certify, faults};
+use fault_texts::fault_lines;
+use net_check::CheckError;
+use net_faults::{all_faults, plan_faults};
 use plan_values::Certificate;
 use std::alloc::{AllocError, Global};
 
-/// Every fault of a plan, or what else rules certificates of it out. The name is that of the plan's file.
+/// All that rules certificates of a plan out, or that nothing does. The name is that of the plan's file.
 pub fn faults_of_plan(alloc: Global, name: &str, given: &PlanText) -> Result<Answer, AllocError>
     ensures { IfOk result (λ answer. IsListed name.now given.now.text.items given.now.plan answer.status (cow_str_bytes answer.text)) }
 {
-    let runs = faults(alloc, &given.plan, None)?;
-    if runs.is_empty() {
-        return obstacle_of_plan(alloc, name, given);
+    let faults = plan_faults(alloc, &given.plan)?;
+    if faults.is_empty() {
+        return Ok(Answer::yes());
     }
-    let lines = fault_lines(alloc, name, given.text.as_slice(), &given.plan, &runs)?;
+    let lines = fault_lines(alloc, name, given.text.as_slice(), &given.plan, &faults)?;
     Ok(Answer::fault(lines))
-}
-
-/// What rules certificates of a plan out that has no fault itself, or that nothing does.
-fn obstacle_of_plan(alloc: Global, name: &str, given: &PlanText) -> Result<Answer, AllocError>
-    requires { AreFaults given.now.plan None [] }
-    ensures { IfOk result (λ answer. IsListed name.now given.now.text.items given.now.plan answer.status (cow_str_bytes answer.text)) }
-{
-    match certify(alloc, &given.plan) {
-        Ok(_certificate) => Ok(Answer::yes()),
-        Err(obstacle) => {
-            let text = given.text.as_slice();
-            let lines = obstacle_list(alloc, name, text, &given.plan, &obstacle)?;
-            Ok(Answer::fault(lines))
-        }
-    }
 }
 
 /// Every fault of a plan and a certificate that are not accepted.
@@ -52,8 +37,8 @@ pub fn faults_of_both(
 {
     match error {
         CheckError::Fault(_) => {
-            let runs = faults(alloc, &given.plan, Some(certificate))?;
-            let lines = fault_lines(alloc, name, given.text.as_slice(), &given.plan, &runs)?;
+            let faults = all_faults(alloc, &given.plan, Some(certificate))?;
+            let lines = fault_lines(alloc, name, given.text.as_slice(), &given.plan, &faults)?;
             Ok(Answer::fault(lines))
         }
         CheckError::OutOfMemory => Err(Refused::NoMemory),

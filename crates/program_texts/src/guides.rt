@@ -566,17 +566,20 @@ Status 2: here also why a text can't be read.
 
 const OF_FAULTS: &str = r#"mctpplan faults PLAN [CERT] [--json|--sarif]
 
-Prints each place where the plan breaks a rule, with CERT where the plan or the certificate does, a
-line each, and how many lines there are, or yes. Each line ends with the file, the line and the
-column of the value at fault in the plan's text. Faults at neighboring endpoint IDs of a row, a
-record or a node are one line. A loop of owners or of packets, and a broken chain of records, are no
-such place of a plan. Where a plan has no fault itself and still no certificate, the line that
-certify prints of it is the only one.
+Prints all that rules certificates of the plan out, a line each, and how many lines there are, or
+yes: each place where it breaks a rule, each loop of owners and of packets once, and each node whose
+records make no chain. Of a loop or a chain the line is that of certify; of a loop of packets it has
+the least endpoint ID that goes round, and how many more do. With CERT it prints each place where
+the plan or the certificate breaks a rule: what then goes wrong with a loop or a chain are such
+places.
+
+Each line ends with the file, the line and the column of the value at fault in the plan's text.
+Faults at neighboring endpoint IDs of a row, a record or a node are one line.
 
 With --json the faults are one JSON value, and with --sarif a log of SARIF 2.1.0, by which a code
 review shows each fault at its line.
 
-Status 0: yes.
+Status 0: yes. A plan alone has a certificate then, and with status 1 it has none.
 Status 1: the faults.
 
   $ mctpplan faults examples/riser/plan.json

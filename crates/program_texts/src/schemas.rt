@@ -1004,7 +1004,7 @@ const ANSWER: &str = r##"{
             "maxItems": 3
           },
           "more": {
-            "description": "How many more runs of faults there are; faults lists them.",
+            "description": "How many more faults there are; faults lists them.",
             "type": "integer",
             "minimum": 0
           },

@@ -153,7 +153,7 @@ fn fault_text(
     let cause = find_cause(&given.plan, fault);
     let told = lines_of(alloc, name, given, certificate, fault, cause)?;
     let words = format!(in alloc; "{name} {certified_by}")?;
-    let more = more_faults(alloc, &words, &given.plan, Some(certificate), &obstacle)?;
+    let more = more_faults(alloc, &words, &given.plan, Some(certificate))?;
     format!(in alloc; "{line}{place}{told}{more}")
 }
 
