@@ -1,5 +1,5 @@
 -- What is found stands where it is looked for, and nothing else stands there.
-use Rattle.std.{proofs.Common.{zero-add, ◌≡◌, ℕ, zero, ◌<◌, List, [], ◌∷◌, ◌++◌, get_or, Some, refl, sym, ◌∙◌, ap, subst, arith, inl, inr, ◌⊎◌, ◌≤◌}, proofs.Props.{props}, specs.Prelude.{slice_get}, proofs.lemmas.Bool.{cases_lt}, proofs.lemmas.List.{get_or-map}, proofs.lemmas.List.FromFn.{get_or-range_with_len}, proofs.lemmas.Option.{same_Some, slice_get_within}}
+use Rattle.std.{proofs.Common.{zero-add, ◌≡◌, ℕ, ◌<◌, List, [], ◌∷◌, ◌++◌, get_or, Some, refl, sym, ◌∙◌, ap, subst, arith, inl, inr, ◌⊎◌, ◌≤◌}, proofs.Props.{props}, specs.Prelude.{slice_get}, proofs.lemmas.Bool.{cases_lt}, proofs.lemmas.List.{get_or-map}, proofs.lemmas.List.FromFn.{get_or-range_with_len}, proofs.lemmas.Option.{same_Some, slice_get_within}}
 use Rattle.mctp_transport.specs.declared.address.Eid.{Eid}
 use Rattle.plan_values.specs.declared.plan.Plan.{Plan}
 use Rattle.net_tables.{specs.Routing.{ports_of, rows_of}, specs.Repositories.{records_of}, proofs.Elements.{holder_within}}
