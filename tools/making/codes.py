@@ -9,7 +9,7 @@ TARGET = "crates/program_texts/src/codes.rt"
 COMPLETIONS = ["completions/mctpplan.bash", "completions/_mctpplan"]
 OFFERED = re.compile(r"(?m)^(# tools/made writes these codes\n_mctpplan_codes=')[^']*'")
 WIDTH = 100
-CODE = r"[A-Z][01]\d"
+CODE = r"[A-Z][0-2]\d"
 BULLET = re.compile(rf"- (?:\*\*)?({CODE})(?:\*\*)?( \([^)]*\))?: (.*)|- `fault (?:old |new )?({CODE})\b[^:]*: (.*)", re.S)
 
 

@@ -4,7 +4,7 @@ use Rattle.mctp_transport.specs.declared.address.Eid.{Eid}
 use Rattle.serde_json.specs.Data.{Data}
 use Rattle.net_plan.specs.Finding.{Step, key, index}
 use Rattle.plan_values.specs.declared.plan.Plan.{Plan}
-use Rattle.net_questions.{specs.declared.finding.Finding.{Finding}, specs.declared.finding.Finding.TheVariants.{SharedAddress, MissingAddress, SharedTid, MissingLocator, SharedSensorId, OwnerHasNoWay, NoWayToOwner, IdleRow, PoolEidNotLedOn, LonePort, EmptyReadableRange, Isolated, ForeignMedia, ReservedBinding, ReservedAddress, EmptyBus, CrossedThresholds, UnknownTerminusHandle, UncontainedEntity}, specs.Findings.{AreFindings}}
+use Rattle.net_questions.{specs.declared.finding.Finding.{Finding}, specs.declared.finding.Finding.TheVariants.{SharedAddress, MissingAddress, SharedTid, MissingLocator, SharedSensorId, OwnerHasNoWay, NoWayToOwner, IdleRow, PoolEidNotLedOn, LonePort, EmptyReadableRange, Isolated, ForeignMedia, ReservedBinding, ReservedAddress, EmptyBus, CrossedThresholds, UnknownTerminusHandle, UncontainedEntity, OddAddress, ForeignLength, UncarriedUnit, SharedSevenBits}, specs.Findings.{AreFindings}}
 use Rattle.command_answers.specs.declared.status.Status.{Status}
 use Rattle.fault_texts.specs.Places.{part_pointer, record_pointer, row_pointer}
 use Rattle.question_texts.specs.FindingLines.{findings_text}
@@ -32,6 +32,10 @@ code_of (EmptyBus b) = codes "H16"
 code_of (CrossedThresholds n j) = codes "H17"
 code_of (UnknownTerminusHandle n j) = codes "H18"
 code_of (UncontainedEntity n j) = codes "H19"
+code_of (OddAddress n p) = codes "H20"
+code_of (ForeignLength n p) = codes "H21"
+code_of (UncarriedUnit b) = codes "H22"
+code_of (SharedSevenBits n p m q) = codes "H23"
 
 abbrev pub nodes_of : Finding → List ℕ
 nodes_of (SharedAddress n p m q) = n ∷ m ∷ []
@@ -53,6 +57,10 @@ nodes_of (EmptyBus b) = []
 nodes_of (CrossedThresholds n j) = n ∷ []
 nodes_of (UnknownTerminusHandle n j) = n ∷ []
 nodes_of (UncontainedEntity n j) = n ∷ []
+nodes_of (OddAddress n p) = n ∷ []
+nodes_of (ForeignLength n p) = n ∷ []
+nodes_of (UncarriedUnit b) = []
+nodes_of (SharedSevenBits n p m q) = n ∷ m ∷ []
 
 -- the row or the record
 abbrev pub entry_of : Finding → Option ℕ
@@ -96,10 +104,15 @@ finding_pointer (EmptyBus b) = bus_pointer b
 finding_pointer (CrossedThresholds n j) = record_pointer n j
 finding_pointer (UnknownTerminusHandle n j) = record_pointer n j
 finding_pointer (UncontainedEntity n j) = record_pointer n j
+finding_pointer (OddAddress n p) = address_pointer n p
+finding_pointer (ForeignLength n p) = address_pointer n p
+finding_pointer (UncarriedUnit b) = bus_pointer b
+finding_pointer (SharedSevenBits n p m q) = address_pointer n p
 
 -- the other that it is about, if there is one
 abbrev pub other_pointer : Finding → Option (List Step)
 other_pointer (SharedAddress n p m q) = Some (address_pointer m q)
+other_pointer (SharedSevenBits n p m q) = Some (address_pointer m q)
 other_pointer (SharedTid n m) = Some (part_pointer m (codes "terminus"))
 other_pointer (OwnerHasNoWay n m) = Some (part_pointer m (codes "rows"))
 other_pointer (NoWayToOwner n m) = Some (part_pointer m (codes "eid"))

@@ -96,6 +96,10 @@ fn code_of(finding: &Finding) -> &'static str
         Finding::CrossedThresholds { .. } => "H17",
         Finding::UnknownTerminusHandle { .. } => "H18",
         Finding::UncontainedEntity { .. } => "H19",
+        Finding::OddAddress { .. } => "H20",
+        Finding::ForeignLength { .. } => "H21",
+        Finding::UncarriedUnit { .. } => "H22",
+        Finding::SharedSevenBits { .. } => "H23",
     }
 }
 
@@ -112,9 +116,9 @@ fn nodes_of(alloc: Global, finding: &Finding) -> Result<Vec<usize>, AllocError>
     ensures { IfOk result (λ nodes. nodes.items ≡ nodes_of finding.now) }
 {
     match *finding {
-        Finding::SharedAddress { node, other, .. } | Finding::SharedTid { node, other } => {
-            [node, other].to_vec(alloc)
-        }
+        Finding::SharedAddress { node, other, .. }
+        | Finding::SharedSevenBits { node, other, .. }
+        | Finding::SharedTid { node, other } => [node, other].to_vec(alloc),
         Finding::OwnerHasNoWay { node, owner } | Finding::NoWayToOwner { node, owner } => {
             [node, owner].to_vec(alloc)
         }
@@ -127,11 +131,15 @@ fn nodes_of(alloc: Global, finding: &Finding) -> Result<Vec<usize>, AllocError>
         | Finding::EmptyReadableRange { node, .. }
         | Finding::Isolated { node }
         | Finding::ReservedAddress { node, .. }
+        | Finding::OddAddress { node, .. }
+        | Finding::ForeignLength { node, .. }
         | Finding::CrossedThresholds { node, .. }
         | Finding::UnknownTerminusHandle { node, .. }
         | Finding::UncontainedEntity { node, .. } => [node].to_vec(alloc),
-        Finding::ForeignMedia { .. } | Finding::ReservedBinding { .. } | Finding::EmptyBus { .. } =>
-            Ok(Vec::new(alloc)),
+        Finding::ForeignMedia { .. }
+        | Finding::ReservedBinding { .. }
+        | Finding::EmptyBus { .. }
+        | Finding::UncarriedUnit { .. } => Ok(Vec::new(alloc)),
     }
 }
 
@@ -158,7 +166,11 @@ fn entry_of(finding: &Finding) -> Option<usize>
         | Finding::ForeignMedia { .. }
         | Finding::ReservedBinding { .. }
         | Finding::ReservedAddress { .. }
-        | Finding::EmptyBus { .. } => None,
+        | Finding::EmptyBus { .. }
+        | Finding::OddAddress { .. }
+        | Finding::ForeignLength { .. }
+        | Finding::UncarriedUnit { .. }
+        | Finding::SharedSevenBits { .. } => None,
     }
 }
 
@@ -179,7 +191,10 @@ fn finding_pointer(alloc: Global, finding: &Finding) -> Result<Vec<PointerStep>,
     match *finding {
         Finding::SharedAddress { node, port, .. }
         | Finding::MissingAddress { node, port }
-        | Finding::ReservedAddress { node, port } => address_pointer(alloc, node, port),
+        | Finding::ReservedAddress { node, port }
+        | Finding::OddAddress { node, port }
+        | Finding::ForeignLength { node, port }
+        | Finding::SharedSevenBits { node, port, .. } => address_pointer(alloc, node, port),
         Finding::SharedTid { node, .. } | Finding::MissingLocator { node } => {
             part_pointer(alloc, node, "terminus")
         }
@@ -197,7 +212,8 @@ fn finding_pointer(alloc: Global, finding: &Finding) -> Result<Vec<PointerStep>,
         Finding::LonePort { node, port } => port_pointer(alloc, node, port),
         Finding::ForeignMedia { bus }
         | Finding::ReservedBinding { bus }
-        | Finding::EmptyBus { bus } => bus_pointer(alloc, bus),
+        | Finding::EmptyBus { bus }
+        | Finding::UncarriedUnit { bus } => bus_pointer(alloc, bus),
     }
 }
 
@@ -207,6 +223,11 @@ fn other_pointer(alloc: Global, finding: &Finding) -> Result<Option<Vec<PointerS
 {
     let pointer = match *finding {
         Finding::SharedAddress {
+            other,
+            other_port,
+            ..
+        }
+        | Finding::SharedSevenBits {
             other,
             other_port,
             ..

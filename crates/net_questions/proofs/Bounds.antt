@@ -1,16 +1,16 @@
 -- What is found stands where it is looked for, and nothing else stands there.
-use Rattle.std.{proofs.Common.{zero-add, ◌≡◌, ℕ, zero, ◌<◌, List, [], ◌∷◌, ◌++◌, get_or, Some, refl, sym, ◌∙◌, ap, subst, arith, inl, inr, ◌⊎◌, ◌≤◌}, proofs.Props.{props}, specs.Prelude.{slice_get}, proofs.lemmas.Bool.{cases_lt}, proofs.lemmas.List.{get_or-map}, proofs.lemmas.List.FromFn.{get_or-range_with_len}, proofs.lemmas.Option.{same_Some, slice_get_within}}
+use Rattle.std.{proofs.Common.{zero-add, ◌≡◌, ℕ, ◌<◌, List, [], ◌∷◌, ◌++◌, get_or, Some, refl, sym, ◌∙◌, ap, subst, arith, inl, inr, ◌⊎◌, ◌≤◌}, proofs.Props.{props}, specs.Prelude.{slice_get}, proofs.lemmas.Bool.{cases_lt}, proofs.lemmas.List.{get_or-map}, proofs.lemmas.List.FromFn.{get_or-range_with_len}, proofs.lemmas.Option.{same_Some, slice_get_within}}
 use Rattle.mctp_transport.specs.declared.address.Eid.{Eid}
 use Rattle.plan_values.specs.declared.plan.Plan.{Plan}
 use Rattle.net_tables.{specs.Routing.{ports_of, rows_of}, specs.Repositories.{records_of}, proofs.Elements.{holder_within}}
-use Rattle.net_questions.{specs.declared.code.Code.{Code}, specs.declared.finding.Finding.{Finding}, specs.declared.finding.Finding.TheVariants.{SharedAddress, MissingAddress, SharedTid, MissingLocator, SharedSensorId, OwnerHasNoWay, NoWayToOwner, IdleRow, PoolEidNotLedOn, LonePort, EmptyReadableRange, Isolated, ForeignMedia, ReservedBinding, ReservedAddress, EmptyBus, CrossedThresholds, UnknownTerminusHandle, UncontainedEntity}, specs.Findings.{IsSo, order_of, subject_of, key_of, sites_of, items_of, others_of, other_items_of, BeginsWith, Adds, IsUnder, AreFindings}, proofs.Within.{port_within, row_within, record_within, terminus_within, bridge_within, owned_within}, proofs.TopmostOwners.{topmost_within}, proofs.Ascending.{NextBelow, Below, start, one, nothing, all_pairs}}
+use Rattle.net_questions.{specs.declared.code.Code.{Code}, specs.declared.finding.Finding.{Finding}, specs.declared.finding.Finding.TheVariants.{SharedAddress, MissingAddress, SharedTid, MissingLocator, SharedSensorId, OwnerHasNoWay, NoWayToOwner, IdleRow, PoolEidNotLedOn, LonePort, EmptyReadableRange, Isolated, ForeignMedia, ReservedBinding, ReservedAddress, EmptyBus, CrossedThresholds, UnknownTerminusHandle, UncontainedEntity, OddAddress, ForeignLength, UncarriedUnit, SharedSevenBits}, specs.Findings.{IsSo, order_of, subject_of, key_of, sites_of, items_of, others_of, other_items_of, BeginsWith, Adds, IsUnder, AreFindings}, proofs.Within.{port_within, row_within, record_within, terminus_within, bridge_within, owned_within}, proofs.TopmostOwners.{topmost_within}, proofs.Ascending.{NextBelow, Below, start, one, nothing, all_pairs}}
 use Rattle.net_questions.specs.declared.code.Code.TheVariants as code
 
 -- ---- the codes in their order
 
 abbrev in_order : List Code
 in_order = code.SharedAddress ∷ code.MissingAddress ∷ code.SharedTid ∷ code.MissingLocator ∷ code.SharedSensorId ∷ code.OwnerHasNoWay ∷ code.NoWayToOwner ∷ code.IdleRow ∷ code.PoolEidNotLedOn ∷ code.LonePort ∷ code.EmptyReadableRange ∷ code.Isolated
-    ∷ code.ForeignMedia ∷ code.ReservedBinding ∷ code.ReservedAddress ∷ code.EmptyBus ∷ code.CrossedThresholds ∷ code.UnknownTerminusHandle ∷ code.UncontainedEntity ∷ []
+    ∷ code.ForeignMedia ∷ code.ReservedBinding ∷ code.ReservedAddress ∷ code.EmptyBus ∷ code.CrossedThresholds ∷ code.UnknownTerminusHandle ∷ code.UncontainedEntity ∷ code.OddAddress ∷ code.ForeignLength ∷ code.UncarriedUnit ∷ code.SharedSevenBits ∷ []
 
 stands_in_order : (c : Code) → slice_get in_order (order_of c) ≡ Some c
 stands_in_order code.SharedAddress = refl
@@ -32,14 +32,18 @@ stands_in_order code.EmptyBus = refl
 stands_in_order code.CrossedThresholds = refl
 stands_in_order code.UnknownTerminusHandle = refl
 stands_in_order code.UncontainedEntity = refl
+stands_in_order code.OddAddress = refl
+stands_in_order code.ForeignLength = refl
+stands_in_order code.UncarriedUnit = refl
+stands_in_order code.SharedSevenBits = refl
 
 pub one_order : (a b : Code) → order_of a ≡ order_of b → a ≡ b
 one_order a b same = same_Some a b (sym (stands_in_order a) ∙ (ap (λ k. slice_get in_order k) same ∙ stands_in_order b))
 
-pub order_at : (k : ℕ) (d : Code) → k < 19 → order_of (get_or in_order k d) ≡ k
-order_at k d less = sym (get_or-map order_of in_order k d 0 less) ∙ get_or-range_with_len 0 19 k 0 less ∙ zero-add k
+pub order_at : (k : ℕ) (d : Code) → k < 23 → order_of (get_or in_order k d) ≡ k
+order_at k d less = sym (get_or-map order_of in_order k d 0 less) ∙ get_or-range_with_len 0 23 k 0 less ∙ zero-add k
 
-order_within : (c : Code) → order_of c < 19
+order_within : (c : Code) → order_of c < 23
 order_within c = slice_get_within in_order (order_of c) c (stands_in_order c)
 
 -- ---- where findings stand
@@ -64,6 +68,10 @@ site_within plan (EmptyBus b) (bus, is, rest) = slice_get_within plan.buses.item
 site_within plan (CrossedThresholds n j) (r, is, rest) = record_within plan n j r is
 site_within plan (UnknownTerminusHandle n j) (r, is, rest) = record_within plan n j r is
 site_within plan (UncontainedEntity n j) (r, is, rest) = record_within plan n j r is
+site_within plan (OddAddress n p) (a, is, rest) = port_within plan n p a is
+site_within plan (ForeignLength n p) (a, is, rest) = port_within plan n p a is
+site_within plan (UncarriedUnit b) (bus, is, rest) = slice_get_within plan.buses.items b bus is
+site_within plan (SharedSevenBits n p m q) (early, (a, is, rest)) = port_within plan n p a is
 
 item_within : (plan : Plan) (f : Finding) → IsSo plan f → (subject_of f).item < items_of plan (subject_of f).code (subject_of f).site
 item_within plan (SharedAddress n p m q) (early, (a, is, rest)) = slice_get_within (ports_of plan n) p a is
@@ -85,6 +93,10 @@ item_within plan (EmptyBus b) so = omega arith
 item_within plan (CrossedThresholds n j) (r, is, rest) = slice_get_within (records_of plan n) j r is
 item_within plan (UnknownTerminusHandle n j) (r, is, rest) = slice_get_within (records_of plan n) j r is
 item_within plan (UncontainedEntity n j) (r, is, rest) = slice_get_within (records_of plan n) j r is
+item_within plan (OddAddress n p) (a, is, rest) = slice_get_within (ports_of plan n) p a is
+item_within plan (ForeignLength n p) (a, is, rest) = slice_get_within (ports_of plan n) p a is
+item_within plan (UncarriedUnit b) so = omega arith
+item_within plan (SharedSevenBits n p m q) (early, (a, is, rest)) = slice_get_within (ports_of plan n) p a is
 
 other_within : (plan : Plan) (f : Finding) → IsSo plan f → (subject_of f).other < others_of plan (subject_of f).code
 other_within plan (SharedAddress n p m q) (early, (a, is, (b, at, rest))) = port_within plan m q b at
@@ -106,6 +118,10 @@ other_within plan (EmptyBus b) so = omega arith
 other_within plan (CrossedThresholds n j) so = omega arith
 other_within plan (UnknownTerminusHandle n j) so = omega arith
 other_within plan (UncontainedEntity n j) so = omega arith
+other_within plan (OddAddress n p) so = omega arith
+other_within plan (ForeignLength n p) so = omega arith
+other_within plan (UncarriedUnit b) so = omega arith
+other_within plan (SharedSevenBits n p m q) (early, (a, is, (b, at, rest))) = port_within plan m q b at
 
 other_item_within : (plan : Plan) (f : Finding) → IsSo plan f → (subject_of f).other_item < other_items_of plan (subject_of f).code (subject_of f).other
 other_item_within plan (SharedAddress n p m q) (early, (a, is, (b, at, rest))) = slice_get_within (ports_of plan m) q b at
@@ -127,11 +143,15 @@ other_item_within plan (EmptyBus b) so = omega arith
 other_item_within plan (CrossedThresholds n j) so = omega arith
 other_item_within plan (UnknownTerminusHandle n j) so = omega arith
 other_item_within plan (UncontainedEntity n j) so = omega arith
+other_item_within plan (OddAddress n p) so = omega arith
+other_item_within plan (ForeignLength n p) so = omega arith
+other_item_within plan (UncarriedUnit b) so = omega arith
+other_item_within plan (SharedSevenBits n p m q) (early, (a, is, (b, at, rest))) = slice_get_within (ports_of plan m) q b at
 
 -- ---- the ends of the loops
 
 module _ (plan : Plan) (f : Finding) (so : IsSo plan f) where
-  pub end_of_codes : NextBelow [] 19 (key_of f)
+  pub end_of_codes : NextBelow [] 23 (key_of f)
   end_of_codes = order_within (subject_of f).code
 
   pub end_of_sites : (c : Code) → BeginsWith (order_of c ∷ []) (key_of f) → NextBelow (order_of c ∷ []) (sites_of plan c) (key_of f)
@@ -222,6 +242,10 @@ made code.EmptyBus n i m j = EmptyBus n
 made code.CrossedThresholds n i m j = CrossedThresholds n i
 made code.UnknownTerminusHandle n i m j = UnknownTerminusHandle n i
 made code.UncontainedEntity n i m j = UncontainedEntity n i
+made code.OddAddress n i m j = OddAddress n i
+made code.ForeignLength n i m j = ForeignLength n i
+made code.UncarriedUnit n i m j = UncarriedUnit n
+made code.SharedSevenBits n i m j = SharedSevenBits n i m j
 
 made_again : (f : Finding) → made (subject_of f).code (subject_of f).site (subject_of f).item (subject_of f).other (subject_of f).other_item ≡ f
 unfolding made
@@ -244,6 +268,10 @@ made_again (EmptyBus b) = refl
 made_again (CrossedThresholds n j) = refl
 made_again (UnknownTerminusHandle n j) = refl
 made_again (UncontainedEntity n j) = refl
+made_again (OddAddress n p) = refl
+made_again (ForeignLength n p) = refl
+made_again (UncarriedUnit b) = refl
+made_again (SharedSevenBits n p m q) = refl
 
 one_made : (c d : Code) (n k i j m l p q : ℕ) → c ≡ d → n ≡ k → i ≡ j → m ≡ l → p ≡ q → made c n i m p ≡ made d k j l q
 one_made c d n k i j m l p q a b e f g = cc
@@ -267,7 +295,7 @@ none_added plan f old not = nothing (IsUnder plan (key_of f)) old (λ g at. not 
 
 -- ---- the whole list
 
-pub are_findings : (plan : Plan) (findings : List Finding) → Adds (Below plan [] 19) [] findings → AreFindings plan findings
+pub are_findings : (plan : Plan) (findings : List Finding) → Adds (Below plan [] 23) [] findings → AreFindings plan findings
 are_findings plan findings (more, is, all) =
     let whole : findings ≡ more = is in
     subst (λ fs. AreFindings plan fs) (sym whole) (record {

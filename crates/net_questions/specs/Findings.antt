@@ -3,7 +3,7 @@ use Rattle.std.specs.Prelude.{◌≡◌, ◌↔◌, ℕ, List, [], ◌∷◌, �
 use Rattle.plan_values.specs.declared.plan.Plan.{Plan}
 use Rattle.net_tables.{specs.Routing.{ports_of, rows_of}, specs.Repositories.{records_of}}
 use Rattle.net_rules.specs.Faults.{LessByFirstDifference}
-use Rattle.net_questions.{specs.declared.code.Code.{Code}, specs.declared.finding.Finding.{Finding}, specs.declared.finding.Finding.TheVariants.{SharedAddress, MissingAddress, SharedTid, MissingLocator, SharedSensorId, OwnerHasNoWay, NoWayToOwner, IdleRow, PoolEidNotLedOn, LonePort, EmptyReadableRange, Isolated, ForeignMedia, ReservedBinding, ReservedAddress, EmptyBus, CrossedThresholds, UnknownTerminusHandle, UncontainedEntity}, specs.Lint.{ShareAddress, LacksAddress, IsAloneOnBus, ShareTid, LacksLocator, SharesSensorId, HasNoWayFromOwner, HasNoWayToOwner, HasIdleRow, LeavesHeld, HasEmptyReadableRange, IsIsolated}, specs.Buses.{HasForeignMedia, HasReservedBinding, IsReservedPort, IsEmptyBus}, specs.Sensors.{HasCrossedThresholds, NamesNoTerminus, MeasuresUncontained}}
+use Rattle.net_questions.{specs.declared.code.Code.{Code}, specs.declared.finding.Finding.{Finding}, specs.declared.finding.Finding.TheVariants.{SharedAddress, MissingAddress, SharedTid, MissingLocator, SharedSensorId, OwnerHasNoWay, NoWayToOwner, IdleRow, PoolEidNotLedOn, LonePort, EmptyReadableRange, Isolated, ForeignMedia, ReservedBinding, ReservedAddress, EmptyBus, CrossedThresholds, UnknownTerminusHandle, UncontainedEntity, OddAddress, ForeignLength, UncarriedUnit, SharedSevenBits}, specs.Lint.{ShareAddress, LacksAddress, IsAloneOnBus, ShareTid, LacksLocator, SharesSensorId, HasNoWayFromOwner, HasNoWayToOwner, HasIdleRow, LeavesHeld, HasEmptyReadableRange, IsIsolated}, specs.Buses.{HasForeignMedia, HasReservedBinding, IsReservedPort, IsEmptyBus}, specs.Sensors.{HasCrossedThresholds, NamesNoTerminus, MeasuresUncontained}, specs.Addresses.{IsOddPort, IsForeignPort, HasUncarriedUnit, ShareSevenBits}}
 use Rattle.net_questions.specs.declared.code.Code.TheVariants as code
 
 -- the finding is so in the plan
@@ -27,6 +27,10 @@ IsSo plan (EmptyBus b) = IsEmptyBus plan b
 IsSo plan (CrossedThresholds n j) = HasCrossedThresholds plan n j
 IsSo plan (UnknownTerminusHandle n j) = NamesNoTerminus plan n j
 IsSo plan (UncontainedEntity n j) = MeasuresUncontained plan n j
+IsSo plan (OddAddress n p) = IsOddPort plan n p
+IsSo plan (ForeignLength n p) = IsForeignPort plan n p
+IsSo plan (UncarriedUnit b) = HasUncarriedUnit plan b
+IsSo plan (SharedSevenBits n p m q) = ShareSevenBits plan n p m q
 
 -- the index of a code among the codes
 abbrev pub order_of : Code → ℕ
@@ -49,6 +53,10 @@ order_of code.EmptyBus = 15
 order_of code.CrossedThresholds = 16
 order_of code.UnknownTerminusHandle = 17
 order_of code.UncontainedEntity = 18
+order_of code.OddAddress = 19
+order_of code.ForeignLength = 20
+order_of code.UncarriedUnit = 21
+order_of code.SharedSevenBits = 22
 
 -- What a finding is about: its code; a node or a bus, and one of the node's ports, rows, records or EIDs; another node,
 -- and one of its ports or records. What is not spoken of is 0.
@@ -85,6 +93,11 @@ subject_of (UnknownTerminusHandle n j) =
     record { code = code.UnknownTerminusHandle; site = n; item = j; other = 0; other_item = 0 }
 subject_of (UncontainedEntity n j) =
     record { code = code.UncontainedEntity; site = n; item = j; other = 0; other_item = 0 }
+subject_of (OddAddress n p) = record { code = code.OddAddress; site = n; item = p; other = 0; other_item = 0 }
+subject_of (ForeignLength n p) = record { code = code.ForeignLength; site = n; item = p; other = 0; other_item = 0 }
+subject_of (UncarriedUnit b) = record { code = code.UncarriedUnit; site = b; item = 0; other = 0; other_item = 0 }
+subject_of (SharedSevenBits n p m q) =
+    record { code = code.SharedSevenBits; site = n; item = p; other = m; other_item = q }
 
 -- by code, then by what it is about
 abbrev pub numbers_of : Subject → List ℕ
@@ -147,6 +160,10 @@ sites_of plan code.EmptyBus = length plan.buses.items
 sites_of plan code.CrossedThresholds = length plan.nodes.items
 sites_of plan code.UnknownTerminusHandle = length plan.nodes.items
 sites_of plan code.UncontainedEntity = length plan.nodes.items
+sites_of plan code.OddAddress = length plan.nodes.items
+sites_of plan code.ForeignLength = length plan.nodes.items
+sites_of plan code.UncarriedUnit = length plan.buses.items
+sites_of plan code.SharedSevenBits = length plan.nodes.items
 
 -- how many items of a node a code looks at; one where it speaks of none
 abbrev pub items_of : Plan → Code → ℕ → ℕ
@@ -169,6 +186,10 @@ items_of plan code.EmptyBus n = 1
 items_of plan code.CrossedThresholds n = length (records_of plan n)
 items_of plan code.UnknownTerminusHandle n = length (records_of plan n)
 items_of plan code.UncontainedEntity n = length (records_of plan n)
+items_of plan code.OddAddress n = length (ports_of plan n)
+items_of plan code.ForeignLength n = length (ports_of plan n)
+items_of plan code.UncarriedUnit n = 1
+items_of plan code.SharedSevenBits n = length (ports_of plan n)
 
 -- how many other nodes a code looks at; one where it speaks of none
 abbrev pub others_of : Plan → Code → ℕ
@@ -191,6 +212,10 @@ others_of plan code.EmptyBus = 1
 others_of plan code.CrossedThresholds = 1
 others_of plan code.UnknownTerminusHandle = 1
 others_of plan code.UncontainedEntity = 1
+others_of plan code.OddAddress = 1
+others_of plan code.ForeignLength = 1
+others_of plan code.UncarriedUnit = 1
+others_of plan code.SharedSevenBits = length plan.nodes.items
 
 -- how many other items a code looks at; one where it speaks of none
 abbrev pub other_items_of : Plan → Code → ℕ → ℕ
@@ -213,3 +238,7 @@ other_items_of plan code.EmptyBus m = 1
 other_items_of plan code.CrossedThresholds m = 1
 other_items_of plan code.UnknownTerminusHandle m = 1
 other_items_of plan code.UncontainedEntity m = 1
+other_items_of plan code.OddAddress m = 1
+other_items_of plan code.ForeignLength m = 1
+other_items_of plan code.UncarriedUnit m = 1
+other_items_of plan code.SharedSevenBits m = length (ports_of plan m)

@@ -4,6 +4,7 @@ pub mod Packets
 pub mod Ports
 pub mod Lint
 pub mod Buses
+pub mod Addresses
 pub mod Sensors
 pub mod RecordIndexes
 pub mod Findings

@@ -22,10 +22,14 @@ pub enum Code {
     CrossedThresholds,
     UnknownTerminusHandle,
     UncontainedEntity,
+    OddAddress,
+    ForeignLength,
+    UncarriedUnit,
+    SharedSevenBits,
 }
 
 /// The codes, in their order.
-pub const CODES: [Code; 19] = [
+pub const CODES: [Code; 23] = [
     Code::SharedAddress,
     Code::MissingAddress,
     Code::SharedTid,
@@ -45,4 +49,8 @@ pub const CODES: [Code; 19] = [
     Code::CrossedThresholds,
     Code::UnknownTerminusHandle,
     Code::UncontainedEntity,
+    Code::OddAddress,
+    Code::ForeignLength,
+    Code::UncarriedUnit,
+    Code::SharedSevenBits,
 ];

@@ -97,4 +97,26 @@ pub enum Finding {
         node: usize,
         record: usize,
     },
+    /// H20: the address of a port is odd, and on its bus bit 0 is no part of an address.
+    OddAddress {
+        node: usize,
+        port: usize,
+    },
+    /// H21: the address of a port has a length that addresses on its bus don't have.
+    ForeignLength {
+        node: usize,
+        port: usize,
+    },
+    /// H22: the plan's transmission unit is more than a packet on a bus can carry.
+    UncarriedUnit {
+        bus: usize,
+    },
+    /// H23: two ports on one bus have addresses that differ in bit 0 alone, and there it is no part of an address. The
+    /// second port comes later in the plan.
+    SharedSevenBits {
+        node: usize,
+        port: usize,
+        other: usize,
+        other_port: usize,
+    },
 }

@@ -6,7 +6,7 @@ use crate::code::{CODES, Code};
 use crate::finding::Finding;
 use crate::lints::record_index::{RecordIndex, record_indexes};
 use crate::lints::{
-    buses, entities, handles, locators, ports, rows, sensors, termini, thresholds, ways,
+    addresses, buses, entities, handles, locators, ports, rows, sensors, termini, thresholds, ways,
 };
 use mctp_transport::Eid;
 use net_tables::lookup::{ports_at, records_at, rows_at};
@@ -123,6 +123,7 @@ fn sites(plan: &Plan, code: Code) -> usize
 {
     match code {
         Code::ForeignMedia | Code::ReservedBinding | Code::EmptyBus => plan.buses.len(),
+        Code::UncarriedUnit => plan.buses.len(),
         _ => plan.nodes.len(),
     }
 }
@@ -136,12 +137,15 @@ fn items(plan: &Plan, code: Code, site: usize) -> usize
         Code::IdleRow => rows_at(plan, site).len(),
         Code::PoolEidNotLedOn => 256,
         Code::SharedSensorId | Code::EmptyReadableRange => records_at(plan, site).len(),
-        Code::ReservedAddress => ports_at(plan, site).len(),
+        Code::ReservedAddress | Code::OddAddress | Code::ForeignLength | Code::SharedSevenBits => {
+            ports_at(plan, site).len()
+        }
         Code::CrossedThresholds | Code::UnknownTerminusHandle | Code::UncontainedEntity => {
             records_at(plan, site).len()
         }
         Code::SharedTid | Code::MissingLocator | Code::Isolated => 1,
         Code::ForeignMedia | Code::ReservedBinding | Code::EmptyBus => 1,
+        Code::UncarriedUnit => 1,
         Code::OwnerHasNoWay | Code::NoWayToOwner => 1,
     }
 }
@@ -151,7 +155,7 @@ fn others(plan: &Plan, code: Code) -> usize
     ensures { result ≡ others_of plan.now code }
 {
     match code {
-        Code::SharedAddress | Code::SharedTid => plan.nodes.len(),
+        Code::SharedAddress | Code::SharedSevenBits | Code::SharedTid => plan.nodes.len(),
         Code::OwnerHasNoWay | Code::NoWayToOwner => plan.nodes.len(),
         _ => 1,
     }
@@ -162,7 +166,7 @@ fn other_items(plan: &Plan, code: Code, other: usize) -> usize
     ensures { result ≡ other_items_of plan.now code other }
 {
     match code {
-        Code::SharedAddress => ports_at(plan, other).len(),
+        Code::SharedAddress | Code::SharedSevenBits => ports_at(plan, other).len(),
         _ => 1,
     }
 }
@@ -242,6 +246,21 @@ fn finding_at(
             node: site,
             record: item,
         },
+        Code::OddAddress => Finding::OddAddress {
+            node: site,
+            port: item,
+        },
+        Code::ForeignLength => Finding::ForeignLength {
+            node: site,
+            port: item,
+        },
+        Code::UncarriedUnit => Finding::UncarriedUnit { bus: site },
+        Code::SharedSevenBits => Finding::SharedSevenBits {
+            node: site,
+            port: item,
+            other,
+            other_port: other_item,
+        },
     }
 }
 
@@ -285,5 +304,14 @@ fn is_so(plan: &Plan, indexes: &[RecordIndex], finding: Finding) -> bool
         Finding::UncontainedEntity { node, record } => {
             entities::measures_uncontained(plan, indexes, node, record)
         }
+        Finding::OddAddress { node, port } => addresses::is_odd_port(plan, node, port),
+        Finding::ForeignLength { node, port } => addresses::is_foreign_port(plan, node, port),
+        Finding::UncarriedUnit { bus } => addresses::has_uncarried_unit(plan, bus),
+        Finding::SharedSevenBits {
+            node,
+            port,
+            other,
+            other_port,
+        } => addresses::share_seven_bits(plan, node, port, other, other_port),
     }
 }

@@ -1,4 +1,5 @@
 //! The tests of what looks wrong.
+pub mod addresses;
 mod bodies;
 pub mod buses;
 pub mod entities;

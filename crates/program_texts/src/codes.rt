@@ -267,6 +267,18 @@ fn of_h(code: &str) -> Option<&'static str> {
         "H19" => Some(
             "H19: a record reads as a numeric or state sensor, the container ID of its entity is not 0 (the\nsystem), and no record of its terminus reads as an entity association that lists the entity among\nthose contained, by type, instance number and container ID.\nCause: the association was left out, or one of the three numbers is mistyped.\nHint: give the repository an association (type 15) that lists the entity, or the sensor an entity\nthat one lists.\n",
         ),
+        "H20" => Some(
+            "H20: the address of a port is one byte, whose bit 0 is set, on SMBus and I2C (binding 1) or on I3C\n(binding 6). Addresses stand in bits 7 to 1 there.\nCause: the address was written in seven bits, or with the bit for reading.\nHint: write twice the seven bits: 0x1D is 3a.\n",
+        ),
+        "H21" => Some(
+            "H21: the address of a port isn't empty, and has a length that addresses on its bus don't have. They\nhave one byte on SMBus and I2C (binding 1), two on PCIe (2), one or six on I3C (6). Of other\nbindings nothing is said.\nCause: the port stands on another bus, or a byte was left out.\nHint: write the address as FORMATS.md says of the binding, or the port's own bus.\n",
+        ),
+        "H22" => Some(
+            "H22: the plan's transmission unit is over 250, and a bus is SMBus or I2C (binding 1). The byte count\nof its packets, 255 at most, counts the source's address and four bytes of header too (DSP0237).\nCause: the unit was written for another bus.\nHint: write a unit of at most 250, or the binding that the bus has.\n",
+        ),
+        "H23" => Some(
+            "H23: two ports on one bus have addresses of one byte that differ in bit 0 alone, on SMBus and I2C\n(binding 1) or on I3C (binding 6), where bit 0 is no part of an address. H20 tells the odd one too.\nCause: one device was written twice, or two addresses of seven bits were not doubled.\nHint: give each port its own seven bits, and write twice these.\n",
+        ),
         _ => None,
     }
 }

@@ -1166,7 +1166,7 @@ const ANSWER: &str = r##"{
           ]
         },
         "code": {
-          "description": "C01 to C16, H01 to H19, J01 to J09, or file where a file can't be opened or read.",
+          "description": "C01 to C16, H01 to H23, J01 to J09, or file where a file can't be opened or read.",
           "type": "string",
           "pattern": "^([CHJ][0-9]{2}|file)$"
         },

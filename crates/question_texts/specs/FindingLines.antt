@@ -53,6 +53,17 @@ address_finding plan n p m q =
     shared_address_line (port_on_bus (node_name plan n) p (bus_text plan (bus_of_port plan n p)))
     (address_text (address_of_port plan n p)) (node_name plan m) q
 
+-- a node and one of its ports
+abbrev pub port_of_node : List ℕ → ℕ → List ℕ
+port_of_node name p = codes "node " ++ (name ++ (codes " port " ++ decimal p))
+
+-- two ports, each with its address, and the bus of the first one
+abbrev pub bits_finding : Plan → ℕ → ℕ → ℕ → ℕ → List ℕ
+bits_finding plan n p m q = codes "H23 " ++ (port_on_bus (node_name plan n) p (bus_text plan (bus_of_port plan n p))
+    ++ (codes " address " ++ (address_text (address_of_port plan n p)
+    ++ (codes " " ++ (port_of_node (node_name plan m) q
+    ++ (codes " address " ++ (address_text (address_of_port plan m q) ++ codes "\n")))))))
+
 -- the line of a finding: its code, and whom it is about
 abbrev pub finding_line : Plan → Finding → List ℕ
 finding_line plan (finding.SharedAddress n p m q) = address_finding plan n p m q
@@ -74,6 +85,10 @@ finding_line plan (finding.EmptyBus b) = bus_finding (codes "H16") plan b
 finding_line plan (finding.CrossedThresholds n j) = item_finding (codes "H17") plan n (codes "record") j
 finding_line plan (finding.UnknownTerminusHandle n j) = item_finding (codes "H18") plan n (codes "record") j
 finding_line plan (finding.UncontainedEntity n j) = item_finding (codes "H19") plan n (codes "record") j
+finding_line plan (finding.OddAddress n p) = port_finding (codes "H20") plan n p
+finding_line plan (finding.ForeignLength n p) = port_finding (codes "H21") plan n p
+finding_line plan (finding.UncarriedUnit b) = bus_finding (codes "H22") plan b
+finding_line plan (finding.SharedSevenBits n p m q) = bits_finding plan n p m q
 
 -- a line for each finding, in their order
 abbrev pub findings_text : Plan → List Finding → List ℕ

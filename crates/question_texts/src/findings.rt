@@ -1,7 +1,7 @@
 //! What the command `lint` prints.
 ghost use Rattle.std.specs.Prelude.{◌≡◌, IfOk, string_bytes};
 ghost use Rattle.plan_texts.specs.LineParts.{address_text, bus_text};
-ghost use Rattle.question_texts.specs.FindingLines.{bus_of_port, address_of_port, node_finding, bus_finding, pair_finding, item_finding, port_finding, port_on_bus, shared_address_line, address_finding, finding_line, findings_text};
+ghost use Rattle.question_texts.specs.FindingLines.{bus_of_port, address_of_port, node_finding, bus_finding, pair_finding, item_finding, port_finding, port_on_bus, shared_address_line, address_finding, port_of_node, bits_finding, finding_line, findings_text};
 
 use net_questions::Finding;
 use net_tables::lookup::{node_name, ports_at};
@@ -67,6 +67,15 @@ fn finding_line(alloc: Global, plan: &Plan, finding: &Finding) -> Result<String,
         Finding::UncontainedEntity { node, record } => {
             item_finding(alloc, "H19", plan, node, "record", record)
         }
+        Finding::OddAddress { node, port } => port_finding(alloc, "H20", plan, node, port),
+        Finding::ForeignLength { node, port } => port_finding(alloc, "H21", plan, node, port),
+        Finding::UncarriedUnit { bus } => bus_finding(alloc, "H22", plan, bus),
+        Finding::SharedSevenBits {
+            node,
+            port,
+            other,
+            other_port,
+        } => bits_finding(alloc, plan, node, port, other, other_port),
     }
 }
 
@@ -147,6 +156,32 @@ fn address_finding(
     let other = node_name(plan, other);
     let port = port_on_bus(alloc, name, port, bus)?;
     shared_address_line(alloc, &port, &address, other, other_port)
+}
+
+/// The line of two ports and the bus that they have in common, each with its address.
+fn bits_finding(
+    alloc: Global,
+    plan: &Plan,
+    node: usize,
+    port: usize,
+    other: usize,
+    other_port: usize,
+) -> Result<String, AllocError>
+    ensures { IfOk result (λ line. string_bytes line ≡ bits_finding plan.now node port other other_port) }
+{
+    let address = address_of_port(alloc, plan, node, port)?;
+    let other_address = address_of_port(alloc, plan, other, other_port)?;
+    let bus = bus_name_of_port(plan, node, port);
+    let port = port_on_bus(alloc, node_name(plan, node), port, bus)?;
+    let other = port_of_node(alloc, node_name(plan, other), other_port)?;
+    format!(in alloc; "H23 {port} address {address} {other} address {other_address}\n")
+}
+
+/// A node's port.
+fn port_of_node(alloc: Global, name: &str, port: usize) -> Result<String, AllocError>
+    ensures { IfOk result (λ text. string_bytes text ≡ port_of_node name.now port) }
+{
+    format!(in alloc; "node {name} port {port}")
 }
 
 /// A node's port and its bus.

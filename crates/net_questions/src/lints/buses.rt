@@ -164,7 +164,7 @@ fn is_reserved_on_i3c(bits: u8) -> bool
 }
 
 /// A bus of the plan.
-fn bus_at(plan: &Plan, bus: usize) -> Option<&Bus>
+pub fn bus_at(plan: &Plan, bus: usize) -> Option<&Bus>
     ensures { option_map (λ b. b.now) result ≡ slice_get plan.now.buses.items bus }
 {
     plan.buses.get(bus)

@@ -30,7 +30,7 @@ fn have_shared_address(
 }
 
 /// Whether a node's port comes before another's in the plan.
-fn is_earlier(node: usize, port: usize, other: usize, other_port: usize) -> bool
+pub fn is_earlier(node: usize, port: usize, other: usize, other_port: usize) -> bool
     ensures { IsTrue result ↔ IsEarlier node port other other_port }
 {
     node < other || (node == other && port < other_port)

@@ -14,5 +14,5 @@ loop-code-preserved c =
 pub returns : goal.returns
 returns c =
     let plan = c.args.plan.now in
-    let ended : c.loop-code.code-index ≡ 19 = omega arith in
+    let ended : c.loop-code.code-index ≡ 23 = omega arith in
     are_findings plan c.loop-code.findings.items (subst (λ k. Adds (Below plan [] k) [] c.loop-code.findings.items) ended c.loop-code.invariant)

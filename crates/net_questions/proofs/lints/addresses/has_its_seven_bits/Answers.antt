@@ -1,0 +1,13 @@
+use Rattle.std.specs.Prelude.{slice_get}
+use Rattle.net_tables.specs.Routing.{ports_of}
+use Rattle.net_questions.{specs.Addresses.{HaveOneSevenBits}, proofs.Exists.{of_some, of_none}}
+use Rattle.net_questions.proofs.lints.addresses.has_its_seven_bits.Goals as goal
+
+pub returns-in-Some : goal.returns-in-Some
+returns-in-Some c =
+    of_some (slice_get (ports_of c.args.plan.now c.args.other) c.args.other_port) c.in-Some.other.now (HaveOneSevenBits c.args.plan.now c.args.port.now)
+    c.have_one_seven_bits.result c.in-Some.ensures c.have_one_seven_bits.ensures
+
+pub returns-in-None : goal.returns-in-None
+returns-in-None c =
+    of_none (slice_get (ports_of c.args.plan.now c.args.other) c.args.other_port) (HaveOneSevenBits c.args.plan.now c.args.port.now) c.in-None.ensures
