@@ -1,7 +1,16 @@
 pub mod Values
 pub mod Numbers
 pub mod Links
+pub mod Frames
+pub mod FrameValues
 pub mod Files
+pub mod Options
+pub mod Interfaces
+pub mod Blocks
+pub mod OptionValues
+pub mod InterfaceValues
+pub mod BlockValues
+pub mod Sections
 pub mod Records
 pub mod Sorts
 pub mod Hex

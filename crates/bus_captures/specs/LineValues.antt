@@ -1,5 +1,5 @@
 -- Lines of the code.
-use Rattle.std.specs.Prelude.{◌≡◌, ◌<◌, List, ℕ, [], length}
+use Rattle.std.specs.Prelude.{◌≡◌, ◌<◌, List, ℕ, [], length, None}
 use Rattle.bus_captures.{specs.declared.line.Line.{Line}, specs.declared.line.Head.{Head}, specs.Lines.{IsBlank, IsEntryText, IsBadText, HeadValue}, specs.Values.{entry_value, time_value, nowhere}}
 use Rattle.bus_captures.specs.declared.line.Line.TheVariants as line
 
@@ -21,6 +21,7 @@ IsLineOf head bytes (line.Entry e) =
       time = head.time;
       direction = head.direction;
       interface = nowhere;
+      name = None;
       kind = head.kind;
       bytes = bytes;
     })

@@ -73,6 +73,7 @@ pub record IsEntryText (text : List ℕ) (e : EntryValue) : Type 0 where
   pub time : e.time ≡ (head_of text).time
   pub direction : e.direction ≡ (head_of text).direction
   pub interface : e.interface ≡ nowhere
+  pub name : e.name ≡ None
   pub kind : e.kind ≡ (head_of text).kind
   pub bytes : IsHex (head_of text).hex e.bytes
   pub some : 0 < length e.bytes

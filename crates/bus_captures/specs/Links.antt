@@ -6,15 +6,23 @@ use Rattle.bus_captures.specs.declared.capture.Direction.TheVariants as directio
 use Rattle.bus_captures.specs.declared.capture.Kind.TheVariants as kind
 use Rattle.bus_captures.specs.declared.link.Link.TheVariants as link
 
--- the number of a link type in a file's header
+-- the number of a link type in a file
 abbrev pub link_number : Link → ℕ
 link_number link.Raw = 147
+link_number link.Mctp = 291
 link_number link.Cooked = 113
 link_number link.CookedAgain = 276
+
+-- the link type of a number, where it is one of those that are read
+abbrev pub link_of : ℕ → Option Link
+link_of number =
+    if number == 147 then Some link.Raw else if number == 291 then Some link.Mctp
+    else if number == 113 then Some link.Cooked else if number == 276 then Some link.CookedAgain else None
 
 -- how many bytes stand before the packet
 abbrev pub link_length : Link → ℕ
 link_length link.Raw = 0
+link_length link.Mctp = 0
 link_length link.Cooked = 16
 link_length link.CookedAgain = 20
 
@@ -30,16 +38,19 @@ kind_of protocol = if protocol == 250 then kind.Packet else kind.Other protocol
 -- at byte 0 and its packet type at byte 10.
 abbrev pub direction_of : Link → List ℕ → Option Direction
 direction_of link.Raw bytes = None
+direction_of link.Mctp bytes = None
 direction_of link.Cooked bytes = Some (sent_or_received (big_number 2 bytes))
 direction_of link.CookedAgain bytes = Some (sent_or_received (slice_index bytes 10))
 
 -- one of the second version has the number of its interface at byte 4
 abbrev pub index_of : Link → List ℕ → Option ℕ
 index_of link.Raw bytes = None
+index_of link.Mctp bytes = None
 index_of link.Cooked bytes = None
 index_of link.CookedAgain bytes = Some (big_number 4 (drop 4 bytes))
 
 abbrev pub kind_in : Link → List ℕ → Kind
 kind_in link.Raw bytes = kind.Packet
+kind_in link.Mctp bytes = kind.Packet
 kind_in link.Cooked bytes = kind_of (big_number 2 (drop 14 bytes))
 kind_in link.CookedAgain bytes = kind_of (big_number 2 bytes)

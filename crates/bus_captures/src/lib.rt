@@ -2,23 +2,30 @@
 //! are written.
 #![tactic(auto)]
 
+mod block;
+mod blocks;
 mod capture;
 mod carried;
 mod file;
 mod format;
+mod frame;
 mod hex_text;
+mod interfaces;
 mod laws;
 mod line;
 mod link;
+mod options;
 mod reading;
 mod record;
+mod section;
 mod sort;
 mod text;
 mod time;
+mod units;
 mod writing;
 
 pub use capture::{
-    Capture, CaptureFault, Direction, End, Entry, Interface, Kind, MAX_ENTRIES, Time,
+    Capture, CaptureFault, Direction, End, Entry, Interface, Kind, MAX_ENTRIES, Time, Unread,
 };
 pub use carried::CarriedPacket;
 pub use laws::one_list_of_records;

@@ -70,6 +70,7 @@ fn line_of<'a>(head: &Head<'a>, bytes: Vec<u8>) -> Line<'a>
         time: head.time,
         direction: head.direction,
         interface: NOWHERE,
+        name: None,
         kind: head.kind,
         bytes,
     })

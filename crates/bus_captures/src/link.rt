@@ -1,6 +1,6 @@
 //! What stands before the packet in a record of a capture file.
-ghost use Rattle.std.specs.Prelude.{◌≡◌, ◌≢◌, ◌≤◌, length, drop, MatchOption};
-ghost use Rattle.bus_captures.{specs.Links.{link_number, link_length, sent_or_received, kind_of, direction_of, index_of, kind_in}, specs.declared.link.Link.{Link}};
+ghost use Rattle.std.specs.Prelude.{◌≡◌, ◌≤◌, length, drop};
+ghost use Rattle.bus_captures.specs.Links.{link_of, link_length, sent_or_received, kind_of, direction_of, index_of, kind_in};
 
 use crate::capture::{Direction, Kind};
 use byteorder::{BigEndian, ByteOrder};
@@ -8,8 +8,10 @@ use byteorder::{BigEndian, ByteOrder};
 /// The link types that are read (tcpdump.org, "Link-layer header types").
 #[derive(Clone, Copy, Debug, PartialEq, Eq)]
 pub enum Link {
-    /// 147: the packet alone.
+    /// 147, LINKTYPE_USER0: the packet alone.
     Raw,
+    /// 291: the packet alone.
+    Mctp,
     /// 113, LINKTYPE_LINUX_SLL: 16 bytes of Linux before the packet.
     Cooked,
     /// 276, LINKTYPE_LINUX_SLL2: 20 bytes of Linux before the packet.
@@ -25,10 +27,11 @@ const OUTGOING: u16 = 4;
 impl Link {
     /// The link type of this number.
     pub fn of(number: u32) -> Option<Link>
-        ensures { MatchOption result ((link : Link) → number ≢ link_number link) (λ link. number ≡ link_number link) }
+        ensures { result ≡ link_of number }
     {
         match number {
             147 => Some(Link::Raw),
+            291 => Some(Link::Mctp),
             113 => Some(Link::Cooked),
             276 => Some(Link::CookedAgain),
             _ => None,
@@ -40,7 +43,7 @@ impl Link {
         ensures { result ≡ link_length self }
     {
         match self {
-            Link::Raw => 0,
+            Link::Raw | Link::Mctp => 0,
             Link::Cooked => 16,
             Link::CookedAgain => 20,
         }
@@ -52,7 +55,7 @@ impl Link {
         ensures { result ≡ direction_of self bytes.now }
     {
         match self {
-            Link::Raw => None,
+            Link::Raw | Link::Mctp => None,
             Link::Cooked => Some(sent_or_received(BigEndian::read_u16(bytes))),
             Link::CookedAgain => Some(sent_or_received(u16::from(bytes[10]))),
         }
@@ -64,7 +67,7 @@ impl Link {
         ensures { result ≡ index_of self bytes.now }
     {
         match self {
-            Link::Raw | Link::Cooked => None,
+            Link::Raw | Link::Mctp | Link::Cooked => None,
             Link::CookedAgain => Some(BigEndian::read_u32(&bytes[4..])),
         }
     }
@@ -75,7 +78,7 @@ impl Link {
         ensures { result ≡ kind_in self bytes.now }
     {
         match self {
-            Link::Raw => Kind::Packet,
+            Link::Raw | Link::Mctp => Kind::Packet,
             Link::Cooked => kind_of(BigEndian::read_u16(&bytes[14..])),
             Link::CookedAgain => kind_of(BigEndian::read_u16(bytes)),
         }
