@@ -57,7 +57,7 @@ fn refused(unit: usize, entry: &Entry) -> Option<PacketError>
 {
     match entry.kind {
         Kind::Packet => refused_bytes(unit, &entry.bytes),
-        Kind::Message | Kind::Other(_) => None,
+        Kind::Message | Kind::Other(_) | Kind::Unread(_) => None,
     }
 }
 

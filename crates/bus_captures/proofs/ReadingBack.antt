@@ -1,8 +1,10 @@
 -- A capture file that is written reads back.
-use Rattle.std.{proofs.Common.{◌≡◌, ℕ, ◌+◌, ◌-◌, ◌<◌, ◌≤◌, ◌^◌, ◌++◌, List, [], ◌∷◌, length, map, arith, inl, inr, refl, ap, sym, ◌∙◌, append_assoc, drop, replicate, length-append, get_or}, specs.List.{flat_map, AllZip, All}, proofs.Math.Seq.{drop-append_seam}, proofs.lemmas.List.Elements.{All-tail}, specs.Prelude.{Some}}
+use Rattle.std.{proofs.Common.{◌≡◌, ℕ, ◌+◌, ◌-◌, ◌<◌, ◌≤◌, ◌^◌, ◌++◌, List, [], ◌∷◌, length, map, arith, inl, inr, refl, ap, sym, ◌∙◌, append_assoc, drop, replicate, length-append, get_or, ◌==◌, true, false, None}, specs.List.{flat_map, All}, proofs.Math.Seq.{drop-append_seam}, proofs.lemmas.List.Elements.{All-tail}, proofs.lemmas.List.{length-map}, proofs.lemmas.Bool.Decides.{nat_tests}, specs.Prelude.{Some, nat_lt}}
 use Rattle.byteorder.specs.Endian.{big_bytes, big_number}
-use Rattle.bus_captures.{specs.declared.capture.CaptureFault.{CaptureFault}, specs.declared.capture.End.{End}, specs.declared.format.Order.{Order}, specs.declared.format.Order.TheVariants.{Little, Big}, specs.declared.format.TimeUnit.{TimeUnit}, specs.declared.format.TimeUnit.TheVariants.{Micro, Nano}, specs.declared.link.Link.{Link}, specs.declared.link.Link.TheVariants.{Raw, Cooked, CookedAgain}, specs.Files.{FileRecord, IsRecord, IsEntryOf, EndsFile, IsBody, IsFile, HasNoHeader, HasHeader, magic, record_bytes, Begins}, specs.Links.{link_number}, specs.Numbers.{number_bytes}, specs.Values.{EntryValue, on_linux}, specs.Written.{CarriedValue, IsCarried, ReadsBack, carried_record, carried_entry, header_fields, link_header, written_bytes}, proofs.RecordLaws.{four, fronts, one_record, some_bytes}, proofs.WritingLaws.{before, filled}}
+use Rattle.bus_captures.{specs.declared.capture.CaptureFault.{CaptureFault}, specs.declared.capture.End.{End}, specs.declared.format.Order.{Order}, specs.declared.format.Order.TheVariants.{Little, Big}, specs.declared.format.TimeUnit.{TimeUnit}, specs.declared.format.TimeUnit.TheVariants.{Micro, Nano}, specs.declared.link.Link.{Link}, specs.declared.link.Link.TheVariants.{Raw, Mctp, Cooked, CookedAgain}, specs.Files.{FileRecord, IsRecord, record_entry, EndsFile, IsBody, IsFile, HasNoHeader, HasHeader, magic, record_bytes, Begins}, specs.Frames.{FrameValue, frame_of, frame_read, entry_of}, specs.Links.{link_number, link_of}, specs.Numbers.{number_bytes}, specs.Values.{EntryValue, At, on_linux}, specs.Written.{CarriedValue, IsCarried, ReadsBack, carried_record, carried_entry, header_fields, link_header, written_bytes}, proofs.RecordLaws.{four, fronts, one_record, some_bytes}, proofs.WritingLaws.{before, filled}}
 use Rattle.bus_captures.specs.declared.capture.CaptureFault.TheVariants as fault
+use Rattle.bus_captures.specs.declared.capture.Direction.TheVariants as direction
+use Rattle.bus_captures.specs.declared.capture.Kind.TheVariants as kind
 use Rattle.bus_captures.specs.declared.capture.End.TheVariants as end
 
 -- the first four bytes say the order and the unit
@@ -16,21 +18,24 @@ order_is Big Nano behind rest e = let first : 77 ≡ 161 = ap (λ (xs : List ℕ
 -- what follows them is a header of the link type that is written
 has_one : (body : List ℕ) (why : CaptureFault) → HasNoHeader Little (header_fields ++ number_bytes Little 276 ++ body) why → ⊥
 has_one body fault.Header short = omega arith
-has_one body fault.Link (ahead, number, rest, long, small, spelled, other) =
+has_one body (fault.Link number) (ahead, rest, long, small, spelled, other) =
     let behind = fronts header_fields ahead _ _ (sym long) (spelled ∙ append_assoc ahead (number_bytes Little number) rest) in
-    absurd (other CookedAgain (sym (four Little 276 number _ _ (omega arith) small behind.1).0))
+    let same = four Little 276 number _ _ (omega arith) small behind.1 in
+    let read : Some CookedAgain ≡ None = ap link_of same.0 ∙ other in
+    absurd (cc)
 has_one body fault.Record none = none
-has_one body fault.Cut none = none
-has_one body fault.LinkHeader none = none
+has_one body fault.Block none = none
 has_one body fault.Line none = none
 
 of_number : (link : Link) → 276 ≡ link_number link → link ≡ CookedAgain
 of_number Raw e = absurd (omega arith)
+of_number Mctp e = absurd (omega arith)
 of_number Cooked e = absurd (omega arith)
 of_number CookedAgain e = refl
 
 small_number : (link : Link) → link_number link < 2 ^ 32
 small_number Raw = omega arith
+small_number Mctp = omega arith
 small_number Cooked = omega arith
 small_number CookedAgain = omega arith
 
@@ -59,77 +64,57 @@ record_is p carried =
 big_back : (n : ℕ) (rest : List ℕ) → n < 2 ^ 32 → big_number 4 (big_bytes 4 n ++ rest) ≡ n
 big_back n rest small = omega arith
 
-entry_is : (p : CarriedValue) (e : EntryValue) → IsCarried p → IsEntryOf Nano CookedAgain (carried_record p) e → e ≡ carried_entry p
-entry_is p e carried is =
+entry_is : (p : CarriedValue) → IsCarried p → record_entry Nano CookedAgain (carried_record p) ≡ carried_entry p
+entry_is p carried =
     let padded = p.address ++ replicate (8 - length p.address) 0 in
     let eight : length padded ≡ 8 = filled p.address carried.address in
     let behind : drop 8 (padded ++ p.bytes) ≡ p.bytes = ap (λ n. drop n (padded ++ p.bytes)) (sym eight) ∙ drop-append_seam padded p.bytes in
-    let bytes : e.bytes ≡ p.bytes = is.bytes ∙ behind in
     let rest : List ℕ = big_bytes 2 290 ++ 3 ∷ length p.address ∷ padded in
-    let index = is.interface ∙ ap (λ n. on_linux (Some n)) (big_back p.interface (rest ++ p.bytes) carried.interface) in
-    λ i. record { time = is.time i; direction = is.direction i; interface = index i; kind = is.kind i; bytes = bytes i }
-
--- no record is the beginning of nothing
-none_begins : (r : FileRecord) → Begins Little [] r → ⊥
-none_begins r begins = some_bytes Little r begins.1.0 (sym begins.1.1)
+    let index = ap Some (big_back p.interface (rest ++ p.bytes) carried.interface) in
+    let kept : List ℕ = link_header p ++ p.bytes in
+    let long : length kept ≡ 20 + length p.bytes = long_is p carried in
+    let whole : (length kept == (20 + length p.bytes)) ≡ true = grind (arith, nat_tests) in
+    let enough : nat_lt (length kept) 20 ≡ false = grind (arith, nat_tests) in
+    let read : frame_of CookedAgain (20 + length p.bytes) kept ≡ frame_read CookedAgain kept = rw (whole, enough) refl in
+    ap (entry_of (At p.seconds p.nanoseconds) None None) read
+    ∙ (λ i. record { time = At p.seconds p.nanoseconds; direction = Some direction.Received; interface = on_linux (index i); name = None; kind = kind.Packet; bytes = behind i })
 
 -- reading doesn't end at nothing but as it does at the end
-ends_well : (count : ℕ) (how : End) → EndsFile Little CookedAgain count [] how → how ≡ end.Whole
+ends_well : (count : ℕ) (how : End) → EndsFile Little count [] how → how ≡ end.Whole
 ends_well count end.Whole ends = refl
 ends_well count end.Full ends = absurd (ends.1 refl)
-ends_well count (end.Broken place fault.Header) ends = absurd ends.1
-ends_well count (end.Broken place fault.Link) ends = absurd ends.1
-ends_well count (end.Broken place fault.Record) ends = absurd (ends.1.0 refl)
-ends_well count (end.Broken place fault.Cut) ends = absurd (none_begins ends.1.0 ends.1.1)
-ends_well count (end.Broken place fault.LinkHeader) ends = absurd (none_begins ends.1.0 ends.1.1)
-ends_well count (end.Broken place fault.Line) ends = absurd ends.1
-
--- a record that stands before a packet's bytes is the packet's
-record_of_packet : (p : CarriedValue) (more : List ℕ) (r : FileRecord) → IsCarried p → Begins Little (written_bytes p ++ more) r → carried_record p ≡ r
-record_of_packet p more r carried begins = (one_record Little (carried_record p) r more begins.1.0 (record_is p carried) begins.0 begins.1.1).0
+ends_well count (end.Broken place why) ends = absurd (ends.2 refl)
 
 -- nor does it end before a packet, as long as there is room for it
-goes_on : (p : CarriedValue) (more : List ℕ) (count : ℕ) (how : End) → IsCarried p → count < 100000 → EndsFile Little CookedAgain count (written_bytes p ++ more) how → ⊥
+goes_on : (p : CarriedValue) (more : List ℕ) (count : ℕ) (how : End) → IsCarried p → count < 100000 → EndsFile Little count (written_bytes p ++ more) how → ⊥
 goes_on p more count end.Whole carried few ends = some_bytes Little (carried_record p) more ends
 goes_on p more count end.Full carried few ends = let full = ends.0 in omega arith
-goes_on p more count (end.Broken place fault.Header) carried few ends = ends.1
-goes_on p more count (end.Broken place fault.Link) carried few ends = ends.1
-goes_on p more count (end.Broken place fault.Record) carried few ends = ends.1.1 (carried_record p) (record_is p carried, (more, refl))
-goes_on p more count (end.Broken place fault.Cut) carried few ends =
-    let same = record_of_packet p more ends.1.0 carried ends.1.1 in
-    ends.1.2 (ap (λ r. length r.bytes) (sym same) ∙ long_is p carried ∙ ap (λ r. r.original) same)
-goes_on p more count (end.Broken place fault.LinkHeader) carried few ends =
-    let same = record_of_packet p more ends.1.0 carried ends.1.1 in
-    let long = ap (λ r. length r.bytes) (sym same) ∙ long_is p carried in
-    let short = ends.1.3 in
-    omega arith
-goes_on p more count (end.Broken place fault.Line) carried few ends = ends.1
+goes_on p more count (end.Broken place why) carried few ends = ends.3 (carried_record p) (record_is p carried, (more, refl))
 
 -- the records at the front are those of the packets, and no other follows them
-back : (ps : List CarriedValue) (k count : ℕ) (records : List FileRecord) (entries : List EntryValue) (left : List ℕ) (how : End) → All IsCarried ps → k + length ps ≤ 100000
-    → count ≡ k + length entries → All IsRecord records → flat_map written_bytes ps ≡ flat_map (record_bytes Little) records ++ left
-    → AllZip (IsEntryOf Nano CookedAgain) records entries → EndsFile Little CookedAgain count left how → (entries ≡ map carried_entry ps) × (how ≡ end.Whole)
-back [] k count [] [] left how carried few counted lawful spelled each ends = (refl, ends_well count how (rw spelled ends))
-back [] k count [] (e ∷ entries) left how carried few counted lawful spelled each ends = absurd each
-back [] k count (r ∷ records) entries left how carried few counted lawful spelled each ends =
+back : (ps : List CarriedValue) (k count : ℕ) (records : List FileRecord) (left : List ℕ) (how : End) → All IsCarried ps → k + length ps ≤ 100000
+    → count ≡ k + length records → All IsRecord records → flat_map written_bytes ps ≡ flat_map (record_bytes Little) records ++ left
+    → EndsFile Little count left how → (map (record_entry Nano CookedAgain) records ≡ map carried_entry ps) × (how ≡ end.Whole)
+back [] k count [] left how carried few counted lawful spelled ends = (refl, ends_well count how (rw spelled ends))
+back [] k count (r ∷ records) left how carried few counted lawful spelled ends =
     absurd (some_bytes Little r _ (sym (append_assoc (record_bytes Little r) (flat_map (record_bytes Little) records) left) ∙ sym spelled))
-back (p ∷ ps) k count [] [] left how carried few counted lawful spelled each ends =
+back (p ∷ ps) k count [] left how carried few counted lawful spelled ends =
     absurd (goes_on p (flat_map written_bytes ps) count how (carried 0 p (omega arith)) (omega arith) (rw spelled ends))
-back (p ∷ ps) k count [] (e ∷ entries) left how carried few counted lawful spelled each ends = absurd each
-back (p ∷ ps) k count (r ∷ records) [] left how carried few counted lawful spelled each ends = absurd each
-back (p ∷ ps) k count (r ∷ records) (e ∷ entries) left how carried few counted lawful spelled each ends =
+back (p ∷ ps) k count (r ∷ records) left how carried few counted lawful spelled ends =
     let is = carried 0 p (omega arith) in
     let whole = spelled ∙ append_assoc (record_bytes Little r) (flat_map (record_bytes Little) records) left in
     let first = one_record Little (carried_record p) r _ _ (record_is p is) (lawful 0 r (omega arith)) whole in
-    let entry = entry_is p e is (rw first.0 each.0) in
-    let later = back ps (k + 1) count records entries left how (All-tail IsCarried p ps carried) (omega arith) (counted ∙ omega arith) (All-tail IsRecord r records lawful)
-    first.1 each.1 ends in
+    let entry = sym (ap (record_entry Nano CookedAgain) first.0) ∙ entry_is p is in
+    let later = back ps (k + 1) count records left how (All-tail IsCarried p ps carried) (omega arith) (counted ∙ omega arith) (All-tail IsRecord r records lawful)
+    first.1 ends in
     ((λ i. entry i ∷ later.0 i), later.1)
 
 body_back : (ps : List CarriedValue) (entries : List EntryValue) (how : End) → All IsCarried ps → length ps ≤ 100000 → IsBody Little Nano CookedAgain (flat_map written_bytes ps) entries how
     → (entries ≡ map carried_entry ps) × (how ≡ end.Whole)
 body_back ps entries how carried few body =
-    back ps 0 (length entries) body.read.records entries body.left how carried (omega arith) (omega arith) body.read.lawful body.read.spelled body.read.each body.ends
+    let many : length entries ≡ length body.read.records = ap length body.read.each ∙ length-map body.read.records (record_entry Nano CookedAgain) in
+    let are = back ps 0 (length entries) body.read.records body.left how carried (omega arith) many body.read.lawful body.read.spelled body.ends in
+    (body.read.each ∙ are.0, are.1)
 
 file_back : (ps : List CarriedValue) (entries : List EntryValue) (how : End) → All IsCarried ps → length ps ≤ 100000
     → IsFile Little Nano (header_fields ++ number_bytes Little 276 ++ flat_map written_bytes ps) entries how → (entries ≡ map carried_entry ps) × (how ≡ end.Whole)
@@ -145,4 +130,4 @@ reads_back ps carried few entries how (inl (order, unit, behind, begins, file)) 
     let ordered = rw are.0 at file in
     let counted = rw are.1 at ordered in
     file_back ps entries how carried few (rw are.2 at counted)
-reads_back ps carried few entries how (inr text) = absurd (text.0 Little Nano _ refl)
+reads_back ps carried few entries how (inr other) = absurd (other.0 Little Nano _ refl)

@@ -1,6 +1,6 @@
 -- Capture files of blocks (pcapng): sections, each of which begins with a header and describes its interfaces.
 use Rattle.std.{specs.Prelude.{◌≡◌, ◌≢◌, ◌⊎◌, ℕ, ◌+◌, ◌-◌, ◌*◌, ◌%◌, ◌<◌, ◌≤◌, ◌^◌, ◌==◌, ◌||◌, not, nat_le, min, Bool, true, false, List, [], ◌∷◌, ◌++◌, length, take, drop, reverse, Option, None, Some, find, option_map, slice_get, if◌then◌else◌}, specs.List.{flat_map, filter, take_while, AllZip}}
-use Rattle.bus_captures.{specs.declared.capture.End.{End}, specs.declared.format.Order.{Order}, specs.Frames.{unread, frame_under, entry_of}, specs.Interfaces.{InterfaceValue, Describes, time_by}, specs.Numbers.{number_bytes, number_at, short_at}, specs.Values.{most_entries, EntryValue, Unknown}}
+use Rattle.bus_captures.{specs.declared.capture.End.{End}, specs.declared.format.Order.{Order}, specs.Frames.{unread, frame_under, entry_of}, specs.Interfaces.{InterfaceValue, Describes, time_by}, specs.Numbers.{number_bytes, short_bytes, number_at}, specs.Values.{most_entries, EntryValue, Unknown}}
 use Rattle.bus_captures.specs.declared.capture.CaptureFault.TheVariants as fault
 use Rattle.bus_captures.specs.declared.capture.End.TheVariants as end
 use Rattle.bus_captures.specs.declared.capture.Unread.TheVariants as cause
@@ -33,12 +33,12 @@ is_enhanced b = b.kind == 6
 abbrev pub is_packet : Block → Bool
 is_packet b = is_enhanced b || (b.kind == 3)
 
--- the body tells its byte order by a number, and behind it the version 1
+-- the body tells its byte order by a number, and behind it the version 1, and has at least ten bytes more
 pub record BeginsSection (b : Block) : Type 0 where
   pub kind : is_section b ≡ true
-  pub long : 16 ≤ length b.body
-  pub magic : number_at b.order 0 b.body ≡ 439041101
-  pub version : short_at b.order 4 b.body ≡ 1
+  pub more : List ℕ
+  pub body : b.body ≡ number_bytes b.order 439041101 ++ short_bytes b.order 1 ++ more
+  pub long : 10 ≤ length more
 
 -- a block within a section has the section's byte order; that of an interface has at least its eight bytes
 pub record IsWithin (section : Option Order) (b : Block) : Type 0 where

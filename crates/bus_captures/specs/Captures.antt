@@ -38,10 +38,10 @@ pub record IsText (text : List ℕ) (entries : List EntryValue) (how : End) : Ty
 abbrev pub BeginsFile : Order → TimeUnit → List ℕ → List ℕ → Type 0
 BeginsFile order unit bytes behind = bytes ≡ number_bytes order (magic unit) ++ behind
 
--- the bytes begin as none of the capture files
-abbrev pub BeginsNoFile : List ℕ → Type 0
-BeginsNoFile bytes = ((order : Order) (unit : TimeUnit) (behind : List ℕ) → ¬ BeginsFile order unit bytes behind)
-    × ¬ BeginsBlocks bytes
+-- a file of blocks, or else a text
+abbrev pub IsOtherCapture : List ℕ → List EntryValue → End → Type 0
+IsOtherCapture bytes entries how =
+    (BeginsBlocks bytes × IsBlockFile bytes entries how) ⊎ (¬ BeginsBlocks bytes × IsText bytes entries how)
 
 -- the bytes are these entries, and reading them ends so: a capture file of records or of blocks by its first four
 -- bytes, or else a text
@@ -49,7 +49,8 @@ abbrev pub IsCapture : List ℕ → List EntryValue → End → Type 0
 IsCapture bytes entries how =
     ((order : Order) × (unit : TimeUnit) × (behind : List ℕ) × BeginsFile order unit bytes behind
     × IsFile order unit behind entries how)
-    ⊎ ((BeginsBlocks bytes × IsBlockFile bytes entries how) ⊎ (BeginsNoFile bytes × IsText bytes entries how))
+    ⊎ (((order : Order) (unit : TimeUnit) (behind : List ℕ) → ¬ BeginsFile order unit bytes behind)
+    × IsOtherCapture bytes entries how)
 
 abbrev pub IsCaptureOf : List ℕ → Capture → Type 0
 IsCaptureOf bytes capture = IsCapture bytes (map entry_value capture.entries.items) capture.end

@@ -15,17 +15,21 @@ pub record FrameValue : Type 0 where
 abbrev pub unread : Unread → List ℕ → FrameValue
 unread why kept = record { direction = None; index = None; kind = kind.Unread why; bytes = kept }
 
+-- what was kept whole, with its link header
+abbrev pub frame_read : Link → List ℕ → FrameValue
+frame_read link kept = record {
+  direction = direction_of link kept;
+  index = index_of link kept;
+  kind = kind_in link kept;
+  bytes = drop (link_length link) kept;
+}
+
 -- What was kept of something that had so many bytes: it is read where it was kept whole and has a link header.
 abbrev pub frame_of : Link → ℕ → List ℕ → FrameValue
 frame_of link original kept =
     if not (length kept == original) then unread cause.Cut kept
     else if nat_lt (length kept) (link_length link) then unread cause.LinkHeader kept
-    else record {
-      direction = direction_of link kept;
-      index = index_of link kept;
-      kind = kind_in link kept;
-      bytes = drop (link_length link) kept;
-    }
+    else frame_read link kept
 
 -- the same where the link type is one that isn't read, or another
 abbrev pub frame_by : ℕ → Option Link → ℕ → List ℕ → FrameValue

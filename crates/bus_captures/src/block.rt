@@ -1,8 +1,8 @@
 //! Blocks of a capture file.
-ghost use Rattle.std.specs.Prelude.{◌≡◌, ◌≢◌, ◌↔◌, ◌++◌, ℕ, List, Some, true, IsTrue, MatchOption, option_map};
-ghost use Rattle.bus_captures.{specs.Blocks.{Block as FileBlock, IsBlock, IsNext, BeginsSection, BeginsWith, block_bytes, enhanced_packet, is_interface, is_packet, is_section, kept_by, packet_in, simple_packet}, specs.BlockValues.{block_value, packet_value}, specs.InterfaceValues.{interface_value}};
+ghost use Rattle.std.specs.Prelude.{◌≡◌, ◌≢◌, ◌↔◌, ◌++◌, ◌∷◌, ℕ, List, Some, true, IsTrue, MatchOption, option_map};
+ghost use Rattle.bus_captures.{specs.Blocks.{Block as FileBlock, IsBlock, IsNext, BeginsSection, BeginsBlocks, BeginsWith, block_bytes, enhanced_packet, is_interface, is_packet, is_section, kept_by, packet_in, simple_packet}, specs.BlockValues.{block_value, packet_value}, specs.InterfaceValues.{interface_value}};
 
-use crate::format::{Order, number_at, short_at, split_number};
+use crate::format::{Order, number_at, split_number, split_short};
 use crate::interfaces::Described;
 use crate::sort::skip;
 
@@ -60,11 +60,23 @@ pub fn next_block(section: Option<Order>, bytes: &[u8]) -> Option<(Block<'_>, &[
 fn order_at(section: Option<Order>, bytes: &[u8]) -> Option<Order>
     ensures { (b : FileBlock) → BeginsWith section bytes.now b → result ≡ Some b.order }
 {
+    let Some(behind) = behind_section_kind(bytes) else {
+        return section;
+    };
+    match behind.get(4).copied() {
+        Some(0x4d) => Some(Order::Little),
+        Some(0x1a) => Some(Order::Big),
+        _ => None,
+    }
+}
+
+/// What stands behind the kind of a section's header, which is the same in either byte order.
+pub fn behind_section_kind(bytes: &[u8]) -> Option<&[u8]>
+    ensures { MatchOption result (¬ BeginsBlocks bytes.now) (λ behind. bytes.now ≡ 10 ∷ 13 ∷ 13 ∷ 10 ∷ behind.now) }
+{
     match bytes {
-        [0x0a, 0x0d, 0x0d, 0x0a, _, _, _, _, 0x4d, ..] => Some(Order::Little),
-        [0x0a, 0x0d, 0x0d, 0x0a, _, _, _, _, 0x1a, ..] => Some(Order::Big),
-        [0x0a, 0x0d, 0x0d, 0x0a, ..] => None,
-        _ => section,
+        [0x0a, 0x0d, 0x0d, 0x0a, behind @ ..] => Some(behind),
+        _ => None,
     }
 }
 
@@ -124,9 +136,13 @@ impl<'b> Block<'b> {
         requires { is_section (block_value self.now) ≡ true }
         ensures { IsTrue result ↔ BeginsSection (block_value self.now) }
     {
-        self.body.len() >= 16
-            && number_at(self.order, 0, self.body) == MAGIC
-            && short_at(self.order, 4, self.body) == VERSION
+        let Some((magic, left)) = split_number(self.order, self.body) else {
+            return false;
+        };
+        let Some((version, left)) = split_short(self.order, left) else {
+            return false;
+        };
+        magic == MAGIC && version == VERSION && left.len() >= 10
     }
 
     /// What it has of a packet, where this is the first interface of its section.

@@ -1,7 +1,8 @@
 //! Captures of each form.
-ghost use Rattle.std.specs.Prelude.{IfOk};
-ghost use Rattle.bus_captures.specs.Captures.{IsCaptureOf};
+ghost use Rattle.std.specs.Prelude.{IfOk, map};
+ghost use Rattle.bus_captures.{specs.Captures.{IsCaptureOf, IsOtherCapture}, specs.Values.{entry_value}};
 
+use crate::block::behind_section_kind;
 use crate::blocks::read_blocks;
 use crate::capture::Capture;
 use crate::file::read_file;
@@ -18,9 +19,15 @@ pub fn read_capture<'a>(alloc: Global, bytes: &'a [u8]) -> Result<Capture<'a>, A
 {
     match file_format(bytes) {
         Some((order, unit, behind)) => read_file(alloc, order, unit, behind),
-        None => match bytes {
-            [0x0a, 0x0d, 0x0d, 0x0a, ..] => read_blocks(alloc, bytes),
-            _ => read_text(alloc, bytes),
-        },
+        None => read_blocks_or_text(alloc, bytes),
+    }
+}
+
+fn read_blocks_or_text<'a>(alloc: Global, bytes: &'a [u8]) -> Result<Capture<'a>, AllocError>
+    ensures { IfOk result (λ capture. IsOtherCapture bytes.now (map entry_value capture.entries.items) capture.end) }
+{
+    match behind_section_kind(bytes) {
+        Some(_) => read_blocks(alloc, bytes),
+        None => read_text(alloc, bytes),
     }
 }
