@@ -1,5 +1,5 @@
 -- Options of a block, one behind the other.
-use Rattle.std.{proofs.Common.{◌≡◌, ℕ, ◌==◌, ◌++◌, Bool, true, false, List, [], ◌∷◌, refl, ap, sym, ◌∙◌, append_assoc, cond, find, option_map, Option, Some, None}, specs.Prelude.{if◌then◌else◌}, specs.List.{flat_map, All}, specs.Option.{option_or}, proofs.lemmas.List.{flat_map_more}, proofs.lemmas.List.Elements.{All-push}, proofs.lemmas.List.Folds.{find-append}}
+use Rattle.std.{proofs.Common.{◌≡◌, ℕ, arith, ◌==◌, ◌++◌, Bool, true, false, List, [], ◌∷◌, refl, ap, sym, ◌∙◌, append_assoc, cond, find, option_map, Option, Some, None}, specs.Prelude.{if◌then◌else◌}, specs.List.{flat_map, All}, specs.Option.{option_or}, proofs.lemmas.List.{flat_map_more}, proofs.lemmas.List.Elements.{All-push}, proofs.lemmas.List.Folds.{find-append}}
 use Rattle.bus_captures.{specs.declared.format.Order.{Order}, specs.declared.options.Told.{Told}, specs.Options.{OptionValue, IsOption, option_bytes, value_of}, specs.OptionValues.{IsTold}}
 
 -- these are the options up to what is left, and this is told of them
@@ -10,7 +10,7 @@ pub record HaveTold (order : Order) (bytes left : List ℕ) (told : Told) : Type
   pub are : IsTold options told
 
 pub no_option : (order : Order) (bytes : List ℕ) (told : Told) → IsTold [] told → HaveTold order bytes bytes told
-no_option order bytes told are = record { options = []; spelled = refl; lawful = λ k x k_in. absurd (k_in); are = are }
+no_option order bytes told are = record { options = []; spelled = refl; lawful = λ k x none. absurd (omega arith); are = are }
 
 abbrev code_is : ℕ → OptionValue → Bool
 code_is code o = o.code == code
@@ -29,6 +29,11 @@ value_more code options o =
     joined None true = refl
     joined None false = refl
     joined (Some x) b = refl
+
+-- the first of two, as it is
+pub map_or : {A B : Type 0} (f : A → B) (a b : Option A) → option_map f (option_or a b) ≡ option_or (option_map f a) (option_map f b)
+map_or f None b = refl
+map_or f (Some x) b = refl
 
 -- one option more
 pub one_more : (order : Order) (bytes left rest : List ℕ) (old new : Told) (o : OptionValue) → HaveTold order bytes left old → IsOption o → left ≡ option_bytes order o ++ rest

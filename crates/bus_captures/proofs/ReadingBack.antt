@@ -113,7 +113,7 @@ body_back : (ps : List CarriedValue) (entries : List EntryValue) (how : End) →
     → (entries ≡ map carried_entry ps) × (how ≡ end.Whole)
 body_back ps entries how carried few body =
     let many : length entries ≡ length body.read.records = ap length body.read.each ∙ length-map body.read.records (record_entry Nano CookedAgain) in
-    let are = back ps 0 (length entries) body.read.records body.left how carried (omega arith) many body.read.lawful body.read.spelled body.ends in
+    let are = back ps 0 (length entries) body.read.records body.left how carried (omega arith) (let e = many in omega arith) body.read.lawful body.read.spelled body.ends in
     (body.read.each ∙ are.0, are.1)
 
 file_back : (ps : List CarriedValue) (entries : List EntryValue) (how : End) → All IsCarried ps → length ps ≤ 100000

@@ -1,6 +1,6 @@
 -- Blocks that are read one after the other, and the section to which they come.
 use Rattle.std.{proofs.Common.{◌≡◌, ◌≢◌, ℕ, ◌+◌, ◌-◌, ◌<◌, ◌≤◌, ◌==◌, ◌++◌, Bool, List, [], ◌∷◌, length, map, arith, refl, ap, sym, ◌∙◌, append_assoc, drop, subst, true, false, true≢false, inl, inr, cond, reverse, find, option_map, Some, None, Option}, specs.Prelude.{not, ◌||◌}, specs.List.{flat_map, filter, take_while, AllZip}, proofs.lemmas.Bool.Decides.{nat_tests}, proofs.lemmas.List.{append-nil, drop-append-le, flat_map_more, length-append, length-map, map-append, reverse-append}, proofs.lemmas.List.Elements.{filter-append}, proofs.lemmas.List.Sums.{take_while-cons}, proofs.Math.Seq.{drop-length}}
-use Rattle.bus_captures.{specs.declared.section.Section.{Section}, specs.declared.interfaces.Described.{Described}, specs.declared.capture.End.{End}, specs.Blocks.{Block, IsBlock, IsNext, AreRead, BeginsWith, IsBlockFile, IsDescribed, block_bytes, described, described_before, is_interface, is_packet, is_section, last_section, order_behind, packet_entry}, specs.InterfaceValues.{interface_value}, specs.Sections.{IsBefore, IsBehind, Takes, entry_in, own_of}, specs.Values.{EntryValue}, proofs.RecordLaws.{zip_more}}
+use Rattle.bus_captures.{specs.declared.section.Section.{Section}, specs.declared.interfaces.Described.{Described}, specs.declared.capture.End.{End}, specs.Blocks.{Block, IsBlock, IsNext, AreRead, BeginsWith, IsBlockFile, IsDescribed, block_bytes, described, described_before, is_interface, is_packet, is_section, last_section, order_behind, packet_entry}, specs.Interfaces.{InterfaceValue}, specs.InterfaceValues.{interface_value}, specs.Numbers.{number_bytes}, specs.declared.format.Order.{Order}, specs.declared.format.Order.TheVariants.{Little, Big}, specs.Sections.{IsBefore, IsBehind, Takes, entry_in, own_of}, specs.Values.{EntryValue}, proofs.RecordLaws.{zip_more}}
 use Rattle.bus_captures.specs.Blocks as blocks
 
 -- ---- one block more
@@ -17,14 +17,17 @@ module _ (bs : List Block) (b : Block) where
 
   section_begins : is_section b ≡ true → last_section (bs ++ b ∷ []) ≡ []
   section_begins is =
+      let kept = take_while (λ (c : Block). not (is_section c)) (reverse bs) in
+      let first : cond (not (is_section b)) (b ∷ kept) [] ≡ [] = rw is refl in
       ap (λ xs. reverse (take_while (λ (c : Block). not (is_section c)) xs)) turned
-      ∙ ap reverse (take_while-cons (λ (c : Block). not (is_section c)) b (reverse bs) ∙ rw is refl)
+      ∙ ap reverse (take_while-cons (λ (c : Block). not (is_section c)) b (reverse bs) ∙ first)
 
   section_grows : is_section b ≡ false → last_section (bs ++ b ∷ []) ≡ last_section bs ++ b ∷ []
   section_grows other =
       let kept = take_while (λ (c : Block). not (is_section c)) (reverse bs) in
+      let first : cond (not (is_section b)) (b ∷ kept) [] ≡ b ∷ kept = rw other refl in
       ap (λ xs. reverse (take_while (λ (c : Block). not (is_section c)) xs)) turned
-      ∙ ap reverse (take_while-cons (λ (c : Block). not (is_section c)) b (reverse bs) ∙ rw other refl)
+      ∙ ap reverse (take_while-cons (λ (c : Block). not (is_section c)) b (reverse bs) ∙ first)
       ∙ reverse-append (b ∷ []) kept
 
 described_more : (bs : List Block) (b : Block) → is_interface b ≡ true → described (bs ++ b ∷ []) ≡ described bs ++ b ∷ []
@@ -77,10 +80,15 @@ module _ (old new : Section) (bs : List Block) (b : Block) (behind : IsBehind ol
       let many = length-map old.interfaces.items interface_value in
       record {
         order = begins.order ∙ sym (order_of_section bs b begins.kind);
-        before = begins.before ∙ behind.many ∙ sym (ap (λ (ds : List Block). length (described (bs ++ b ∷ [])) - length (described ds)) none ∙ ap length all);
+        before =
+            let one : described_before (bs ++ b ∷ []) ≡ length (described (bs ++ b ∷ [])) - 0 = ap (λ (ds : List Block). length (described (bs ++ b ∷ [])) - length (described ds)) none in
+            let two = ap length all in
+            let first = begins.before in
+            let second = behind.many in
+            omega (arith, one, two, first, second);
         many = ap length begins.all ∙ behind.many ∙ sym (ap length all);
         own = subst (λ (ds : List Block). AllZip IsDescribed (described ds) (own_of new)) (sym none)
-            (subst (λ (is : List blocks.InterfaceValue). AllZip IsDescribed [] is)
+            (subst (λ (is : List InterfaceValue). AllZip IsDescribed [] is)
             (sym (ap (λ (n : ℕ). drop n (map interface_value new.interfaces.items)) begins.before
             ∙ ap (λ (ds : List Described). drop (length old.interfaces.items) (map interface_value ds)) begins.all
             ∙ ap (λ (n : ℕ). drop n items) (sym many) ∙ drop-length items)) tt);
@@ -123,6 +131,19 @@ pub record HasRead (bytes : List ℕ) (entries : List EntryValue) (left : List �
 
 pub nothing_read : (bytes : List ℕ) (section : Section) → IsBefore section → HasRead bytes [] bytes 0 section
 nothing_read bytes section none = record { read = []; spelled = refl; each = blocks.Nothing; many = refl; behind = before_all section none }
+
+four_bytes : (order : Order) (n : ℕ) → length (number_bytes order n) ≡ 4
+four_bytes Little n = refl
+four_bytes Big n = refl
+
+-- what stands behind a block is shorter
+pub shorter : (b : Block) (left rest : List ℕ) → left ≡ block_bytes b ++ rest → length rest < length left
+shorter b left rest is =
+    let first = number_bytes b.order b.kind in
+    let behind = number_bytes b.order (12 + length b.body) ++ b.body ++ number_bytes b.order (12 + length b.body) in
+    let all : length left ≡ length (block_bytes b) + length rest = ap length is ∙ length-append (block_bytes b) rest in
+    let front : length (block_bytes b) ≡ 4 + length behind = length-append first behind ∙ ap (λ (n : ℕ). n + length behind) (four_bytes b.order b.kind) in
+    omega (arith, all, front)
 
 spelled_more : (bytes left rest : List ℕ) (read : List Block) (b : Block) → bytes ≡ flat_map block_bytes read ++ left → left ≡ block_bytes b ++ rest
     → bytes ≡ flat_map block_bytes (read ++ b ∷ []) ++ rest

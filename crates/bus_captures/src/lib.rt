@@ -1,4 +1,4 @@
-//! Captures of a bus: what a capture file of pcap or a text of hex lines holds, packet by packet, and such files that
+//! Captures of a bus: what a capture file (pcap, pcapng) or a text of hex lines holds, packet by packet, and such files that
 //! are written.
 #![tactic(auto)]
 

@@ -14,5 +14,5 @@ returns-in-None c =
       c.split_at.ensures.front_len,
       found.0,
       whole ∙ sym (append_assoc ahead (number_bytes c.args.order c.in-Some.number) c.in-Some.body.now),
-      c.in-None.ensures,
+      sym c.in-None.ensures,
     )
