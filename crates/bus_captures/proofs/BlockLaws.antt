@@ -3,11 +3,11 @@ use Rattle.std.{proofs.Common.{◌≡◌, ℕ, ◌+◌, ◌<◌, ◌^◌, ◌++�
 use Rattle.bus_captures.{specs.declared.format.Order.{Order}, specs.Blocks.{Block, IsBlock, block_bytes}, specs.Numbers.{number_bytes}, proofs.RecordLaws.{four, fronts}}
 
 -- the bytes of a block, and those behind it
-abbrev flat : Order → ℕ → List ℕ → List ℕ → List ℕ
+abbrev pub flat : Order → ℕ → List ℕ → List ℕ → List ℕ
 flat order kind body xs =
     number_bytes order kind ++ (number_bytes order (12 + length body) ++ (body ++ (number_bytes order (12 + length body) ++ xs)))
 
-regrouped : (b : Block) (xs : List ℕ) → block_bytes b ++ xs ≡ flat b.order b.kind b.body xs
+pub regrouped : (b : Block) (xs : List ℕ) → block_bytes b ++ xs ≡ flat b.order b.kind b.body xs
 regrouped b xs = simp append_assoc
 
 one_flat : (order : Order) (k m : ℕ) (bs cs xs ys : List ℕ) → k < 2 ^ 32 → m < 2 ^ 32 → 12 + length bs < 2 ^ 32 → 12 + length cs < 2 ^ 32

@@ -1,6 +1,6 @@
 -- Blocks that are read one after the other, and the section to which they come.
 use Rattle.std.{proofs.Common.{◌≡◌, ◌≢◌, ℕ, ◌+◌, ◌-◌, ◌<◌, ◌≤◌, ◌==◌, ◌++◌, Bool, List, [], ◌∷◌, length, map, arith, refl, ap, sym, ◌∙◌, append_assoc, drop, subst, true, false, true≢false, inl, inr, cond, reverse, find, option_map, Some, None, Option}, specs.Prelude.{not, ◌||◌}, specs.List.{flat_map, filter, take_while, AllZip}, proofs.lemmas.Bool.Decides.{nat_tests}, proofs.lemmas.List.{append-nil, drop-append-le, flat_map_more, length-append, length-map, map-append, reverse-append}, proofs.lemmas.List.Elements.{filter-append}, proofs.lemmas.List.Sums.{take_while-cons}, proofs.Math.Seq.{drop-length}}
-use Rattle.bus_captures.{specs.declared.section.Section.{Section}, specs.declared.interfaces.Described.{Described}, specs.declared.capture.End.{End}, specs.Blocks.{Block, IsBlock, IsNext, AreRead, BeginsWith, IsBlockFile, IsDescribed, block_bytes, described, described_before, is_interface, is_packet, is_section, last_section, order_behind, packet_entry}, specs.Interfaces.{InterfaceValue}, specs.InterfaceValues.{interface_value}, specs.Numbers.{number_bytes}, specs.declared.format.Order.{Order}, specs.declared.format.Order.TheVariants.{Little, Big}, specs.Sections.{IsBefore, IsBehind, Takes, entry_in, own_of}, specs.Values.{EntryValue}, proofs.RecordLaws.{zip_more}}
+use Rattle.bus_captures.{specs.declared.section.Section.{Section}, specs.declared.interfaces.Described.{Described}, specs.declared.capture.End.{End}, specs.Blocks.{Block, IsBlock, IsNext, AreRead, BeginsWith, IsBlockFile, IsDescribed, block_bytes, described, described_before, is_interface, is_packet, is_section, last_section, order_behind, packet_entry}, specs.Interfaces.{InterfaceValue}, specs.InterfaceValues.{interface_value}, specs.Numbers.{number_bytes}, specs.declared.format.Order.{Order}, specs.declared.format.Order.TheVariants.{Little, Big}, specs.Sections.{IsBefore, IsBehind, Takes, entry_in, own_of}, specs.Values.{EntryValue}, proofs.BlockLaws.{regrouped}, proofs.RecordLaws.{zip_more}}
 use Rattle.bus_captures.specs.Blocks as blocks
 
 -- ---- one block more
@@ -139,11 +139,17 @@ four_bytes Big n = refl
 -- what stands behind a block is shorter
 pub shorter : (b : Block) (left rest : List ℕ) → left ≡ block_bytes b ++ rest → length rest < length left
 shorter b left rest is =
-    let first = number_bytes b.order b.kind in
-    let behind = number_bytes b.order (12 + length b.body) ++ b.body ++ number_bytes b.order (12 + length b.body) in
-    let all : length left ≡ length (block_bytes b) + length rest = ap length is ∙ length-append (block_bytes b) rest in
-    let front : length (block_bytes b) ≡ 4 + length behind = length-append first behind ∙ ap (λ (n : ℕ). n + length behind) (four_bytes b.order b.kind) in
-    omega (arith, all, front)
+    let behind = number_bytes b.order (12 + length b.body) ++ (b.body ++ (number_bytes b.order (12 + length b.body) ++ rest)) in
+    let all : length left ≡ length (number_bytes b.order b.kind) + length behind =
+    ap length (is ∙ regrouped b rest) ∙ length-append (number_bytes b.order b.kind) behind in
+    let more : length behind ≡ length (number_bytes b.order (12 + length b.body)) + length (b.body ++ (number_bytes b.order (12 + length b.body) ++ rest)) =
+    length-append (number_bytes b.order (12 + length b.body)) _ in
+    let body : length (b.body ++ (number_bytes b.order (12 + length b.body) ++ rest)) ≡ length b.body + length (number_bytes b.order (12 + length b.body) ++ rest) =
+    length-append b.body _ in
+    let last : length (number_bytes b.order (12 + length b.body) ++ rest) ≡ length (number_bytes b.order (12 + length b.body)) + length rest =
+    length-append (number_bytes b.order (12 + length b.body)) rest in
+    let four = four_bytes b.order b.kind in
+    omega (arith, all, more, body, last, four)
 
 spelled_more : (bytes left rest : List ℕ) (read : List Block) (b : Block) → bytes ≡ flat_map block_bytes read ++ left → left ≡ block_bytes b ++ rest
     → bytes ≡ flat_map block_bytes (read ++ b ∷ []) ++ rest
