@@ -1,5 +1,5 @@
 -- Blocks of a file, one behind the other.
-use Rattle.std.{proofs.Common.{◌≡◌, ℕ, ◌+◌, ◌<◌, ◌^◌, ◌++◌, List, length, arith, sym, ◌∙◌, append_assoc, subst}}
+use Rattle.std.proofs.Common.{◌≡◌, ℕ, ◌+◌, ◌<◌, ◌^◌, ◌++◌, List, length, arith, sym, ◌∙◌, append_assoc, subst}
 use Rattle.bus_captures.{specs.declared.format.Order.{Order}, specs.Blocks.{Block, IsBlock, block_bytes}, specs.Numbers.{number_bytes}, proofs.RecordLaws.{four, fronts}}
 
 -- the bytes of a block, and those behind it

@@ -1,5 +1,5 @@
 -- Options of a block, one behind the other.
-use Rattle.std.{proofs.Common.{◌≡◌, ℕ, arith, ◌==◌, ◌++◌, Bool, true, false, List, [], ◌∷◌, refl, ap, sym, ◌∙◌, append_assoc, cond, find, option_map, Option, Some, None}, specs.Prelude.{if◌then◌else◌}, specs.List.{flat_map, All}, specs.Option.{option_or}, proofs.lemmas.List.{flat_map_more}, proofs.lemmas.List.Elements.{All-push}, proofs.lemmas.List.Folds.{find-append}}
+use Rattle.std.{proofs.Common.{◌≡◌, ℕ, ◌==◌, ◌++◌, Bool, true, false, List, [], ◌∷◌, refl, ap, sym, ◌∙◌, append_assoc, cond, find, option_map, Option, Some, None}, specs.Prelude.{if◌then◌else◌}, specs.List.{flat_map, All}, specs.Option.{option_or}, proofs.lemmas.List.{flat_map_more}, proofs.lemmas.List.Elements.{All-push}, proofs.lemmas.List.Folds.{find-append}}
 use Rattle.bus_captures.{specs.declared.format.Order.{Order}, specs.declared.options.Told.{Told}, specs.Options.{OptionValue, IsOption, option_bytes, value_of}, specs.OptionValues.{IsTold}}
 
 -- these are the options up to what is left, and this is told of them
@@ -8,9 +8,6 @@ pub record HaveTold (order : Order) (bytes left : List ℕ) (told : Told) : Type
   pub spelled : bytes ≡ flat_map (option_bytes order) options ++ left
   pub lawful : All IsOption options
   pub are : IsTold options told
-
-pub no_option : (order : Order) (bytes : List ℕ) (told : Told) → IsTold [] told → HaveTold order bytes bytes told
-no_option order bytes told are = record { options = []; spelled = refl; lawful = λ k x none. absurd (omega arith); are = are }
 
 abbrev code_is : ℕ → OptionValue → Bool
 code_is code o = o.code == code

@@ -1,6 +1,6 @@
 -- Blocks that are read one after the other, and the section to which they come.
-use Rattle.std.{proofs.Common.{◌≡◌, ◌≢◌, ℕ, ◌+◌, ◌-◌, ◌<◌, ◌≤◌, ◌==◌, ◌++◌, Bool, List, [], ◌∷◌, length, map, arith, refl, ap, sym, ◌∙◌, append_assoc, drop, subst, true, false, true≢false, inl, inr, cond, reverse, find, option_map, Some, None, Option}, specs.Prelude.{not, ◌||◌}, specs.List.{flat_map, filter, take_while, AllZip}, proofs.lemmas.Bool.Decides.{nat_tests}, proofs.lemmas.List.{append-nil, drop-append-le, flat_map_more, length-append, length-map, map-append, reverse-append}, proofs.lemmas.List.Elements.{filter-append}, proofs.lemmas.List.Sums.{take_while-cons}, proofs.Math.Seq.{drop-length}}
-use Rattle.bus_captures.{specs.declared.section.Section.{Section}, specs.declared.interfaces.Described.{Described}, specs.declared.capture.End.{End}, specs.Blocks.{Block, IsBlock, IsNext, AreRead, BeginsWith, IsBlockFile, IsDescribed, block_bytes, described, described_before, is_interface, is_packet, is_section, last_section, order_behind, packet_entry}, specs.Interfaces.{InterfaceValue}, specs.InterfaceValues.{interface_value}, specs.Numbers.{number_bytes}, specs.declared.format.Order.{Order}, specs.declared.format.Order.TheVariants.{Little, Big}, specs.Sections.{IsBefore, IsBehind, Takes, entry_in, own_of}, specs.Values.{EntryValue}, proofs.BlockLaws.{regrouped}, proofs.RecordLaws.{zip_more}}
+use Rattle.std.{proofs.Common.{◌≡◌, ℕ, ◌+◌, ◌-◌, ◌<◌, ◌==◌, ◌++◌, List, [], ◌∷◌, length, map, arith, refl, ap, sym, ◌∙◌, append_assoc, drop, subst, true, false, inl, inr, cond, reverse, find, option_map, Some, None}, specs.Prelude.{not, ◌||◌}, specs.List.{flat_map, filter, take_while, AllZip}, proofs.lemmas.Bool.Decides.{nat_tests}, proofs.lemmas.List.{append-nil, drop-append-le, flat_map_more, length-append, length-map, map-append, reverse-append}, proofs.lemmas.List.Elements.{filter-append}, proofs.lemmas.List.Sums.{take_while-cons}, proofs.Math.Seq.{drop-length}}
+use Rattle.bus_captures.{specs.declared.section.Section.{Section}, specs.declared.interfaces.Described.{Described}, specs.Blocks.{Block, IsBlock, IsNext, AreRead, IsDescribed, block_bytes, described, described_before, is_interface, is_packet, is_section, last_section, order_behind, packet_entry}, specs.Interfaces.{InterfaceValue}, specs.InterfaceValues.{interface_value}, specs.Numbers.{number_bytes}, specs.declared.format.Order.{Order}, specs.declared.format.Order.TheVariants.{Little, Big}, specs.Sections.{IsBefore, IsBehind, Takes, entry_in, own_of}, specs.Values.{EntryValue}, proofs.BlockLaws.{regrouped}, proofs.RecordLaws.{zip_more}}
 use Rattle.bus_captures.specs.Blocks as blocks
 
 -- ---- one block more
@@ -177,8 +177,3 @@ packet_read bytes entries left rest place section b has lawful next is packet = 
   many = ap (λ (n : ℕ). n + 1) has.many ∙ sym (length-append has.read (b ∷ []));
   behind = packet_behind section section has.read b has.behind packet;
 }
-
-pub file_read : (bytes : List ℕ) (entries : List EntryValue) (left : List ℕ) (place : ℕ) (section : Section) (how : End) (has : HasRead bytes entries left place section)
-    → blocks.EndsBlocks has.read (length entries) left how → IsBlockFile bytes entries how
-file_read bytes entries left place section how has ends =
-    record { blocks = has.read; left = left; spelled = has.spelled; each = has.each; ends = ends }

@@ -1,5 +1,5 @@
 -- Interfaces, as blocks of a file describe them.
-use Rattle.std.specs.Prelude.{◌≡◌, ◌≤◌, ℕ, ◌+◌, ◌-◌, ◌*◌, ◌/◌, ◌%◌, ◌^◌, ◌==◌, nat_lt, nat_le, ◌&&◌, List, [], ◌∷◌, drop, length, Option, None, Some, if◌then◌else◌}
+use Rattle.std.specs.Prelude.{◌≡◌, ◌≤◌, ℕ, ◌-◌, ◌*◌, ◌/◌, ◌%◌, ◌^◌, nat_le, ◌&&◌, List, [], ◌∷◌, drop, length, Option, None, Some, if◌then◌else◌}
 use Rattle.bus_captures.{specs.declared.format.Order.{Order}, specs.Numbers.{number_at, short_at}, specs.Options.{OptionValue, AreOptions, value_of}, specs.Values.{TimeValue, Unknown, At}}
 
 -- The number of its link type, the most bytes that are kept of a packet (0: all), its name, and how many of a

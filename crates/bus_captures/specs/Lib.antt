@@ -1,4 +1,5 @@
 pub mod Values
+pub mod Words
 pub mod Numbers
 pub mod Links
 pub mod Frames

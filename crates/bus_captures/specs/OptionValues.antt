@@ -1,5 +1,5 @@
 -- Options, as the code holds them.
-use Rattle.std.specs.Prelude.{◌≡◌, ℕ, List, Option, option_map}
+use Rattle.std.specs.Prelude.{◌≡◌, ℕ, List, option_map}
 use Rattle.bus_captures.{specs.declared.format.Order.{Order}, specs.declared.options.FileOption.{FileOption}, specs.declared.options.Told.{Told}, specs.Options.{OptionValue, AreOptions, value_of}}
 
 abbrev pub option_value : FileOption → OptionValue

@@ -1,5 +1,5 @@
 -- The section to which reading has come, and what a block changes.
-use Rattle.std.{specs.Prelude.{◌≡◌, ◌≤◌, ◌⊎◌, ℕ, true, false, List, [], ◌∷◌, ◌++◌, length, map, drop, Option, None, Some, slice_get}, specs.List.{AllZip}}
+use Rattle.std.{specs.Prelude.{◌≡◌, ◌≤◌, ◌⊎◌, ℕ, true, false, List, [], ◌∷◌, ◌++◌, length, map, drop, None, Some}, specs.List.{AllZip}}
 use Rattle.bus_captures.{specs.declared.section.Section.{Section}, specs.declared.interfaces.Described.{Described}, specs.Blocks.{Block, IsDescribed, is_section, is_interface, order_behind, described, described_before, last_section, packet_entry}, specs.Interfaces.{InterfaceValue}, specs.InterfaceValues.{interface_value}, specs.Values.{EntryValue}}
 
 -- the interfaces of the section

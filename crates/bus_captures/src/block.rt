@@ -8,12 +8,16 @@ use crate::sort::skip;
 
 /// The kinds of blocks that are read.
 const SECTION: u32 = 0x0a0d_0d0a;
+
 const INTERFACE: u32 = 1;
+
 const SIMPLE: u32 = 3;
+
 const ENHANCED: u32 = 6;
 
 /// The number by which a section's header tells its byte order, and the version that is read.
 const MAGIC: u32 = 0x1a2b_3c4d;
+
 const VERSION: u16 = 1;
 
 /// How many bytes of a block are not its body: its kind, and twice its length.
@@ -21,6 +25,7 @@ const AROUND: usize = 12;
 
 /// How many bytes stand before the packet in an enhanced block, and in a simple one.
 const BEFORE_ENHANCED: usize = 20;
+
 const BEFORE_SIMPLE: usize = 4;
 
 /// One block of a file.

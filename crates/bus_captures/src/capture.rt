@@ -1,5 +1,6 @@
 //! What a capture holds.
 ghost use Rattle.std.specs.Prelude.{◌≡◌};
+ghost use Rattle.bus_captures.specs.Words.{unread_word};
 
 use std::error::Error;
 use std::fmt;
@@ -62,6 +63,21 @@ pub enum Unread {
     Interface,
     /// Its block is shorter than what it should hold.
     Block,
+}
+
+impl Unread {
+    /// A word for it: `cut`, `link-header`, `link`, `interface`, or `block`.
+    pub fn word(self) -> &'static str
+        ensures { result.now ≡ unread_word self }
+    {
+        match self {
+            Unread::Cut => "cut",
+            Unread::LinkHeader => "link-header",
+            Unread::Link(_) => "link",
+            Unread::Interface => "interface",
+            Unread::Block => "block",
+        }
+    }
 }
 
 /// One thing that was captured.

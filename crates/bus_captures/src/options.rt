@@ -1,13 +1,14 @@
 //! Options of a block.
-ghost use Rattle.std.specs.Prelude.{◌≡◌, ◌<◌, ◌+◌, ◌%◌, ◌==◌, ◌++◌, List, ℕ, None, Some, MatchOption, option_map, if◌then◌else◌};
-ghost use Rattle.std.specs.Option.{option_or};
+ghost use Rattle.std.{specs.Prelude.{◌≡◌, ◌<◌, ◌+◌, ◌%◌, ◌==◌, ◌++◌, List, ℕ, None, Some, MatchOption, option_map, if◌then◌else◌}, specs.Option.{option_or}};
 ghost use Rattle.bus_captures.{specs.Options.{IsOption, HasNoOption, option_bytes}, specs.OptionValues.{option_value, AreTold}};
 
 use crate::format::{Order, split_short};
 
 /// The options that are read: the name of an interface, the resolution of its times, and how far they are shifted.
 const NAME: u16 = 2;
+
 const RESOLUTION: u16 = 9;
+
 const SHIFT: u16 = 14;
 
 /// One option: its code, its value, and what fills it up to a multiple of four bytes.

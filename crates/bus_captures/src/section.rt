@@ -76,8 +76,12 @@ impl<'a> Section<'a> {
         };
         let time = time_by(described.units, packet.stamp);
         let number = number_of(self.before, packet.interface);
-        frame_under(described.link, packet.original, packet.kept)
-            .entry(alloc, time, Some(number), described.name)
+        frame_under(described.link, packet.original, packet.kept).entry(
+            alloc,
+            time,
+            Some(number),
+            described.name,
+        )
     }
 }
 

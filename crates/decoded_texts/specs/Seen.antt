@@ -1,7 +1,7 @@
 -- The lines that tell what became of the entries of a capture.
 use Rattle.std.{specs.Prelude.{◌≡◌, ℕ, List, [], ◌++◌, codes, Option, None, Some}, specs.Fmt.{decimal}}
 use Rattle.hex.specs.Hex.{encode_lower}
-use Rattle.bus_captures.{specs.declared.capture.Direction.{Direction}, specs.declared.capture.Unread.{Unread}}
+use Rattle.bus_captures.{specs.declared.capture.Direction.{Direction}, specs.Words.{unread_word}, specs.declared.capture.Unread.{Unread}}
 use Rattle.mctp_transport.{specs.Causes.{cause_code}, specs.PacketValues.{PacketValue}, specs.Hearing.{Answer, Whole, Held, Dropped}}
 use Rattle.heard_captures.specs.Seen.{Seen, Fed, NoPacket, Told, Other, NotRead}
 use Rattle.plan_values.specs.declared.plan.Plan.{Plan}
@@ -39,11 +39,11 @@ link_words number = codes "link " ++ (decimal number ++ codes " (read are 113, 1
 
 -- why something isn't read
 abbrev pub unread_words : Unread → List ℕ
-unread_words unread.Cut = codes "cut"
-unread_words unread.LinkHeader = codes "link-header"
 unread_words (unread.Link number) = link_words number
-unread_words unread.Interface = codes "interface"
-unread_words unread.Block = codes "block"
+unread_words unread.Cut = unread_word unread.Cut
+unread_words unread.LinkHeader = unread_word unread.LinkHeader
+unread_words unread.Interface = unread_word unread.Interface
+unread_words unread.Block = unread_word unread.Block
 
 -- behind a packet that ends a message stands what the message says
 abbrev pub IsSaidOf : Answer → List ℕ → Type 0

@@ -211,11 +211,8 @@ fn unread_words(alloc: Global, why: Unread) -> Result<String, AllocError>
     ensures { IfOk result (λ words. string_bytes words ≡ unread_words why) }
 {
     match why {
-        Unread::Cut => String::from_str(alloc, "cut"),
-        Unread::LinkHeader => String::from_str(alloc, "link-header"),
         Unread::Link(number) => link_words(alloc, number),
-        Unread::Interface => String::from_str(alloc, "interface"),
-        Unread::Block => String::from_str(alloc, "block"),
+        _ => String::from_str(alloc, why.word()),
     }
 }
 

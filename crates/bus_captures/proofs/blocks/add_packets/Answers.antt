@@ -1,4 +1,4 @@
-use Rattle.std.{proofs.Common.{◌≡◌, ◌+◌, ◌≤◌, ◌++◌, ◌∷◌, [], length, map, ap, ◌∙◌, subst, sym, arith}, proofs.lemmas.List.{map-append}}
+use Rattle.std.{proofs.Common.{◌≡◌, ◌+◌, ◌++◌, ◌∷◌, [], map, ap, ◌∙◌, subst, sym, arith}, proofs.lemmas.List.{map-append}}
 use Rattle.bus_captures.{specs.BlockValues.{block_value}, specs.Sections.{entry_in}, specs.Values.{entry_value}, proofs.SectionLaws.{HasRead, nothing_read, block_taken, packet_read, shorter}}
 use Rattle.bus_captures.proofs.blocks.add_packets.Goals as goal
 
