@@ -1,6 +1,6 @@
 -- Records of a file, one behind the other.
-use Rattle.std.{proofs.Common.{◌≡◌, ℕ, ◌<◌, ◌^◌, ◌/◌, ◌%◌, ◌++◌, List, [], ◌∷◌, length, arith, refl, ap, sym, ◌∙◌, append_assoc, drop}, specs.List.{flat_map, AllZip, All}, proofs.lemmas.List.{flat_map_more, map-append}, proofs.lemmas.List.Elements.{All-push, All-tail}}
-use Rattle.bus_captures.{specs.declared.format.Order.{Order}, specs.declared.format.Order.TheVariants.{Little, Big}, specs.declared.format.TimeUnit.{TimeUnit}, specs.declared.link.Link.{Link}, specs.Files.{FileRecord, IsRecord, record_bytes, record_entry, AreRead}, specs.Numbers.{number_bytes}, specs.Values.{EntryValue}}
+use Rattle.std.{proofs.Common.{◌≡◌, ℕ, ◌<◌, ◌^◌, ◌/◌, ◌%◌, ◌++◌, List, [], ◌∷◌, length, arith, refl, ap, sym, ◌∙◌, append_assoc, drop}, specs.List.{flat_map, AllZip, All}, proofs.lemmas.List.{flat_map_more}, proofs.lemmas.List.Elements.{All-push, All-tail}}
+use Rattle.bus_captures.{specs.declared.format.Order.{Order}, specs.declared.format.Order.TheVariants.{Little, Big}, specs.declared.format.TimeUnit.{TimeUnit}, specs.declared.link.Link.{Link}, specs.Files.{FileRecord, IsRecord, record_bytes, IsEntryOf, AreRead}, specs.Numbers.{number_bytes}, specs.Values.{EntryValue}}
 
 pub zip_more : {A B : Type 0} (R : A → B → Type 0) (xs : List A) (ys : List B) (x : A) (y : B) → AllZip R xs ys → R x y → AllZip R (xs ++ x ∷ []) (ys ++ y ∷ [])
 zip_more R [] [] x y all is = (is, tt)
@@ -9,10 +9,10 @@ zip_more R (a ∷ xs) [] x y all is = absurd all
 zip_more R (a ∷ xs) (b ∷ ys) x y all is = (all.0, zip_more R xs ys x y all.1 is)
 
 -- one more record is read
-pub one_more : (order : Order) (unit : TimeUnit) (link : Link) (bytes : List ℕ) (entries : List EntryValue) (left rest : List ℕ) (r : FileRecord)
-    → AreRead order unit link bytes entries left → IsRecord r → left ≡ record_bytes order r ++ rest
-    → AreRead order unit link bytes (entries ++ record_entry unit link r ∷ []) rest
-one_more order unit link bytes entries left rest r before lawful front =
+pub one_more : (order : Order) (unit : TimeUnit) (link : Link) (bytes : List ℕ) (entries : List EntryValue) (left rest : List ℕ) (r : FileRecord) (e : EntryValue)
+    → AreRead order unit link bytes entries left → IsRecord r → left ≡ record_bytes order r ++ rest → IsEntryOf unit link r e
+    → AreRead order unit link bytes (entries ++ e ∷ []) rest
+one_more order unit link bytes entries left rest r e before lawful front is =
     let f = record_bytes order in
     record {
       records = before.records ++ r ∷ [];
@@ -21,7 +21,7 @@ one_more order unit link bytes entries left rest r before lawful front =
           ∙ sym (append_assoc (flat_map f before.records) (f r) rest)
           ∙ ap (λ xs. xs ++ rest) (flat_map_more f [] before.records r);
       lawful = All-push IsRecord before.records r before.lawful lawful;
-      each = ap (λ es. es ++ record_entry unit link r ∷ []) before.each ∙ sym (map-append (record_entry unit link) before.records (r ∷ []));
+      each = zip_more (IsEntryOf unit link) before.records entries r e before.each is;
     }
 
 -- a number of four bytes is known by them

@@ -1,6 +1,6 @@
 -- Blocks that are read one after the other, and the section to which they come.
 use Rattle.std.{proofs.Common.{◌≡◌, ℕ, ◌+◌, ◌-◌, ◌<◌, ◌==◌, ◌++◌, List, [], ◌∷◌, length, map, arith, refl, ap, sym, ◌∙◌, append_assoc, drop, subst, true, false, inl, inr, cond, reverse, find, option_map, Some, None}, specs.Prelude.{not, ◌||◌}, specs.List.{flat_map, filter, take_while, AllZip}, proofs.lemmas.Bool.Decides.{nat_tests}, proofs.lemmas.List.{append-nil, drop-append-le, flat_map_more, length-append, length-map, map-append, reverse-append}, proofs.lemmas.List.Elements.{filter-append}, proofs.lemmas.List.Sums.{take_while-cons}, proofs.Math.Seq.{drop-length}}
-use Rattle.bus_captures.{specs.declared.section.Section.{Section}, specs.declared.interfaces.Described.{Described}, specs.Blocks.{Block, IsBlock, IsNext, AreRead, IsDescribed, block_bytes, described, described_before, is_interface, is_packet, is_section, last_section, order_behind, packet_entry}, specs.Interfaces.{InterfaceValue}, specs.InterfaceValues.{interface_value}, specs.Numbers.{number_bytes}, specs.declared.format.Order.{Order}, specs.declared.format.Order.TheVariants.{Little, Big}, specs.Sections.{IsBefore, IsBehind, Takes, entry_in, own_of}, specs.Values.{EntryValue}, proofs.BlockLaws.{regrouped}, proofs.RecordLaws.{zip_more}}
+use Rattle.bus_captures.{specs.declared.section.Section.{Section}, specs.declared.interfaces.Described.{Described}, specs.Blocks.{Block, IsBlock, IsNext, AreRead, IsDescribed, block_bytes, described, described_before, is_interface, is_packet, is_section, last_section, order_behind, IsPacketEntry}, specs.Interfaces.{InterfaceValue}, specs.InterfaceValues.{interface_value}, specs.Numbers.{number_bytes}, specs.declared.format.Order.{Order}, specs.declared.format.Order.TheVariants.{Little, Big}, specs.Sections.{IsBefore, IsBehind, Takes, IsEntryIn, own_of}, specs.Values.{EntryValue}, proofs.BlockLaws.{regrouped}, proofs.RecordLaws.{zip_more}}
 use Rattle.bus_captures.specs.Blocks as blocks
 
 -- ---- one block more
@@ -167,13 +167,13 @@ block_taken bytes entries left rest place old new b has lawful next is other tak
   behind = taken_behind old new has.read b has.behind takes;
 }
 
-pub packet_read : (bytes : List ℕ) (entries : List EntryValue) (left rest : List ℕ) (place : ℕ) (section : Section) (b : Block) → HasRead bytes entries left place section
-    → IsBlock b → IsNext section.order b → left ≡ block_bytes b ++ rest → is_packet b ≡ true → HasRead bytes (entries ++ entry_in section b ∷ []) rest (place + 1) section
-packet_read bytes entries left rest place section b has lawful next is packet = record {
+pub packet_read : (bytes : List ℕ) (entries : List EntryValue) (left rest : List ℕ) (place : ℕ) (section : Section) (b : Block) (e : EntryValue) → HasRead bytes entries left place section
+    → IsBlock b → IsNext section.order b → left ≡ block_bytes b ++ rest → is_packet b ≡ true → IsEntryIn section b e → HasRead bytes (entries ++ e ∷ []) rest (place + 1) section
+packet_read bytes entries left rest place section b e has lawful next is packet entry = record {
   read = has.read ++ b ∷ [];
   spelled = spelled_more bytes left rest has.read b has.spelled is;
-  each = blocks.Packet has.read entries b (entry_in section b) has.each lawful (subst (λ o. IsNext o b) has.behind.order next) packet
-      (own_of section, has.behind.own, ap (λ (n : ℕ). packet_entry n (own_of section) b) has.behind.before);
+  each = blocks.Packet has.read entries b e has.each lawful (subst (λ o. IsNext o b) has.behind.order next) packet
+      (own_of section, has.behind.own, subst (λ (n : ℕ). IsPacketEntry n (own_of section) b e) has.behind.before entry);
   many = ap (λ (n : ℕ). n + 1) has.many ∙ sym (length-append has.read (b ∷ []));
   behind = packet_behind section section has.read b has.behind packet;
 }

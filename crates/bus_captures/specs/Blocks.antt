@@ -1,6 +1,6 @@
 -- Capture files of blocks (pcapng): sections, each of which begins with a header and describes its interfaces.
 use Rattle.std.{specs.Prelude.{◌≡◌, ◌≢◌, ◌⊎◌, ℕ, ◌+◌, ◌-◌, ◌*◌, ◌%◌, ◌<◌, ◌≤◌, ◌^◌, ◌==◌, ◌||◌, not, nat_le, min, Bool, true, false, List, [], ◌∷◌, ◌++◌, length, take, drop, reverse, Option, None, Some, find, option_map, slice_get, if◌then◌else◌}, specs.List.{flat_map, filter, take_while, AllZip}}
-use Rattle.bus_captures.{specs.declared.capture.End.{End}, specs.declared.format.Order.{Order}, specs.Frames.{unread, frame_under, entry_of}, specs.Interfaces.{InterfaceValue, Describes, time_by}, specs.Numbers.{number_bytes, short_bytes, number_at}, specs.Values.{most_entries, EntryValue, Unknown}}
+use Rattle.bus_captures.{specs.declared.capture.End.{End}, specs.declared.format.Order.{Order}, specs.Frames.{FrameValue, unread, IsFrameUnder, entry_of}, specs.Interfaces.{InterfaceValue, Describes, time_by}, specs.Numbers.{number_bytes, short_bytes, number_at}, specs.Values.{most_entries, EntryValue, Unknown}}
 use Rattle.bus_captures.specs.declared.capture.CaptureFault.TheVariants as fault
 use Rattle.bus_captures.specs.declared.capture.End.TheVariants as end
 use Rattle.bus_captures.specs.declared.capture.Unread.TheVariants as cause
@@ -115,19 +115,19 @@ packet_in first b = if is_enhanced b then enhanced_packet b else simple_packet f
 abbrev pub number_of : ℕ → ℕ → ℕ
 number_of before interface = min (before + interface) (2 ^ 32 - 1)
 
--- a packet on an interface, of which so many stand in earlier sections
-abbrev pub entry_on : ℕ → PacketValue → Option InterfaceValue → EntryValue
-entry_on before p None = entry_of Unknown None None (unread cause.Interface p.kept)
-entry_on before p (Some i) = entry_of (time_by i.units p.stamp) (Some (number_of before p.interface)) i.name
-    (frame_under i.link p.original p.kept)
+-- a packet on an interface is this entry, where so many interfaces stand in earlier sections
+abbrev pub IsEntryOn : ℕ → PacketValue → Option InterfaceValue → EntryValue → Type 0
+IsEntryOn before p None e = e ≡ entry_of Unknown None None (unread cause.Interface p.kept)
+IsEntryOn before p (Some i) e = (f : FrameValue) × IsFrameUnder i.link p.original p.kept f
+    × (e ≡ entry_of (time_by i.units p.stamp) (Some (number_of before p.interface)) i.name f)
 
--- what a block has of a packet, as an entry, where these are the interfaces of its section
-abbrev pub entry_by : ℕ → List InterfaceValue → Block → Option PacketValue → EntryValue
-entry_by before own b None = entry_of Unknown None None (unread cause.Block b.body)
-entry_by before own b (Some p) = entry_on before p (slice_get own p.interface)
+-- what a block has of a packet is this entry, where these are the interfaces of its section
+abbrev pub IsEntryBy : ℕ → List InterfaceValue → Block → Option PacketValue → EntryValue → Type 0
+IsEntryBy before own b None e = e ≡ entry_of Unknown None None (unread cause.Block b.body)
+IsEntryBy before own b (Some p) e = IsEntryOn before p (slice_get own p.interface) e
 
-abbrev pub packet_entry : ℕ → List InterfaceValue → Block → EntryValue
-packet_entry before own b = entry_by before own b (packet_in (slice_get own 0) b)
+abbrev pub IsPacketEntry : ℕ → List InterfaceValue → Block → EntryValue → Type 0
+IsPacketEntry before own b e = IsEntryBy before own b (packet_in (slice_get own 0) b) e
 
 abbrev pub IsDescribed : Block → InterfaceValue → Type 0
 IsDescribed b i = Describes b.order b.body i
@@ -135,7 +135,7 @@ IsDescribed b i = Describes b.order b.body i
 -- the packet of a block that stands behind these is this entry
 abbrev pub IsEntryOf : List Block → Block → EntryValue → Type 0
 IsEntryOf blocks b e = (own : List InterfaceValue) × AllZip IsDescribed (described (last_section blocks)) own
-    × (e ≡ packet_entry (described_before blocks) own b)
+    × IsPacketEntry (described_before blocks) own b e
 
 -- The packets of these blocks are these entries, one after the other. Other blocks have none.
 pub data AreRead : List Block → List EntryValue → Type 0 where

@@ -1,6 +1,6 @@
 -- Capture files: a header and records, one behind the other (libpcap's format, version 2.4).
-use Rattle.std.{specs.Prelude.{◌≡◌, ◌≢◌, ◌⊎◌, ℕ, ◌+◌, ◌*◌, ◌<◌, ◌^◌, List, [], ◌++◌, length, map, All, None}, specs.List.{flat_map}}
-use Rattle.bus_captures.{specs.declared.capture.CaptureFault.{CaptureFault}, specs.declared.capture.End.{End}, specs.declared.format.Order.{Order}, specs.declared.format.TimeUnit.{TimeUnit}, specs.declared.link.Link.{Link}, specs.Frames.{frame_of, entry_of}, specs.Links.{link_number, link_of}, specs.Numbers.{number_bytes}, specs.Values.{most_entries, EntryValue, At}}
+use Rattle.std.{specs.Prelude.{◌≡◌, ◌≢◌, ◌⊎◌, ℕ, ◌+◌, ◌*◌, ◌<◌, ◌^◌, List, [], ◌++◌, length, All, None}, specs.List.{flat_map, AllZip}}
+use Rattle.bus_captures.{specs.declared.capture.CaptureFault.{CaptureFault}, specs.declared.capture.End.{End}, specs.declared.format.Order.{Order}, specs.declared.format.TimeUnit.{TimeUnit}, specs.declared.link.Link.{Link}, specs.Frames.{FrameValue, IsFrameOf, entry_of}, specs.Links.{link_number, link_of}, specs.Numbers.{number_bytes}, specs.Values.{most_entries, EntryValue, At}}
 use Rattle.bus_captures.specs.declared.capture.CaptureFault.TheVariants as fault
 use Rattle.bus_captures.specs.declared.capture.End.TheVariants as end
 use Rattle.bus_captures.specs.declared.format.TimeUnit.TheVariants as unit
@@ -38,10 +38,10 @@ record_bytes order r =
 abbrev pub Begins : Order → List ℕ → FileRecord → Type 0
 Begins order bytes r = IsRecord r × ((rest : List ℕ) × (bytes ≡ record_bytes order r ++ rest))
 
--- the record as an entry
-abbrev pub record_entry : TimeUnit → Link → FileRecord → EntryValue
-record_entry unit link r =
-    entry_of (At r.seconds (nanoseconds unit r.fraction)) None None (frame_of link r.original r.bytes)
+-- the record is this entry
+abbrev pub IsEntryOf : TimeUnit → Link → FileRecord → EntryValue → Type 0
+IsEntryOf unit link r e = (f : FrameValue) × IsFrameOf link r.original r.bytes f
+    × (e ≡ entry_of (At r.seconds (nanoseconds unit r.fraction)) None None f)
 
 -- how reading ends behind so many records, where these bytes are left
 abbrev pub EndsFile : Order → ℕ → List ℕ → End → Type 0
@@ -56,7 +56,7 @@ pub record AreRead (order : Order) (unit : TimeUnit) (link : Link) (bytes : List
   pub records : List FileRecord
   pub spelled : bytes ≡ flat_map (record_bytes order) records ++ left
   pub lawful : All IsRecord records
-  pub each : entries ≡ map (record_entry unit link) records
+  pub each : AllZip (IsEntryOf unit link) records entries
 
 -- The bytes are these entries, a record each, up to what is left, and reading ends there so.
 pub record IsBody (order : Order) (unit : TimeUnit) (link : Link) (bytes : List ℕ) (entries : List EntryValue)

@@ -1,6 +1,6 @@
 -- What was captured of one thing that went over a bus, by its link type.
-use Rattle.std.specs.Prelude.{ℕ, ◌==◌, nat_lt, not, List, [], drop, length, Option, None, Some, if◌then◌else◌}
-use Rattle.bus_captures.{specs.declared.capture.Direction.{Direction}, specs.declared.capture.Kind.{Kind}, specs.declared.capture.Unread.{Unread}, specs.declared.link.Link.{Link}, specs.Links.{link_length, link_of, direction_of, index_of, kind_in}, specs.Values.{TimeValue, EntryValue}}
+use Rattle.std.specs.Prelude.{◌≡◌, ◌≢◌, ◌⊎◌, ◌<◌, ◌≤◌, ℕ, List, length, Option, None, Some}
+use Rattle.bus_captures.{specs.declared.capture.Direction.{Direction}, specs.declared.capture.Kind.{Kind}, specs.declared.capture.Unread.{Unread}, specs.declared.link.Link.{Link}, specs.Links.{link_length, link_of, direction_of, index_of, IsReadOf}, specs.Values.{TimeValue, EntryValue}}
 use Rattle.bus_captures.specs.declared.capture.Kind.TheVariants as kind
 use Rattle.bus_captures.specs.declared.capture.Unread.TheVariants as cause
 
@@ -16,29 +16,26 @@ abbrev pub unread : Unread → List ℕ → FrameValue
 unread why kept = record { direction = None; index = None; kind = kind.Unread why; bytes = kept }
 
 -- what was kept whole, with its link header
-abbrev pub frame_read : Link → List ℕ → FrameValue
-frame_read link kept = record {
-  direction = direction_of link kept;
-  index = index_of link kept;
-  kind = kind_in link kept;
-  bytes = drop (link_length link) kept;
-}
+pub record IsFrameRead (link : Link) (kept : List ℕ) (f : FrameValue) : Type 0 where
+  pub direction : f.direction ≡ direction_of link kept
+  pub index : f.index ≡ index_of link kept
+  pub read : IsReadOf link kept f.kind f.bytes
 
 -- What was kept of something that had so many bytes: it is read where it was kept whole and has a link header.
-abbrev pub frame_of : Link → ℕ → List ℕ → FrameValue
-frame_of link original kept =
-    if not (length kept == original) then unread cause.Cut kept
-    else if nat_lt (length kept) (link_length link) then unread cause.LinkHeader kept
-    else frame_read link kept
+abbrev pub IsFrameOf : Link → ℕ → List ℕ → FrameValue → Type 0
+IsFrameOf link original kept f =
+    ((length kept ≢ original) × (f ≡ unread cause.Cut kept))
+    ⊎ (((length kept ≡ original) × (length kept < link_length link) × (f ≡ unread cause.LinkHeader kept))
+    ⊎ ((length kept ≡ original) × (link_length link ≤ length kept) × IsFrameRead link kept f))
 
 -- the same where the link type is one that isn't read, or another
-abbrev pub frame_by : ℕ → Option Link → ℕ → List ℕ → FrameValue
-frame_by number None original kept = unread (cause.Link number) kept
-frame_by number (Some link) original kept = frame_of link original kept
+abbrev pub IsFrameBy : ℕ → Option Link → ℕ → List ℕ → FrameValue → Type 0
+IsFrameBy number None original kept f = f ≡ unread (cause.Link number) kept
+IsFrameBy number (Some link) original kept f = IsFrameOf link original kept f
 
 -- the same under the number of a link type
-abbrev pub frame_under : ℕ → ℕ → List ℕ → FrameValue
-frame_under number original kept = frame_by number (link_of number) original kept
+abbrev pub IsFrameUnder : ℕ → ℕ → List ℕ → FrameValue → Type 0
+IsFrameUnder number original kept f = IsFrameBy number (link_of number) original kept f
 
 -- the entry at a time, on an interface of this number and this name in a file
 abbrev pub entry_of : TimeValue → Option ℕ → Option (List ℕ) → FrameValue → EntryValue

@@ -1,6 +1,8 @@
 pub mod Values
 pub mod Words
 pub mod Numbers
+pub mod Smbus
+pub mod SmbusValues
 pub mod Links
 pub mod Frames
 pub mod FrameValues

@@ -1,6 +1,6 @@
 -- The section to which reading has come, and what a block changes.
 use Rattle.std.{specs.Prelude.{◌≡◌, ◌≤◌, ◌⊎◌, ℕ, true, false, List, [], ◌∷◌, ◌++◌, length, map, drop, None, Some}, specs.List.{AllZip}}
-use Rattle.bus_captures.{specs.declared.section.Section.{Section}, specs.declared.interfaces.Described.{Described}, specs.Blocks.{Block, IsDescribed, is_section, is_interface, order_behind, described, described_before, last_section, packet_entry}, specs.Interfaces.{InterfaceValue}, specs.InterfaceValues.{interface_value}, specs.Values.{EntryValue}}
+use Rattle.bus_captures.{specs.declared.section.Section.{Section}, specs.declared.interfaces.Described.{Described}, specs.Blocks.{Block, IsDescribed, is_section, is_interface, order_behind, described, described_before, last_section, IsPacketEntry}, specs.Interfaces.{InterfaceValue}, specs.InterfaceValues.{interface_value}, specs.Values.{EntryValue}}
 
 -- the interfaces of the section
 abbrev pub own_of : Section → List InterfaceValue
@@ -47,6 +47,6 @@ pub record Keeps (old new : Section) (b : Block) : Type 0 where
 abbrev pub Takes : Section → Section → Block → Type 0
 Takes old new b = Begins old new b ⊎ (Describes old new b ⊎ Keeps old new b)
 
--- the packet of a block in the section, as an entry
-abbrev pub entry_in : Section → Block → EntryValue
-entry_in s b = packet_entry s.before (own_of s) b
+-- the packet of a block in the section is this entry
+abbrev pub IsEntryIn : Section → Block → EntryValue → Type 0
+IsEntryIn s b e = IsPacketEntry s.before (own_of s) b e

@@ -63,10 +63,14 @@ pub enum Unread {
     Interface,
     /// Its block is shorter than what it should hold.
     Block,
+    /// It is no frame of MCTP over SMBus.
+    NoFrame,
+    /// Its frame of SMBus has another check byte (PEC) than the one that is computed.
+    Pec { told: u8, computed: u8 },
 }
 
 impl Unread {
-    /// A word for it: `cut`, `link-header`, `link`, `interface`, or `block`.
+    /// A word for it: `cut`, `link-header`, `link`, `interface`, `block`, `no-frame`, or `pec`.
     pub fn word(self) -> &'static str
         ensures { result.now ≡ unread_word self }
     {
@@ -76,6 +80,8 @@ impl Unread {
             Unread::Link(_) => "link",
             Unread::Interface => "interface",
             Unread::Block => "block",
+            Unread::NoFrame => "no-frame",
+            Unread::Pec { .. } => "pec",
         }
     }
 }
@@ -102,7 +108,7 @@ pub struct Entry<'a> {
 pub enum CaptureFault {
     /// A file ends within its header of 24 bytes.
     Header,
-    /// A file's link type is none of 113 and 276 (Linux cooked captures), 147 and 291 (packets as they are).
+    /// A file's link type is none of 113 and 276 (Linux cooked captures), 147 and 291 (packets as they are), and 209 (I2C).
     Link(u32),
     /// A file ends within a record, or the record's length is wrong.
     Record,
@@ -117,7 +123,7 @@ impl fmt::Display for CaptureFault {
         match self {
             CaptureFault::Header => f.write_str("the file ends within its header"),
             CaptureFault::Link(number) => {
-                write!(f, "the link type is {number}, not 113, 147, 276 or 291")
+                write!(f, "the link type is {number}, not 113, 147, 209, 276 or 291")
             }
             CaptureFault::Record => f.write_str("the file ends within a record"),
             CaptureFault::Block => f.write_str("no whole block stands there"),

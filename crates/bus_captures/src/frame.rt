@@ -1,6 +1,6 @@
 //! What was captured of one thing that went over a bus, by its link type.
 ghost use Rattle.std.specs.Prelude.{◌≡◌, IfOk, option_map};
-ghost use Rattle.bus_captures.{specs.FrameValues.{frame_value}, specs.Frames.{unread, frame_of, frame_under, entry_of}, specs.Values.{entry_value, time_value}};
+ghost use Rattle.bus_captures.{specs.FrameValues.{frame_value}, specs.Frames.{unread, IsFrameOf, IsFrameUnder, entry_of}, specs.Values.{entry_value, time_value}};
 
 use crate::capture::{Direction, Entry, Interface, Kind, Time, Unread};
 use crate::link::Link;
@@ -29,7 +29,7 @@ pub fn unread(why: Unread, kept: &[u8]) -> Frame<'_>
 
 /// What was kept of something that had so many bytes.
 pub fn frame_of(link: Link, original: u32, kept: &[u8]) -> Frame<'_>
-    ensures { frame_value result ≡ frame_of link original kept.now }
+    ensures { IsFrameOf link original kept.now (frame_value result) }
 {
     if kept.len() != original as usize {
         return unread(Unread::Cut, kept);
@@ -37,17 +37,18 @@ pub fn frame_of(link: Link, original: u32, kept: &[u8]) -> Frame<'_>
     if kept.len() < link.length() {
         return unread(Unread::LinkHeader, kept);
     }
+    let (kind, bytes) = link.split(kept);
     Frame {
         direction: link.direction(kept),
         index: link.index(kept),
-        kind: link.kind(kept),
-        bytes: &kept[link.length()..],
+        kind,
+        bytes,
     }
 }
 
 /// The same under the number of a link type.
 pub fn frame_under(number: u32, original: u32, kept: &[u8]) -> Frame<'_>
-    ensures { frame_value result ≡ frame_under number original kept.now }
+    ensures { IsFrameUnder number original kept.now (frame_value result) }
 {
     match Link::of(number) {
         Some(link) => frame_of(link, original, kept),

@@ -18,6 +18,7 @@ mod options;
 mod reading;
 mod record;
 mod section;
+mod smbus;
 mod sort;
 mod text;
 mod time;

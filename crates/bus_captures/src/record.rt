@@ -1,6 +1,6 @@
 //! Records of a capture file.
 ghost use Rattle.std.specs.Prelude.{◌≡◌, ◌++◌, List, IfOk, MatchOption};
-ghost use Rattle.bus_captures.{specs.Files.{FileRecord, IsRecord, record_bytes, Begins, record_entry}, specs.Records.{record_value}, specs.Values.{entry_value}};
+ghost use Rattle.bus_captures.{specs.Files.{FileRecord, IsRecord, record_bytes, Begins, IsEntryOf}, specs.Records.{record_value}, specs.Values.{entry_value}};
 
 use crate::capture::{Entry, Time};
 use crate::format::{Order, TimeUnit, split_number};
@@ -47,7 +47,7 @@ pub fn entry_of<'a>(
     link: Link,
     kept: &Record,
 ) -> Result<Entry<'a>, AllocError>
-    ensures { IfOk result (λ entry. entry_value entry ≡ record_entry unit link (record_value kept.now)) }
+    ensures { IfOk result (λ entry. IsEntryOf unit link (record_value kept.now) (entry_value entry)) }
 {
     let time = Time::At {
         seconds: u64::from(kept.seconds),

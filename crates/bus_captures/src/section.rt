@@ -21,7 +21,7 @@ pub struct Section<'a> {
 
 impl<'a> Section<'a> {
     ghost use Rattle.std.specs.Prelude.{◌≡◌, ◌≤◌, length, IfOk, OnOk, option_map, slice_get};
-    ghost use Rattle.bus_captures.{specs.Blocks.{IsNext, entry_on}, specs.BlockValues.{block_value, packet_value}, specs.InterfaceValues.{interface_value}, specs.Sections.{IsBefore, Takes, own_of, entry_in}, specs.Values.{entry_value}};
+    ghost use Rattle.bus_captures.{specs.Blocks.{IsNext, IsEntryOn}, specs.BlockValues.{block_value, packet_value}, specs.InterfaceValues.{interface_value}, specs.Sections.{IsBefore, Takes, own_of, IsEntryIn}, specs.Values.{entry_value}};
 
     /// No block was read.
     pub fn new(alloc: Global) -> Section<'a>
@@ -51,7 +51,7 @@ impl<'a> Section<'a> {
     /// The packet of a block as an entry.
     pub fn entry(&self, alloc: Global, block: &Block) -> Result<Entry<'a>, AllocError>
         requires { self.now.before ≤ length self.now.interfaces.items }
-        ensures { IfOk result (λ entry. entry_value entry ≡ entry_in self.now (block_value block.now)) }
+        ensures { IfOk result (λ entry. IsEntryIn self.now (block_value block.now) (entry_value entry)) }
     {
         match block.packet(self.interface(0)) {
             Some(packet) => self.entry_of(alloc, &packet),
@@ -69,7 +69,7 @@ impl<'a> Section<'a> {
 
     fn entry_of(&self, alloc: Global, packet: &Packet) -> Result<Entry<'a>, AllocError>
         requires { self.now.before ≤ length self.now.interfaces.items }
-        ensures { IfOk result (λ entry. entry_value entry ≡ entry_on self.now.before (packet_value packet.now) (slice_get (own_of self.now) packet.now.interface)) }
+        ensures { IfOk result (λ entry. IsEntryOn self.now.before (packet_value packet.now) (slice_get (own_of self.now) packet.now.interface) (entry_value entry)) }
     {
         let Some(described) = self.interface(packet.interface as usize) else {
             return unread(Unread::Interface, packet.kept).entry(alloc, Time::Unknown, None, None);

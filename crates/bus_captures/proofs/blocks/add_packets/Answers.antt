@@ -1,5 +1,5 @@
 use Rattle.std.{proofs.Common.{◌≡◌, ◌+◌, ◌++◌, ◌∷◌, [], map, ap, ◌∙◌, subst, sym, arith}, proofs.lemmas.List.{map-append}}
-use Rattle.bus_captures.{specs.BlockValues.{block_value}, specs.Sections.{entry_in}, specs.Values.{entry_value}, proofs.SectionLaws.{HasRead, nothing_read, block_taken, packet_read, shorter}}
+use Rattle.bus_captures.{specs.BlockValues.{block_value}, specs.Values.{entry_value}, proofs.SectionLaws.{HasRead, nothing_read, block_taken, packet_read, shorter}}
 use Rattle.bus_captures.proofs.blocks.add_packets.Goals as goal
 
 pub loop-left-init : goal.loop-left-init
@@ -28,10 +28,11 @@ loop-left-preserved c =
     let within = c.loop-left.invariant.1 in
     let old = c.loop-left.entries.items in
     let section = c.loop-left.section in
-    let added : map entry_value c.push.new.self.items ≡ map entry_value old ++ entry_in section b ∷ [] =
-    ap (map entry_value) c.in_ok-push.ensures.items ∙ map-append entry_value old _ ∙ ap (λ e. map entry_value old ++ e ∷ []) c.in_ok-entry.ensures in (
+    let e = entry_value c.in_ok-entry.field-0 in
+    let added : map entry_value c.push.new.self.items ≡ map entry_value old ++ e ∷ [] =
+    ap (map entry_value) c.in_ok-push.ensures.items ∙ map-append entry_value old _ in (
       subst (λ es. HasRead c.args.bytes.now es c.in-Some.rest.now (c.loop-left.place + 1) section) (sym added)
-          (packet_read c.args.bytes.now (map entry_value old) c.loop-left.left.now c.in-Some.rest.now c.loop-left.place section b
-          c.loop-left.invariant.0 found.0 found.1 found.2 (cc)),
+          (packet_read c.args.bytes.now (map entry_value old) c.loop-left.left.now c.in-Some.rest.now c.loop-left.place section b e
+          c.loop-left.invariant.0 found.0 found.1 found.2 (cc) c.in_ok-entry.ensures),
       omega arith,
     )

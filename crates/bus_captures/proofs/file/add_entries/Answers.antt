@@ -6,8 +6,9 @@ pub loop-left-preserved : goal.loop-left-preserved
 loop-left-preserved c =
     let old = c.loop-left.entries.items in
     let found = c.in-Some.ensures in
-    let added : map entry_value c.push.new.self.items ≡ map entry_value old ++ _ ∷ [] =
-    ap (map entry_value) c.in_ok-push.ensures.items ∙ map-append entry_value old _ ∙ ap (λ e. map entry_value old ++ e ∷ []) c.in_ok-entry_of.ensures in
+    let e = entry_value c.in_ok-entry_of.field-0 in
+    let added : map entry_value c.push.new.self.items ≡ map entry_value old ++ e ∷ [] =
+    ap (map entry_value) c.in_ok-push.ensures.items ∙ map-append entry_value old _ in
     subst (λ es. AreRead c.args.order c.args.unit c.args.link c.args.bytes.now es c.in-Some.rest.now) (sym added)
     (one_more c.args.order c.args.unit c.args.link c.args.bytes.now (map entry_value old) c.loop-left.left.now c.in-Some.rest.now
-    (record_value c.in-Some.record) c.loop-left.invariant found.0 found.1)
+    (record_value c.in-Some.record) e c.loop-left.invariant found.0 found.1 c.in_ok-entry_of.ensures)
