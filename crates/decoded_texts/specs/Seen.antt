@@ -1,5 +1,5 @@
 -- The lines that tell what became of the entries of a capture.
-use Rattle.std.{specs.Prelude.{◌≡◌, ℕ, List, [], ◌++◌, codes, Option, None, Some}, specs.Fmt.{decimal}}
+use Rattle.std.{specs.Prelude.{◌≡◌, ℕ, List, [], ◌∷◌, ◌++◌, codes, Option, None, Some}, specs.Fmt.{decimal}}
 use Rattle.hex.specs.Hex.{encode_lower}
 use Rattle.bus_captures.{specs.declared.capture.Direction.{Direction}, specs.Words.{unread_word}, specs.declared.capture.Unread.{Unread}}
 use Rattle.mctp_transport.{specs.Causes.{cause_code}, specs.PacketValues.{PacketValue}, specs.Hearing.{Answer, Whole, Held, Dropped}}
@@ -35,7 +35,7 @@ told_line way message = codes " " ++ (way_word way ++ (codes " " ++ (encode_lowe
 
 -- a link type that isn't read, and those that are
 abbrev pub link_words : ℕ → List ℕ
-link_words number = codes "link " ++ (decimal number ++ codes " (read are 113, 147, 276 and 291)")
+link_words number = codes "link " ++ (decimal number ++ codes " (read are 113, 147, 209, 276 and 291)")
 
 -- why something isn't read
 abbrev pub unread_words : Unread → List ℕ
@@ -44,6 +44,9 @@ unread_words unread.Cut = unread_word unread.Cut
 unread_words unread.LinkHeader = unread_word unread.LinkHeader
 unread_words unread.Interface = unread_word unread.Interface
 unread_words unread.Block = unread_word unread.Block
+unread_words unread.NoFrame = unread_word unread.NoFrame
+unread_words (unread.Pec told computed) =
+    codes "pec " ++ (encode_lower (told ∷ []) ++ (codes " computed " ++ encode_lower (computed ∷ [])))
 
 -- behind a packet that ends a message stands what the message says
 abbrev pub IsSaidOf : Answer → List ℕ → Type 0

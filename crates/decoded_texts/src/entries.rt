@@ -1,5 +1,5 @@
 //! The lines that tell what became of an entry.
-ghost use Rattle.std.{specs.Prelude.{◌≡◌, ◌++◌, IfOk, OnOk, ℕ, List, string_bytes, option_map, codes}, specs.Fmt.{decimal}};
+ghost use Rattle.std.{specs.Prelude.{◌≡◌, ◌++◌, ◌∷◌, [], IfOk, OnOk, ℕ, List, string_bytes, option_map, codes}, specs.Fmt.{decimal}};
 ghost use Rattle.bus_captures.specs.Values.{entry_value};
 ghost use Rattle.mctp_transport.{specs.Heard.{heard_answer}, specs.Packets.{packet_value_of}};
 ghost use Rattle.heard_captures.specs.Sights.{seen_of};
@@ -212,6 +212,7 @@ fn unread_words(alloc: Global, why: Unread) -> Result<String, AllocError>
 {
     match why {
         Unread::Link(number) => link_words(alloc, number),
+        Unread::Pec { told, computed } => pec_words(alloc, told, computed),
         _ => String::from_str(alloc, why.word()),
     }
 }
@@ -220,5 +221,14 @@ fn unread_words(alloc: Global, why: Unread) -> Result<String, AllocError>
 pub fn link_words(alloc: Global, number: u32) -> Result<String, AllocError>
     ensures { IfOk result (λ words. string_bytes words ≡ link_words number) }
 {
-    format!(in alloc; "link {number} (read are 113, 147, 276 and 291)")
+    format!(in alloc; "link {number} (read are 113, 147, 209, 276 and 291)")
+}
+
+/// The check byte that a frame has, and the one that is computed, in hex.
+fn pec_words(alloc: Global, told: u8, computed: u8) -> Result<String, AllocError>
+    ensures { IfOk result (λ words. string_bytes words ≡ codes "pec " ++ (encode_lower (told ∷ []) ++ (codes " computed " ++ encode_lower (computed ∷ [])))) }
+{
+    let told = hex::encode(alloc, &[told])?;
+    let computed = hex::encode(alloc, &[computed])?;
+    format!(in alloc; "pec {told} computed {computed}")
 }
