@@ -1,5 +1,5 @@
 -- A capture file that is written reads back.
-use Rattle.std.{proofs.Common.{◌≡◌, ℕ, ◌+◌, ◌-◌, ◌<◌, ◌≤◌, ◌^◌, ◌++◌, List, [], ◌∷◌, length, map, arith, inl, inr, refl, ap, sym, ◌∙◌, append_assoc, drop, replicate, length-append, get_or, ◌==◌, true, false, None}, specs.List.{flat_map, AllZip, All}, proofs.Math.Seq.{drop-append_seam}, proofs.lemmas.List.Elements.{All-tail}, proofs.lemmas.List.{length-map}, proofs.lemmas.Bool.Decides.{nat_tests}, specs.Prelude.{Some, nat_lt}}
+use Rattle.std.{proofs.Common.{◌≡◌, ℕ, ◌+◌, ◌-◌, ◌<◌, ◌≤◌, ◌^◌, ◌++◌, List, [], ◌∷◌, length, map, arith, inl, inr, refl, ap, subst, sym, ◌∙◌, append_assoc, drop, replicate, length-append, get_or, ◌==◌, true, false, None}, specs.List.{flat_map, AllZip, All}, proofs.Math.Seq.{drop-append_seam}, proofs.lemmas.List.Elements.{All-tail}, proofs.lemmas.List.{length-map}, proofs.lemmas.Bool.Decides.{nat_tests}, specs.Prelude.{Some, nat_lt}}
 use Rattle.byteorder.specs.Endian.{big_bytes, big_number}
 use Rattle.bus_captures.{specs.declared.capture.CaptureFault.{CaptureFault}, specs.declared.capture.End.{End}, specs.declared.format.Order.{Order}, specs.declared.format.Order.TheVariants.{Little, Big}, specs.declared.format.TimeUnit.{TimeUnit}, specs.declared.format.TimeUnit.TheVariants.{Micro, Nano}, specs.declared.link.Link.{Link}, specs.declared.link.Link.TheVariants.{Raw, Mctp, I2c, Cooked, CookedAgain}, specs.Files.{FileRecord, IsRecord, IsEntryOf, EndsFile, IsBody, IsFile, HasNoHeader, HasHeader, magic, record_bytes}, specs.Frames.{FrameValue, IsFrameOf, entry_of}, specs.Links.{link_number, link_of, index_of}, specs.Numbers.{number_bytes}, specs.Values.{EntryValue, At, on_linux}, specs.Written.{CarriedValue, IsCarried, ReadsBack, carried_record, carried_entry, header_fields, link_header, written_bytes}, proofs.RecordLaws.{four, fronts, one_record, some_bytes}, proofs.WritingLaws.{before, filled}}
 use Rattle.bus_captures.specs.declared.capture.CaptureFault.TheVariants as fault
@@ -126,7 +126,7 @@ back (p ∷ ps) k count (r ∷ records) (e ∷ entries) left how carried few cou
     let is = carried 0 p (omega arith) in
     let whole = spelled ∙ append_assoc (record_bytes Little r) (flat_map (record_bytes Little) records) left in
     let first = one_record Little (carried_record p) r _ _ (record_is p is) (lawful 0 r (omega arith)) whole in
-    let entry = entry_is p is e (rw first.0 each.0) in
+    let entry = entry_is p is e (subst (λ (r : FileRecord). IsEntryOf Nano CookedAgain r e) (sym first.0) each.0) in
     let later = back ps (k + 1) count records entries left how (All-tail IsCarried p ps carried) (omega arith) (counted ∙ omega arith) (All-tail IsRecord r records lawful)
     first.1 each.1 ends in
     ((λ i. entry i ∷ later.0 i), later.1)

@@ -18,7 +18,8 @@ link_number link.CookedAgain = 276
 abbrev pub link_of : ℕ → Option Link
 link_of number =
     if number == 147 then Some link.Raw else if number == 291 then Some link.Mctp
-    else if number == 209 then Some link.I2c else if number == 113 then Some link.Cooked else if number == 276 then Some link.CookedAgain else None
+    else if number == 209 then Some link.I2c else if number == 113 then Some link.Cooked
+    else if number == 276 then Some link.CookedAgain else None
 
 -- how many bytes stand before the packet
 abbrev pub link_length : Link → ℕ

@@ -15,7 +15,7 @@ pub record SmbusFrame : Type 0 where
 -- Before the check byte stand the receiver's address, the command code of MCTP (15), how many bytes follow, the
 -- sender's address, and the packet.
 abbrev pub covered : SmbusFrame → List ℕ
-covered f = f.to ∷ 15 ∷ 1 + length f.packet ∷ f.from ∷ f.packet
+covered f = f.to ∷ 15 ∷ (1 + length f.packet) ∷ f.from ∷ f.packet
 
 -- The bytes are the frame. It is written to the receiver, so that its address is even, and no packet begins so: the
 -- first byte of each is odd.

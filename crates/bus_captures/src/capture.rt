@@ -123,7 +123,10 @@ impl fmt::Display for CaptureFault {
         match self {
             CaptureFault::Header => f.write_str("the file ends within its header"),
             CaptureFault::Link(number) => {
-                write!(f, "the link type is {number}, not 113, 147, 209, 276 or 291")
+                write!(
+                    f,
+                    "the link type is {number}, not 113, 147, 209, 276 or 291"
+                )
             }
             CaptureFault::Record => f.write_str("the file ends within a record"),
             CaptureFault::Block => f.write_str("no whole block stands there"),
