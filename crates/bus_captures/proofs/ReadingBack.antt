@@ -1,5 +1,5 @@
 -- A capture file that is written reads back.
-use Rattle.std.{proofs.Common.{◌≡◌, ℕ, ◌+◌, ◌-◌, ◌<◌, ◌≤◌, ◌^◌, ◌++◌, List, [], ◌∷◌, length, map, arith, inl, inr, refl, ap, subst, sym, ◌∙◌, append_assoc, drop, replicate, length-append, get_or, ◌==◌, true, false, None}, specs.List.{flat_map, AllZip, All}, proofs.Math.Seq.{drop-append_seam}, proofs.lemmas.List.Elements.{All-tail}, proofs.lemmas.List.{length-map}, proofs.lemmas.Bool.Decides.{nat_tests}, specs.Prelude.{Some, nat_lt}}
+use Rattle.std.{proofs.Common.{◌≡◌, ℕ, ◌+◌, ◌-◌, ◌<◌, ◌≤◌, ◌^◌, ◌++◌, List, [], ◌∷◌, length, map, arith, inl, inr, refl, ap, subst, sym, ◌∙◌, append_assoc, drop, replicate, length-append, get_or, true, false, None}, specs.List.{flat_map, AllZip, All}, proofs.Math.Seq.{drop-append_seam}, proofs.lemmas.List.Elements.{All-tail}, specs.Prelude.{Some}}
 use Rattle.byteorder.specs.Endian.{big_bytes, big_number}
 use Rattle.bus_captures.{specs.declared.capture.CaptureFault.{CaptureFault}, specs.declared.capture.End.{End}, specs.declared.format.Order.{Order}, specs.declared.format.Order.TheVariants.{Little, Big}, specs.declared.format.TimeUnit.{TimeUnit}, specs.declared.format.TimeUnit.TheVariants.{Micro, Nano}, specs.declared.link.Link.{Link}, specs.declared.link.Link.TheVariants.{Raw, Mctp, I2c, Cooked, CookedAgain}, specs.Files.{FileRecord, IsRecord, IsEntryOf, EndsFile, IsBody, IsFile, HasNoHeader, HasHeader, magic, record_bytes}, specs.Frames.{FrameValue, IsFrameOf, entry_of}, specs.Links.{link_number, link_of, index_of}, specs.Numbers.{number_bytes}, specs.Values.{EntryValue, At, on_linux}, specs.Written.{CarriedValue, IsCarried, ReadsBack, carried_record, carried_entry, header_fields, link_header, written_bytes}, proofs.RecordLaws.{four, fronts, one_record, some_bytes}, proofs.WritingLaws.{before, filled}}
 use Rattle.bus_captures.specs.declared.capture.CaptureFault.TheVariants as fault

@@ -1,6 +1,6 @@
 -- Packets in frames of SMBus and I2C (DSP0237).
 use Rattle.std.specs.Prelude.{◌≡◌, ◌≢◌, ◌⊎◌, ℕ, ◌+◌, ◌%◌, List, [], ◌∷◌, ◌++◌, length}
-use Rattle.bus_captures.{specs.declared.capture.Kind.{Kind}}
+use Rattle.bus_captures.specs.declared.capture.Kind.{Kind}
 use Rattle.pdr_repository.specs.Crc.{IsCrc}
 use Rattle.bus_captures.specs.declared.capture.Kind.TheVariants as kind
 use Rattle.bus_captures.specs.declared.capture.Unread.TheVariants as cause
