@@ -348,10 +348,18 @@ def cut_file(capture, length):
     return count, *((b"", 0) if at == length else (b" broken %d record" % (count + 1), 2))
 
 
+def cut_blocks(capture, length):
+    """The same of a file of blocks, of which those of kind 6 have packets. Its first three bytes are lines of a text."""
+    count, blocks, at = 0, 0, 0
+    while at + 12 <= length and (end := at + int.from_bytes(capture[at + 4 : at + 8], "little")) <= length:
+        count, blocks, at = count + (capture[at] == 6), blocks + 1, end
+    return count, *((b"", 0) if at == length or length < 4 else (b" broken %d block" % (blocks + 1), 2))
+
+
 def try_captures(trial):
     """Each capture cut at each length, and with each byte 00 and ff: a last line and a status, and nothing is lost."""
     for path in sorted((TOP / "examples/captures").glob("riser.*")) + [TOP / "examples/captures/nic.log"]:
-        capture, is_file = path.read_bytes(), path.suffix == ".pcap"
+        capture, cut = path.read_bytes(), {".pcap": cut_file, ".pcapng": cut_blocks}.get(path.suffix)
         status, output, error = trial.run(["decode", path])
         trial.note((status, error) == (0, b""), f"{path.name} itself is refused")
         # (what stands before the line of the next entry, by how many entries there are)
@@ -359,15 +367,15 @@ def try_captures(trial):
 
         def ended(what, changed):
             got = trial.run(["decode", trial.file("capture", changed)])
-            last = re.search(rb"(?:^|\n)entries ([0-9]+)((?: broken [0-9]+ [a-z-]+)?)\n$", got[1])
+            last = re.search(rb"(?:^|\n)entries ([0-9]+)((?: broken [0-9]+ [a-z-]+(?: [0-9]+ \(.*\))?)?)\n$", got[1])
             is_right = last and got[0] == (2 if last[2] else 0) and got[2] == b""
             trial.note(is_right, f"{path.name}, {what}: {got}")
             return got, last
 
         def row(length):
             got, last = ended(f"{length} bytes", capture[:length])
-            if is_file:
-                count, why, wanted = cut_file(capture, length)
+            if cut:
+                count, why, wanted = cut(capture, length)
                 wanted = (wanted, output[: numbered[count]] + b"entries %d%s\n" % (count, why), b"")
                 trial.note(got == wanted, f"{path.name}, {length} bytes: wanted {wanted}, got {got}")
             elif last:

@@ -134,7 +134,7 @@ def commands():
         ("simmove", [[left, right, ranks, MOVE / "events.json"]]),
         ("show", [["packet", "010a08cb01800002"], ["packet", "010a08"], ["record", record]]),
         ("decode", [[TOP / "examples/captures/riser.pcap"], [TOP / "examples/captures/nic.log"]]),
-        ("decode", [[TOP / "examples/captures/riser.pcap", plan]]),
+        ("decode", [[TOP / "examples/captures/riser.pcapng", plan]]),
         ("audit", [[plan, certificate, TOP / "examples/captures" / it] for it in ("as-planned.txt", "liar.txt")]),
         ("audit", [[plan, certificate, TOP / "examples/captures/riser.txt", "--bus", "b1"]]),
         ("emulate", [[plan, certificate, "nic"], [plan, certificate, "riser", "--configured"]]),

@@ -56,7 +56,7 @@ fn packet_of(unit: usize, number: usize, entry: &Entry) -> Option<CapturedPacket
 {
     match entry.kind {
         Kind::Packet => packet_in(unit, number, &entry.bytes),
-        Kind::Message | Kind::Other(_) => None,
+        Kind::Message | Kind::Other(_) | Kind::Unread(_) => None,
     }
 }
 

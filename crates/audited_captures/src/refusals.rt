@@ -3,19 +3,28 @@ ghost use Rattle.std.specs.Prelude.{◌≡◌, ◌∷◌, [], IfOk, OnOk, MatchO
 ghost use Rattle.bus_captures.specs.Values.{entry_value};
 ghost use Rattle.heard_captures.specs.Seen.{IsNoPacketFor};
 ghost use Rattle.mctp_transport.{specs.PacketValues.{IsUnit}, specs.declared.packet_error.PacketError.{PacketError}};
-ghost use Rattle.audited_captures.{specs.Lines.{line_value, silence}, specs.Refusals.{IsRefused, IsNotRefused, AreRefusals, refused_text, refused_lines}, specs.RefusalSteps.{AddsRefusal}};
+ghost use Rattle.audited_captures.{specs.Lines.{line_value, silence}, specs.Refusals.{IsRefused, IsNotRefused, AreRefusals, cause_code, refused_text, refused_lines}, specs.RefusalSteps.{AddsRefusal}};
 
 use crate::lines::{Line, silence};
-use bus_captures::{Capture, Entry, Kind};
+use bus_captures::{Capture, Entry, Kind, Unread};
 use mctp_transport::{PacketError, PacketView};
 use std::alloc::{AllocError, Global};
+
+/// Why an entry isn't taken for a packet.
+#[derive(Clone, Copy, Debug)]
+pub enum Cause {
+    /// Its bytes are no packet.
+    NoPacket(PacketError),
+    /// It isn't read at all.
+    Unread(Unread),
+}
 
 /// An entry of a capture that should be a packet and is none.
 #[derive(Clone, Copy, Debug)]
 pub struct Refusal {
     /// Its number among the entries, from 1.
     pub number: usize,
-    pub why: PacketError,
+    pub why: Cause,
 }
 
 /// The entries of a capture that are refused under a transmission unit of 64 to 1024 bytes, in their order.
@@ -51,12 +60,13 @@ fn add_refusal(
 }
 
 /// Why an entry is refused, if it is.
-fn refused(unit: usize, entry: &Entry) -> Option<PacketError>
+fn refused(unit: usize, entry: &Entry) -> Option<Cause>
     requires { IsUnit unit }
     ensures { MatchOption result (IsNotRefused unit (entry_value entry.now)) (λ why. IsRefused unit (entry_value entry.now) why) }
 {
     match entry.kind {
-        Kind::Packet => refused_bytes(unit, &entry.bytes),
+        Kind::Packet => refused_bytes(unit, &entry.bytes).map(Cause::NoPacket),
+        Kind::Unread(why) => Some(Cause::Unread(why)),
         Kind::Message | Kind::Other(_) => None,
     }
 }
@@ -95,4 +105,16 @@ fn refused_text(alloc: Global, count: usize, first: &Refusal) -> Result<String, 
     let number = first.number;
     let code = first.why.code();
     format!(in alloc; "refused {count} (first at packet {number}: {code})")
+}
+
+impl Cause {
+    /// The code of what is no packet, or a word for what isn't read.
+    fn code(self) -> &'static str
+        ensures { result.now ≡ cause_code self }
+    {
+        match self {
+            Cause::NoPacket(error) => error.code(),
+            Cause::Unread(why) => why.word(),
+        }
+    }
 }

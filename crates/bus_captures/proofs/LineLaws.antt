@@ -43,7 +43,7 @@ one_more_entry (l ∷ lines) entries line e are is = elim are [
 -- where the bytes in hex are none, the text is no entry
 pub no_bytes : (text hex : List ℕ) → hex ≡ (head_of text).hex → ((bytes : List ℕ) → IsHex hex bytes → length bytes ≡ 0) → (e : EntryValue) → IsEntryText text e → ⊥
 no_bytes text hex same none e is =
-    let empty = none e.bytes (rw same is.bytes) in
+    let empty = none is.raw (rw same is.hex) in
     let some = is.some in
     omega arith
 

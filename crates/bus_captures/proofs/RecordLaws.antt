@@ -2,7 +2,7 @@
 use Rattle.std.{proofs.Common.{◌≡◌, ℕ, ◌<◌, ◌^◌, ◌/◌, ◌%◌, ◌++◌, List, [], ◌∷◌, length, arith, refl, ap, sym, ◌∙◌, append_assoc, drop}, specs.List.{flat_map, AllZip, All}, proofs.lemmas.List.{flat_map_more}, proofs.lemmas.List.Elements.{All-push, All-tail}}
 use Rattle.bus_captures.{specs.declared.format.Order.{Order}, specs.declared.format.Order.TheVariants.{Little, Big}, specs.declared.format.TimeUnit.{TimeUnit}, specs.declared.link.Link.{Link}, specs.Files.{FileRecord, IsRecord, record_bytes, IsEntryOf, AreRead}, specs.Numbers.{number_bytes}, specs.Values.{EntryValue}}
 
-zip_more : {A B : Type 0} (R : A → B → Type 0) (xs : List A) (ys : List B) (x : A) (y : B) → AllZip R xs ys → R x y → AllZip R (xs ++ x ∷ []) (ys ++ y ∷ [])
+pub zip_more : {A B : Type 0} (R : A → B → Type 0) (xs : List A) (ys : List B) (x : A) (y : B) → AllZip R xs ys → R x y → AllZip R (xs ++ x ∷ []) (ys ++ y ∷ [])
 zip_more R [] [] x y all is = (is, tt)
 zip_more R [] (b ∷ ys) x y all is = absurd all
 zip_more R (a ∷ xs) [] x y all is = absurd all

@@ -1,6 +1,6 @@
 -- Which entries a capture has, by all of its bytes.
 use Rattle.std.{specs.Prelude.{◌≡◌, ◌⊎◌, ℕ, ◌+◌, List, [], ◌∷◌, ◌++◌, length, map}, specs.List.{slice_split}}
-use Rattle.bus_captures.{specs.declared.capture.Capture.{Capture}, specs.declared.capture.End.{End}, specs.declared.format.Order.{Order}, specs.declared.format.TimeUnit.{TimeUnit}, specs.Files.{magic, IsFile}, specs.Lines.{IsNothing, IsEntryLine, IsBad}, specs.Numbers.{number_bytes}, specs.Sorts.{is_of}, specs.Values.{most_entries, EntryValue, entry_value}}
+use Rattle.bus_captures.{specs.declared.capture.Capture.{Capture}, specs.declared.capture.End.{End}, specs.declared.format.Order.{Order}, specs.declared.format.TimeUnit.{TimeUnit}, specs.Blocks.{BeginsBlocks, IsBlockFile}, specs.Files.{magic, IsFile}, specs.Lines.{IsNothing, IsEntryLine, IsBad}, specs.Numbers.{number_bytes}, specs.Sorts.{is_of}, specs.Values.{most_entries, EntryValue, entry_value}}
 use Rattle.bus_captures.specs.declared.capture.CaptureFault.TheVariants as fault
 use Rattle.bus_captures.specs.declared.capture.End.TheVariants as end
 use Rattle.bus_captures.specs.declared.sort.Sort.TheVariants as sort
@@ -38,13 +38,19 @@ pub record IsText (text : List ℕ) (entries : List EntryValue) (how : End) : Ty
 abbrev pub BeginsFile : Order → TimeUnit → List ℕ → List ℕ → Type 0
 BeginsFile order unit bytes behind = bytes ≡ number_bytes order (magic unit) ++ behind
 
--- the bytes are these entries, and reading them ends so: a capture file by its first four bytes, or else a text
+-- a file of blocks, or else a text
+abbrev pub IsOtherCapture : List ℕ → List EntryValue → End → Type 0
+IsOtherCapture bytes entries how =
+    (BeginsBlocks bytes × IsBlockFile bytes entries how) ⊎ (¬ BeginsBlocks bytes × IsText bytes entries how)
+
+-- the bytes are these entries, and reading them ends so: a capture file of records or of blocks by its first four
+-- bytes, or else a text
 abbrev pub IsCapture : List ℕ → List EntryValue → End → Type 0
 IsCapture bytes entries how =
     ((order : Order) × (unit : TimeUnit) × (behind : List ℕ) × BeginsFile order unit bytes behind
     × IsFile order unit behind entries how)
     ⊎ (((order : Order) (unit : TimeUnit) (behind : List ℕ) → ¬ BeginsFile order unit bytes behind)
-    × IsText bytes entries how)
+    × IsOtherCapture bytes entries how)
 
 abbrev pub IsCaptureOf : List ℕ → Capture → Type 0
 IsCaptureOf bytes capture = IsCapture bytes (map entry_value capture.entries.items) capture.end

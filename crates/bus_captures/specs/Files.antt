@@ -1,6 +1,6 @@
 -- Capture files: a header and records, one behind the other (libpcap's format, version 2.4).
-use Rattle.std.{specs.Prelude.{◌≡◌, ◌≢◌, ◌⊎◌, ℕ, ◌+◌, ◌*◌, ◌<◌, ◌≤◌, ◌^◌, List, [], ◌++◌, length, drop, All}, specs.List.{flat_map, AllZip}}
-use Rattle.bus_captures.{specs.declared.capture.CaptureFault.{CaptureFault}, specs.declared.capture.End.{End}, specs.declared.format.Order.{Order}, specs.declared.format.TimeUnit.{TimeUnit}, specs.declared.link.Link.{Link}, specs.Links.{link_number, link_length, direction_of, index_of, kind_in}, specs.Numbers.{number_bytes}, specs.Values.{most_entries, EntryValue, At, on_linux}}
+use Rattle.std.{specs.Prelude.{◌≡◌, ◌≢◌, ◌⊎◌, ℕ, ◌+◌, ◌*◌, ◌<◌, ◌^◌, List, [], ◌++◌, length, All, None}, specs.List.{flat_map, AllZip}}
+use Rattle.bus_captures.{specs.declared.capture.CaptureFault.{CaptureFault}, specs.declared.capture.End.{End}, specs.declared.format.Order.{Order}, specs.declared.format.TimeUnit.{TimeUnit}, specs.declared.link.Link.{Link}, specs.Frames.{FrameValue, IsFrameOf, entry_of}, specs.Links.{link_number, link_of}, specs.Numbers.{number_bytes}, specs.Values.{most_entries, EntryValue, At}}
 use Rattle.bus_captures.specs.declared.capture.CaptureFault.TheVariants as fault
 use Rattle.bus_captures.specs.declared.capture.End.TheVariants as end
 use Rattle.bus_captures.specs.declared.format.TimeUnit.TheVariants as unit
@@ -39,30 +39,16 @@ abbrev pub Begins : Order → List ℕ → FileRecord → Type 0
 Begins order bytes r = IsRecord r × ((rest : List ℕ) × (bytes ≡ record_bytes order r ++ rest))
 
 -- the record is this entry
-pub record IsEntryOf (unit : TimeUnit) (link : Link) (r : FileRecord) (e : EntryValue) : Type 0 where
-  pub whole : length r.bytes ≡ r.original
-  pub long : link_length link ≤ length r.bytes
-  pub time : e.time ≡ At r.seconds (nanoseconds unit r.fraction)
-  pub direction : e.direction ≡ direction_of link r.bytes
-  pub interface : e.interface ≡ on_linux (index_of link r.bytes)
-  pub kind : e.kind ≡ kind_in link r.bytes
-  pub bytes : e.bytes ≡ drop (link_length link) r.bytes
-
--- why no entry stands at the front of the bytes
-abbrev pub IsBrokenBy : Order → Link → List ℕ → CaptureFault → Type 0
-IsBrokenBy order link bytes fault.Header = ⊥
-IsBrokenBy order link bytes fault.Link = ⊥
-IsBrokenBy order link bytes fault.Record = (bytes ≢ []) × ((r : FileRecord) → ¬ Begins order bytes r)
-IsBrokenBy order link bytes fault.Cut = (r : FileRecord) × Begins order bytes r × (length r.bytes ≢ r.original)
-IsBrokenBy order link bytes fault.LinkHeader =
-    (r : FileRecord) × Begins order bytes r × (length r.bytes ≡ r.original) × (length r.bytes < link_length link)
-IsBrokenBy order link bytes fault.Line = ⊥
+abbrev pub IsEntryOf : TimeUnit → Link → FileRecord → EntryValue → Type 0
+IsEntryOf unit link r e = (f : FrameValue) × IsFrameOf link r.original r.bytes f
+    × (e ≡ entry_of (At r.seconds (nanoseconds unit r.fraction)) None None f)
 
 -- how reading ends behind so many records, where these bytes are left
-abbrev pub EndsFile : Order → Link → ℕ → List ℕ → End → Type 0
-EndsFile order link count left end.Whole = left ≡ []
-EndsFile order link count left end.Full = (count ≡ most_entries) × (left ≢ [])
-EndsFile order link count left (end.Broken place why) = (place ≡ count + 1) × IsBrokenBy order link left why
+abbrev pub EndsFile : Order → ℕ → List ℕ → End → Type 0
+EndsFile order count left end.Whole = left ≡ []
+EndsFile order count left end.Full = (count ≡ most_entries) × (left ≢ [])
+EndsFile order count left (end.Broken place why) =
+    (place ≡ count + 1) × (why ≡ fault.Record) × (left ≢ []) × ((r : FileRecord) → ¬ Begins order left r)
 
 -- The bytes are records, each of which is an entry, and then what is left.
 pub record AreRead (order : Order) (unit : TimeUnit) (link : Link) (bytes : List ℕ) (entries : List EntryValue)
@@ -77,17 +63,16 @@ pub record IsBody (order : Order) (unit : TimeUnit) (link : Link) (bytes : List 
     (how : End) : Type 0 where
   pub left : List ℕ
   pub read : AreRead order unit link bytes entries left
-  pub ends : EndsFile order link (length entries) left how
+  pub ends : EndsFile order (length entries) left how
 
 -- what stands behind the first number has no such header: it is too short, or the link type is another
 abbrev pub HasNoHeader : Order → List ℕ → CaptureFault → Type 0
 HasNoHeader order bytes fault.Header = length bytes < 20
-HasNoHeader order bytes fault.Link =
-    (ahead : List ℕ) × (number : ℕ) × (rest : List ℕ) × (length ahead ≡ 16) × (number < 2 ^ 32)
-    × (bytes ≡ ahead ++ number_bytes order number ++ rest) × ((link : Link) → number ≢ link_number link)
+HasNoHeader order bytes (fault.Link number) =
+    (ahead : List ℕ) × (rest : List ℕ) × (length ahead ≡ 16) × (number < 2 ^ 32)
+    × (bytes ≡ ahead ++ number_bytes order number ++ rest) × (link_of number ≡ None)
 HasNoHeader order bytes fault.Record = ⊥
-HasNoHeader order bytes fault.Cut = ⊥
-HasNoHeader order bytes fault.LinkHeader = ⊥
+HasNoHeader order bytes fault.Block = ⊥
 HasNoHeader order bytes fault.Line = ⊥
 
 -- The rest of the header: 16 bytes that aren't looked at (version, zone, accuracy, largest record), and the link type.

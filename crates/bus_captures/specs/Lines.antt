@@ -1,6 +1,6 @@
 -- A line of a text capture: a time, words up to a colon, bytes in hex, and a comment. All but the bytes may be missing.
 use Rattle.std.{specs.Prelude.{◌≡◌, ℕ, ◌+◌, ◌-◌, ◌<◌, ◌==◌, ◌&&◌, Bool, nat_lt, List, length, take, drop, slice_index, codes, Option, None, Some, if◌then◌else◌}, specs.List.{ends_with}}
-use Rattle.bus_captures.{specs.declared.capture.Direction.{Direction}, specs.declared.capture.Kind.{Kind}, specs.Hex.{IsHex}, specs.Sorts.{before, behind}, specs.Values.{TimeValue, Unknown, Written, EntryValue, nowhere}}
+use Rattle.bus_captures.{specs.declared.capture.Direction.{Direction}, specs.declared.capture.Kind.{Kind}, specs.Hex.{IsHex}, specs.Smbus.{IsUnframed}, specs.Sorts.{before, behind}, specs.Values.{TimeValue, Unknown, Written, EntryValue, nowhere}}
 use Rattle.bus_captures.specs.declared.capture.Direction.TheVariants as direction
 use Rattle.bus_captures.specs.declared.capture.Kind.TheVariants as kind
 use Rattle.bus_captures.specs.declared.sort.Sort.TheVariants as sort
@@ -68,14 +68,23 @@ head_of text =
 abbrev pub IsBlank : List ℕ → Type 0
 IsBlank text = before sort.NoSpace text ≡ length text
 
+-- what is read of bytes: of a packet that which stands in its frame of SMBus, if it has one, and a message as it is
+abbrev pub IsTextRead : Kind → List ℕ → Kind → List ℕ → Type 0
+IsTextRead kind.Packet raw what read = IsUnframed raw what read
+IsTextRead kind.Message raw what read = (what ≡ kind.Message) × (read ≡ raw)
+IsTextRead (kind.Other protocol) raw what read = ⊥
+IsTextRead (kind.Unread why) raw what read = ⊥
+
 -- the text is this entry
 pub record IsEntryText (text : List ℕ) (e : EntryValue) : Type 0 where
   pub time : e.time ≡ (head_of text).time
   pub direction : e.direction ≡ (head_of text).direction
   pub interface : e.interface ≡ nowhere
-  pub kind : e.kind ≡ (head_of text).kind
-  pub bytes : IsHex (head_of text).hex e.bytes
-  pub some : 0 < length e.bytes
+  pub name : e.name ≡ None
+  pub raw : List ℕ
+  pub hex : IsHex (head_of text).hex raw
+  pub some : 0 < length raw
+  pub read : IsTextRead (head_of text).kind raw e.kind e.bytes
 
 -- the text is something, and no entry
 abbrev pub IsBadText : List ℕ → Type 0

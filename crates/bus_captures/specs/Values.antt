@@ -1,5 +1,5 @@
 -- What the entries of the code stand for, wherever their bytes lie.
-use Rattle.std.specs.Prelude.{◌≡◌, ℕ, List, [], ◌∷◌, ◌++◌, map, Option, None}
+use Rattle.std.specs.Prelude.{◌≡◌, ℕ, List, [], ◌∷◌, ◌++◌, map, Option, None, option_map}
 use Rattle.bus_captures.{specs.declared.capture.Direction.{Direction}, specs.declared.capture.Interface.{Interface}, specs.declared.capture.Kind.{Kind}, specs.declared.capture.Entry.{Entry}, specs.declared.capture.Time.{Time}}
 use Rattle.bus_captures.specs.declared.capture.Time.TheVariants as time
 
@@ -17,6 +17,7 @@ pub record EntryValue : Type 0 where
   pub time : TimeValue
   pub direction : Option Direction
   pub interface : Interface
+  pub name : Option (List ℕ)
   pub kind : Kind
   pub bytes : List ℕ
 
@@ -37,6 +38,7 @@ entry_value e = record {
   time = time_value e.time;
   direction = e.direction;
   interface = e.interface;
+  name = option_map (λ n. n.now) e.name;
   kind = e.kind;
   bytes = e.bytes.items;
 }

@@ -1,5 +1,5 @@
 -- Capture files that are written: packets of MCTP alone, of the second cooked link type, with times in nanoseconds.
-use Rattle.std.{specs.Prelude.{◌≡◌, ℕ, ◌+◌, ◌-◌, ◌<◌, ◌≤◌, ◌^◌, List, [], ◌∷◌, ◌++◌, length, map, Some, replicate}, specs.List.{flat_map}}
+use Rattle.std.{specs.Prelude.{◌≡◌, ℕ, ◌+◌, ◌-◌, ◌<◌, ◌≤◌, ◌^◌, List, [], ◌∷◌, ◌++◌, length, map, None, Some, replicate}, specs.List.{flat_map}}
 use Rattle.byteorder.specs.Endian.{big_bytes}
 use Rattle.bus_captures.{specs.declared.capture.End.{End}, specs.declared.carried.CarriedPacket.{CarriedPacket}, specs.Captures.{IsCapture}, specs.Files.{FileRecord, magic, record_bytes}, specs.Links.{link_number}, specs.Numbers.{number_bytes}, specs.Values.{EntryValue, At, on_linux}}
 use Rattle.bus_captures.specs.declared.capture.Direction.TheVariants as direction
@@ -66,6 +66,7 @@ carried_entry p = record {
   time = At p.seconds p.nanoseconds;
   direction = Some direction.Received;
   interface = on_linux (Some p.interface);
+  name = None;
   kind = kind.Packet;
   bytes = p.bytes;
 }

@@ -1,11 +1,11 @@
 //! Capture files: a header and records (libpcap's format, version 2.4).
-ghost use Rattle.std.specs.Prelude.{◌≡◌, ◌≤◌, [], length, map, IfOk, OnOk, MatchResult};
-ghost use Rattle.bus_captures.{specs.Files.{IsBody, IsEntryOf, HasNoHeader, HasHeader, IsFile}, specs.Values.{entry_value, Adds}, specs.Links.{link_length}, specs.Records.{record_value}};
+ghost use Rattle.std.specs.Prelude.{◌≡◌, [], map, IfOk, MatchResult};
+ghost use Rattle.bus_captures.{specs.Files.{IsBody, HasNoHeader, HasHeader, IsFile}, specs.Values.{entry_value}};
 
 use crate::capture::{Capture, CaptureFault, End, Entry, MAX_ENTRIES};
 use crate::format::{Order, TimeUnit, split_number};
 use crate::link::Link;
-use crate::record::{Record, entry_of, next_record};
+use crate::record::{entry_of, split_record};
 use std::alloc::{AllocError, Global};
 
 /// How many bytes of the header are passed over.
@@ -42,7 +42,7 @@ fn split_header(order: Order, bytes: &[u8]) -> Result<(Link, &[u8]), CaptureFaul
     };
     match Link::of(number) {
         Some(link) => Ok((link, body)),
-        None => Err(CaptureFault::Link),
+        None => Err(CaptureFault::Link(number)),
     }
 }
 
@@ -78,32 +78,13 @@ fn add_entries<'a>(
         if entries.len() == MAX_ENTRIES {
             return Ok(End::Full);
         }
-        let (record, rest) = match next_record(order, link, left) {
-            Ok(found) => found,
-            Err(fault) => {
-                let place = entries.len() as u64 + 1;
-                return Ok(End::Broken { place, fault });
-            }
+        let Some((record, rest)) = split_record(order, left) else {
+            let place = entries.len() as u64 + 1;
+            let fault = CaptureFault::Record;
+            return Ok(End::Broken { place, fault });
         };
-        add_entry(alloc, unit, link, &record, entries)?;
+        entries.push(entry_of(alloc, unit, link, &record)?)?;
         left = rest;
     }
     Ok(End::Whole)
-}
-
-/// Adds what was captured in a record.
-fn add_entry<'a>(
-    alloc: Global,
-    unit: TimeUnit,
-    link: Link,
-    kept: &Record,
-    entries: &mut Vec<Entry<'a>>,
-) -> Result<(), AllocError>
-    requires whole { length kept.now.bytes.now ≡ kept.now.original }
-    requires long { link_length link ≤ length kept.now.bytes.now }
-    ensures { OnOk result (Adds (IsEntryOf unit link (record_value kept.now)) entries.old.items entries.new.items) }
-{
-    let entry = entry_of(alloc, unit, link, kept)?;
-    entries.push(entry)?;
-    Ok(())
 }

@@ -1,6 +1,6 @@
 //! The byte order and the unit of time of a capture file, and numbers in that order.
-ghost use Rattle.std.specs.Prelude.{◌≡◌, ◌≢◌, ◌<◌, ◌^◌, ◌++◌, ℕ, List, length, MatchOption};
-ghost use Rattle.bus_captures.{specs.Numbers.{number_bytes}, specs.Captures.{BeginsFile}, specs.declared.format.Order.{Order}, specs.declared.format.TimeUnit.{TimeUnit}};
+ghost use Rattle.std.specs.Prelude.{◌≡◌, ◌≢◌, ◌<◌, ◌≤◌, ◌+◌, ◌^◌, ◌++◌, ℕ, List, length, MatchOption};
+ghost use Rattle.bus_captures.{specs.Numbers.{number_bytes, short_bytes, number_at, short_at}, specs.Captures.{BeginsFile}, specs.declared.format.Order.{Order}, specs.declared.format.TimeUnit.{TimeUnit}};
 
 use byteorder::{BigEndian, ByteOrder, LittleEndian};
 
@@ -45,4 +45,41 @@ pub fn split_number(order: Order, bytes: &[u8]) -> Option<(u32, &[u8])>
         Order::Big => BigEndian::read_u32(bytes),
     };
     Some((number, rest))
+}
+
+/// The number in the first two bytes, and the bytes after them.
+pub fn split_short(order: Order, bytes: &[u8]) -> Option<(u16, &[u8])>
+    ensures { MatchOption result (length bytes.now < 2)
+        (λ r. (r.0 < 2 ^ 16) × (bytes.now ≡ short_bytes order r.0 ++ r.1.now)) }
+{
+    let [_, _, rest @ ..] = bytes else {
+        return None;
+    };
+    let number = match order {
+        Order::Little => LittleEndian::read_u16(bytes),
+        Order::Big => BigEndian::read_u16(bytes),
+    };
+    Some((number, rest))
+}
+
+/// The number in the four bytes from a place on.
+pub fn number_at(order: Order, place: usize, bytes: &[u8]) -> u32
+    requires { place + 4 ≤ length bytes.now }
+    ensures { result ≡ number_at order place bytes.now }
+{
+    match order {
+        Order::Little => LittleEndian::read_u32(&bytes[place..]),
+        Order::Big => BigEndian::read_u32(&bytes[place..]),
+    }
+}
+
+/// The number in the two bytes from a place on.
+pub fn short_at(order: Order, place: usize, bytes: &[u8]) -> u16
+    requires { place + 2 ≤ length bytes.now }
+    ensures { result ≡ short_at order place bytes.now }
+{
+    match order {
+        Order::Little => LittleEndian::read_u16(&bytes[place..]),
+        Order::Big => BigEndian::read_u16(&bytes[place..]),
+    }
 }

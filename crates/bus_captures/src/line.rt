@@ -1,9 +1,10 @@
 //! A line of a text capture.
 ghost use Rattle.std.specs.Prelude.{◌≡◌, IfOk};
-ghost use Rattle.bus_captures.{specs.Lines.{uncommented, is_time, word, behind_word, time_of, untimed, direction_in, head_of, packet_head, message_head}, specs.LineValues.{Says, head_value, IsLineOf}, specs.Values.{time_value}};
+ghost use Rattle.bus_captures.{specs.Lines.{IsTextRead, uncommented, is_time, word, behind_word, time_of, untimed, direction_in, head_of, packet_head, message_head}, specs.LineValues.{Says, head_value, IsLineOf, IsPacketOrMessage}, specs.Values.{time_value}};
 
 use crate::capture::{Direction, Entry, Interface, Kind, Time};
 use crate::hex_text::bytes_of_hex;
+use crate::smbus::unframed;
 use crate::sort::{Sort, skip};
 use std::alloc::{AllocError, Global};
 
@@ -54,30 +55,46 @@ fn read_text_of_line<'a>(alloc: Global, text: &'a [u8]) -> Result<Line<'a>, Allo
     }
     let head = head_of_text(text);
     match bytes_of_hex(alloc, head.hex)? {
-        Some(bytes) => Ok(line_of(&head, bytes)),
+        Some(bytes) => line_of(alloc, &head, bytes),
         None => Ok(Line::Bad),
     }
 }
 
 /// The line of these bytes. No bytes are no entry.
-fn line_of<'a>(head: &Head<'a>, bytes: Vec<u8>) -> Line<'a>
-    ensures { IsLineOf (head_value head.now) bytes.items result }
+fn line_of<'a>(alloc: Global, head: &Head<'a>, bytes: Vec<u8>) -> Result<Line<'a>, AllocError>
+    requires { IsPacketOrMessage head.now.kind }
+    ensures { IfOk result (λ line. IsLineOf (head_value head.now) bytes.items line) }
 {
     if bytes.is_empty() {
-        return Line::Bad;
+        return Ok(Line::Bad);
     }
-    Line::Entry(Entry {
+    let (kind, bytes) = read_of(alloc, head.kind, bytes)?;
+    Ok(Line::Entry(Entry {
         time: head.time,
         direction: head.direction,
         interface: NOWHERE,
-        kind: head.kind,
+        name: None,
+        kind,
         bytes,
-    })
+    }))
+}
+
+/// What is read of the bytes of a packet, or of a message.
+fn read_of(alloc: Global, kind: Kind, bytes: Vec<u8>) -> Result<(Kind, Vec<u8>), AllocError>
+    requires { IsPacketOrMessage kind }
+    ensures { IfOk result (λ r. IsTextRead kind bytes.items r.0 r.1.items) }
+{
+    if kind != Kind::Packet {
+        return Ok((kind, bytes));
+    }
+    let (kind, read) = unframed(&bytes);
+    Ok((kind, Vec::from_slice(alloc, read)?))
 }
 
 /// What a line's text says, with its bytes still in hex.
 fn head_of_text(text: &[u8]) -> Head<'_>
-    ensures { head_value result ≡ head_of text.now }
+    ensures head { head_value result ≡ head_of text.now }
+    ensures kind { IsPacketOrMessage result.kind }
 {
     let behind = Sort::Colon.behind(text);
     if behind < text.len() {
@@ -89,7 +106,8 @@ fn head_of_text(text: &[u8]) -> Head<'_>
 }
 
 fn message_head<'a>(words: &'a [u8], hex: &'a [u8]) -> Head<'a>
-    ensures { head_value result ≡ message_head words.now hex.now }
+    ensures head { head_value result ≡ message_head words.now hex.now }
+    ensures kind { result.kind ≡ Kind.Message }
 {
     let (time, _) = split_time(words);
     Head {
@@ -101,7 +119,8 @@ fn message_head<'a>(words: &'a [u8], hex: &'a [u8]) -> Head<'a>
 }
 
 fn packet_head(text: &[u8]) -> Head<'_>
-    ensures { head_value result ≡ packet_head text.now }
+    ensures head { head_value result ≡ packet_head text.now }
+    ensures kind { result.kind ≡ Kind.Packet }
 {
     let (time, hex) = split_time(text);
     Head {

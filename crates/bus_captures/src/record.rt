@@ -1,9 +1,10 @@
 //! Records of a capture file.
-ghost use Rattle.std.specs.Prelude.{◌≡◌, ◌≢◌, ◌≤◌, ◌<◌, ◌++◌, List, [], length, IfOk, MatchOption, MatchResult};
-ghost use Rattle.bus_captures.{specs.Files.{FileRecord, IsRecord, record_bytes, Begins, IsBrokenBy, IsEntryOf}, specs.Links.{link_length}, specs.Records.{record_value}, specs.Values.{entry_value}};
+ghost use Rattle.std.specs.Prelude.{◌≡◌, ◌++◌, List, IfOk, MatchOption};
+ghost use Rattle.bus_captures.{specs.Files.{FileRecord, IsRecord, record_bytes, Begins, IsEntryOf}, specs.Records.{record_value}, specs.Values.{entry_value}};
 
-use crate::capture::{CaptureFault, Entry, Interface, Time};
+use crate::capture::{Entry, Time};
 use crate::format::{Order, TimeUnit, split_number};
+use crate::frame::frame_of;
 use crate::link::Link;
 use crate::time::nanoseconds;
 use std::alloc::{AllocError, Global};
@@ -39,30 +40,6 @@ pub fn split_record(order: Order, bytes: &[u8]) -> Option<(Record<'_>, &[u8])>
     Some((record, rest))
 }
 
-/// The record at the front of the bytes, all of which was kept, and the bytes after it.
-pub fn next_record(
-    order: Order,
-    link: Link,
-    bytes: &[u8],
-) -> Result<(Record<'_>, &[u8]), CaptureFault>
-    requires { bytes.now ≢ [] }
-    ensures { MatchResult result
-        (λ r. IsRecord (record_value r.0) × (bytes.now ≡ record_bytes order (record_value r.0) ++ r.1.now)
-        × (length r.0.bytes.now ≡ r.0.original) × (link_length link ≤ length r.0.bytes.now))
-        (λ fault. IsBrokenBy order link bytes.now fault) }
-{
-    let Some((record, rest)) = split_record(order, bytes) else {
-        return Err(CaptureFault::Record);
-    };
-    if record.bytes.len() != record.original as usize {
-        return Err(CaptureFault::Cut);
-    }
-    if record.bytes.len() < link.length() {
-        return Err(CaptureFault::LinkHeader);
-    }
-    Ok((record, rest))
-}
-
 /// What was captured in a record.
 pub fn entry_of<'a>(
     alloc: Global,
@@ -70,26 +47,11 @@ pub fn entry_of<'a>(
     link: Link,
     kept: &Record,
 ) -> Result<Entry<'a>, AllocError>
-    requires whole { length kept.now.bytes.now ≡ kept.now.original }
-    requires long { link_length link ≤ length kept.now.bytes.now }
     ensures { IfOk result (λ entry. IsEntryOf unit link (record_value kept.now) (entry_value entry)) }
 {
-    let direction = link.direction(kept.bytes);
-    let kind = link.kind(kept.bytes);
-    let interface = Interface {
-        number: None,
-        index: link.index(kept.bytes),
-    };
     let time = Time::At {
-        seconds: kept.seconds,
+        seconds: u64::from(kept.seconds),
         nanoseconds: nanoseconds(unit, kept.fraction),
     };
-    let bytes = Vec::from_slice(alloc, &kept.bytes[link.length()..])?;
-    Ok(Entry {
-        time,
-        direction,
-        interface,
-        kind,
-        bytes,
-    })
+    frame_of(link, kept.original, kept.bytes).entry(alloc, time, None, None)
 }

@@ -3,7 +3,7 @@ use Rattle.std.{specs.Prelude.{◌≡◌, ℕ, ◌+◌, List, [], ◌∷◌, ◌
 use Rattle.bus_captures.{specs.Values.{EntryValue, entry_value}, specs.declared.capture.Capture.{Capture}, specs.declared.capture.CaptureFault.{CaptureFault}, specs.declared.capture.End.{End}}
 use Rattle.heard_captures.specs.Seen.{Seen, AreSeen}
 use Rattle.plan_values.specs.declared.plan.Plan.{Plan}
-use Rattle.decoded_texts.{specs.Heads.{head_words}, specs.Seen.{IsToldAs}}
+use Rattle.decoded_texts.{specs.Heads.{head_words}, specs.Seen.{IsToldAs, link_words}}
 use Rattle.bus_captures.specs.declared.capture.CaptureFault.TheVariants as fault
 use Rattle.bus_captures.specs.declared.capture.End.TheVariants as end
 
@@ -15,13 +15,12 @@ pub data AreTold (plan : Option Plan) : List EntryValue → List Seen → List �
       → AreTold plan entries seen lines → IsToldAs plan s told
       → AreTold plan (entries ++ e ∷ []) (seen ++ s ∷ []) (lines ++ (head_words (length entries + 1) e ++ told))
 
-abbrev pub fault_word : CaptureFault → List ℕ
-fault_word fault.Header = codes "header"
-fault_word fault.Link = codes "link"
-fault_word fault.Record = codes "record"
-fault_word fault.Cut = codes "cut"
-fault_word fault.LinkHeader = codes "link-header"
-fault_word fault.Line = codes "line"
+abbrev pub fault_words : CaptureFault → List ℕ
+fault_words fault.Header = codes "header"
+fault_words (fault.Link number) = link_words number
+fault_words fault.Record = codes "record"
+fault_words fault.Block = codes "block"
+fault_words fault.Line = codes "line"
 
 -- how many entries there are, and why there aren't more
 abbrev pub end_line : ℕ → End → List ℕ
@@ -29,7 +28,7 @@ end_line count end.Whole = codes "entries " ++ (decimal count ++ codes "\n")
 end_line count end.Full = codes "entries " ++ (decimal count ++ codes " of more\n")
 end_line count (end.Broken place why) =
     codes "entries " ++ (decimal count ++ (codes " broken " ++ (decimal place
-    ++ (codes " " ++ (fault_word why ++ codes "\n")))))
+    ++ (codes " " ++ (fault_words why ++ codes "\n")))))
 
 -- the transmission unit of captured packets: that of a plan, or where there is none the baseline's 64
 abbrev pub unit_by : Option Plan → ℕ

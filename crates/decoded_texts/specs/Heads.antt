@@ -1,5 +1,5 @@
 -- What stands before what became of an entry.
-use Rattle.std.{specs.Prelude.{ℕ, ◌+◌, ◌-◌, ◌/◌, ◌%◌, List, [], ◌++◌, length, replicate, codes, Option, None, Some}, specs.Fmt.{decimal}, specs.Str.Lossy.{utf8_lossy}}
+use Rattle.std.{specs.Prelude.{ℕ, ◌+◌, ◌-◌, ◌/◌, ◌%◌, ◌&&◌, nat_lt, List, [], ◌++◌, length, map, replicate, codes, Option, None, Some, if◌then◌else◌}, specs.Fmt.{decimal}, specs.Str.Lossy.{utf8_lossy}}
 use Rattle.bus_captures.{specs.Values.{TimeValue, Unknown, Written, At, EntryValue}, specs.declared.capture.Direction.{Direction}, specs.declared.capture.Interface.{Interface}, specs.declared.capture.Kind.{Kind}}
 use Rattle.bus_captures.specs.declared.capture.Direction.TheVariants as direction
 use Rattle.bus_captures.specs.declared.capture.Kind.TheVariants as kind
@@ -21,9 +21,18 @@ abbrev pub number_words : List ℕ → Option ℕ → List ℕ
 number_words words None = []
 number_words words (Some number) = words ++ decimal number
 
--- on which interface: its number in the file, and Linux' number of it
-abbrev pub interface_words : Interface → List ℕ
-interface_words i = number_words (codes " interface ") i.number ++ number_words (codes " ifindex ") i.index
+-- a byte of a name as it is shown: a question mark for what is no printable character of ASCII, and for a blank
+abbrev pub shown_byte : ℕ → ℕ
+shown_byte byte = if nat_lt 32 byte && nat_lt byte 127 then byte else 63
+
+abbrev pub interface_name : Option (List ℕ) → List ℕ
+interface_name None = []
+interface_name (Some name) = codes " name " ++ map shown_byte name
+
+-- on which interface: its number and its name in the file, and Linux' number of it
+abbrev pub interface_words : Interface → Option (List ℕ) → List ℕ
+interface_words i name = number_words (codes " interface ") i.number
+    ++ (interface_name name ++ number_words (codes " ifindex ") i.index)
 
 -- the way of what isn't a message; a message has it in words of its own
 abbrev pub way_words : Kind → Option Direction → List ℕ
@@ -34,8 +43,11 @@ way_words kind.Packet (Some direction.Received) = codes " in"
 way_words (kind.Other protocol) None = []
 way_words (kind.Other protocol) (Some direction.Sent) = codes " out"
 way_words (kind.Other protocol) (Some direction.Received) = codes " in"
+way_words (kind.Unread why) None = []
+way_words (kind.Unread why) (Some direction.Sent) = codes " out"
+way_words (kind.Unread why) (Some direction.Received) = codes " in"
 
 -- the entry's number, its time, its interface and its way, as far as the capture has them
 abbrev pub head_words : ℕ → EntryValue → List ℕ
 head_words number e =
-    decimal number ++ (time_words e.time ++ (interface_words e.interface ++ way_words e.kind e.direction))
+    decimal number ++ (time_words e.time ++ (interface_words e.interface e.name ++ way_words e.kind e.direction))

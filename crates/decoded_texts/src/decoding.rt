@@ -1,9 +1,9 @@
 //! All lines of a capture.
 ghost use Rattle.std.specs.Prelude.{◌≡◌, ◌+◌, IfOk, string_bytes, map, length, option_map};
 ghost use Rattle.bus_captures.specs.Values.{entry_value};
-ghost use Rattle.decoded_texts.specs.Decoding.{fault_word, end_line, IsDecodedBy, IsDecodedCapture, IsNamedCapture};
+ghost use Rattle.decoded_texts.specs.Decoding.{fault_words, end_line, IsDecodedBy, IsDecodedCapture, IsNamedCapture};
 
-use crate::entries::push_entry;
+use crate::entries::{link_words, push_entry};
 use crate::names::Names;
 use bus_captures::{Capture, CaptureFault, End};
 use heard_captures::Stations;
@@ -50,21 +50,20 @@ fn end_line(alloc: Global, count: usize, end: End) -> Result<String, AllocError>
         End::Whole => format!(in alloc; "entries {count}\n"),
         End::Full => format!(in alloc; "entries {count} of more\n"),
         End::Broken { place, fault } => {
-            let word = fault_word(fault);
-            format!(in alloc; "entries {count} broken {place} {word}\n")
+            let words = fault_words(alloc, fault)?;
+            format!(in alloc; "entries {count} broken {place} {words}\n")
         }
     }
 }
 
-fn fault_word(fault: CaptureFault) -> &'static str
-    ensures { result.now ≡ fault_word fault }
+fn fault_words(alloc: Global, fault: CaptureFault) -> Result<String, AllocError>
+    ensures { IfOk result (λ words. string_bytes words ≡ fault_words fault) }
 {
     match fault {
-        CaptureFault::Header => "header",
-        CaptureFault::Link => "link",
-        CaptureFault::Record => "record",
-        CaptureFault::Cut => "cut",
-        CaptureFault::LinkHeader => "link-header",
-        CaptureFault::Line => "line",
+        CaptureFault::Header => String::from_str(alloc, "header"),
+        CaptureFault::Link(number) => link_words(alloc, number),
+        CaptureFault::Record => String::from_str(alloc, "record"),
+        CaptureFault::Block => String::from_str(alloc, "block"),
+        CaptureFault::Line => String::from_str(alloc, "line"),
     }
 }

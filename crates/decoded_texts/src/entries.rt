@@ -1,16 +1,16 @@
 //! The lines that tell what became of an entry.
-ghost use Rattle.std.{specs.Prelude.{◌≡◌, ◌++◌, IfOk, OnOk, ℕ, List, string_bytes, option_map, codes}, specs.Fmt.{decimal}};
+ghost use Rattle.std.{specs.Prelude.{◌≡◌, ◌++◌, ◌∷◌, [], IfOk, OnOk, ℕ, List, string_bytes, option_map, codes}, specs.Fmt.{decimal}};
 ghost use Rattle.bus_captures.specs.Values.{entry_value};
 ghost use Rattle.mctp_transport.{specs.Heard.{heard_answer}, specs.Packets.{packet_value_of}};
 ghost use Rattle.heard_captures.specs.Sights.{seen_of};
 ghost use Rattle.hex.specs.Hex.{encode_lower};
 ghost use Rattle.plan_texts.specs.Shown.{address_words_of, position_words_of, tag_words_of, refused_bytes};
-ghost use Rattle.decoded_texts.{specs.Messages.{IsSaid}, specs.Seen.{answer_word, way_word, fed_line, told_line, IsSaidOf}, specs.Steps.{AddsTold, AddsStep}};
+ghost use Rattle.decoded_texts.{specs.Messages.{IsSaid}, specs.Seen.{answer_word, way_word, fed_line, told_line, link_words, unread_words, IsSaidOf}, specs.Steps.{AddsTold, AddsStep}};
 
 use crate::heads::push_head;
 use crate::message::message_text;
 use crate::names::{Names, push_names, unit_by};
-use bus_captures::{Direction, Entry};
+use bus_captures::{Direction, Entry, Unread};
 use heard_captures::{Sight, Stations, see};
 use mctp_transport::{Heard, PacketView};
 use std::alloc::{AllocError, Global};
@@ -45,6 +45,7 @@ fn push_sight(
         Sight::NoPacket(error) => push_refused(text, error.code()),
         Sight::Told(way, message) => push_told(alloc, text, *way, *message),
         Sight::Other(protocol) => push_other(text, *protocol),
+        Sight::NotRead(why) => push_not_read(alloc, text, *why),
     }
 }
 
@@ -196,4 +197,38 @@ fn way_word(way: Option<Direction>) -> &'static str
         Some(Direction::Sent) => "sent message",
         Some(Direction::Received) => "received message",
     }
+}
+
+/// Adds why something isn't read.
+fn push_not_read(alloc: Global, text: &mut String, why: Unread) -> Result<(), AllocError>
+    ensures { OnOk result (string_bytes text.new ≡ string_bytes text.old ++ (codes " unread " ++ (unread_words why ++ codes "\n"))) }
+{
+    let words = unread_words(alloc, why)?;
+    write!(text, " unread {words}\n")
+}
+
+fn unread_words(alloc: Global, why: Unread) -> Result<String, AllocError>
+    ensures { IfOk result (λ words. string_bytes words ≡ unread_words why) }
+{
+    match why {
+        Unread::Link(number) => link_words(alloc, number),
+        Unread::Pec { told, computed } => pec_words(alloc, told, computed),
+        _ => String::from_str(alloc, why.word()),
+    }
+}
+
+/// A link type that isn't read, and those that are.
+pub fn link_words(alloc: Global, number: u32) -> Result<String, AllocError>
+    ensures { IfOk result (λ words. string_bytes words ≡ link_words number) }
+{
+    format!(in alloc; "link {number} (read are 113, 147, 209, 276 and 291)")
+}
+
+/// The check byte that a frame has, and the one that is computed, in hex.
+fn pec_words(alloc: Global, told: u8, computed: u8) -> Result<String, AllocError>
+    ensures { IfOk result (λ words. string_bytes words ≡ codes "pec " ++ (encode_lower (told ∷ []) ++ (codes " computed " ++ encode_lower (computed ∷ [])))) }
+{
+    let told = hex::encode(alloc, &[told])?;
+    let computed = hex::encode(alloc, &[computed])?;
+    format!(in alloc; "pec {told} computed {computed}")
 }

@@ -1,7 +1,7 @@
 //! What stands before what became of an entry: its number, when and where it was captured, and which way it went.
-ghost use Rattle.std.specs.Prelude.{◌≡◌, ◌++◌, OnOk, string_bytes};
+ghost use Rattle.std.specs.Prelude.{◌≡◌, ◌<◌, ◌++◌, OnOk, map, option_map, string_bytes};
 ghost use Rattle.bus_captures.specs.Values.{entry_value, time_value};
-ghost use Rattle.decoded_texts.specs.Heads.{head_words, nine_digits, time_words, interface_words, number_words, way_words};
+ghost use Rattle.decoded_texts.specs.Heads.{head_words, nine_digits, time_words, interface_name, interface_words, number_words, shown_byte, way_words};
 
 use bus_captures::{Direction, Entry, Interface, Kind, Time};
 use std::alloc::{AllocError, Global};
@@ -20,7 +20,7 @@ pub fn push_head(
 {
     write!(text, "{number}")?;
     push_time(alloc, text, entry.time)?;
-    push_interface(text, entry.interface)?;
+    push_interface(text, entry.interface, entry.name)?;
     text.push_str(way_words(entry.kind, entry.direction))
 }
 
@@ -37,7 +37,7 @@ fn push_time(alloc: Global, text: &mut String, time: Time) -> Result<(), AllocEr
             seconds,
             nanoseconds,
         } => {
-            let whole = u64::from(seconds) + nanoseconds / SECOND;
+            let whole = u128::from(seconds) + u128::from(nanoseconds / SECOND);
             write!(text, " time {whole}.")?;
             push_nine_digits(text, nanoseconds % SECOND)
         }
@@ -51,11 +51,47 @@ fn push_nine_digits(text: &mut String, number: u64) -> Result<(), AllocError>
     write!(text, "{number:09}")
 }
 
-fn push_interface(text: &mut String, interface: Interface) -> Result<(), AllocError>
-    ensures { OnOk result (string_bytes text.new ≡ string_bytes text.old ++ interface_words interface) }
+fn push_interface(
+    text: &mut String,
+    interface: Interface,
+    name: Option<&[u8]>,
+) -> Result<(), AllocError>
+    ensures { OnOk result (string_bytes text.new ≡ string_bytes text.old ++ interface_words interface (option_map (λ n. n.now) name.entry)) }
 {
     push_number(text, " interface ", interface.number)?;
+    push_name(text, name)?;
     push_number(text, " ifindex ", interface.index)
+}
+
+/// Adds the name of an interface, if it has one.
+fn push_name(text: &mut String, name: Option<&[u8]>) -> Result<(), AllocError>
+    ensures { OnOk result (string_bytes text.new ≡ string_bytes text.old ++ interface_name (option_map (λ n. n.now) name.entry)) }
+{
+    match name {
+        None => Ok(()),
+        Some(name) => {
+            text.push_str(" name ")?;
+            push_shown(text, name)
+        }
+    }
+}
+
+/// Adds the bytes of a name as they are shown.
+fn push_shown(text: &mut String, name: &[u8]) -> Result<(), AllocError>
+    ensures { OnOk result (string_bytes text.new ≡ string_bytes text.old ++ map shown_byte name.now) }
+{
+    for byte in name.iter() {
+        text.push(char::from(shown_byte(*byte)))?;
+    }
+    Ok(())
+}
+
+/// A question mark for what is no printable character of ASCII, and for a blank.
+fn shown_byte(byte: u8) -> u8
+    ensures shown { result ≡ shown_byte byte }
+    ensures ascii { result < 128 }
+{
+    if byte.is_ascii_graphic() { byte } else { b'?' }
 }
 
 /// Adds a number behind its words, if there is one.

@@ -176,6 +176,7 @@ short_of (seen.Fed i p (hearing.Dropped cause)) = tt
 short_of (seen.NoPacket why) = tt
 short_of (seen.Told way message) = tt
 short_of (seen.Other protocol) = tt
+short_of (seen.NotRead why) = tt
 
 pub next_heard : (unit : ℕ) (items : List Entry) (i : ℕ) (item : Entry) (old new : Stations) (old_tally new_tally : Tally) (before after : List Message) → i < length items → item ≡ get_or items i item
     → HaveHeard unit (map entry_value (take i items)) old old_tally (map message_value before) → HearsMore unit old new old_tally new_tally (entry_value item) before after

@@ -2,7 +2,7 @@
 use Rattle.std.{proofs.Common.{◌≡◌, ℕ, ◌<◌, ◌+◌, ◌==◌, ◌&&◌, Bool, true, false, true≢false, List, [], ◌∷◌, ◌++◌, length, arith, refl, ap, sym, ◌∙◌, subst, get_or, cond, inl, inr, map, take}, specs.Prelude.{Result, Ok, Err}, specs.BTreeMap.{get}, proofs.lemmas.List.{append-nil, take_more, map-append}, proofs.lemmas.Bool.{cases_Bool}, proofs.lemmas.Bool.Decides.{nat_tests}}
 use Rattle.bus_captures.{specs.Values.{EntryValue, entry_value}, specs.declared.capture.Entry.{Entry}, specs.declared.capture.Interface.{Interface}}
 use Rattle.mctp_transport.{specs.declared.packet_error.PacketError.{PacketError}, specs.PacketValues.{PacketValue}, specs.Hearing.{Answer}, specs.Histories.{History, Arrived, after}}
-use Rattle.heard_captures.{specs.Places.{is_same, place_cmp}, specs.Seen.{Seen, Fed, NoPacket, Told, Other, None, More, history_to, IsNoPacketFor}, specs.Stations.{station_at, HasBeenGiven, AreGiven, AreIdle, IsFedAt}, specs.Steps.{Sees, HaveSeen}, specs.declared.stations.Stations.{Stations}, proofs.PlaceLaws.{same_place}}
+use Rattle.heard_captures.{specs.Places.{is_same, place_cmp}, specs.Seen.{Seen, Fed, NoPacket, Told, Other, NotRead, None, More, history_to, IsNoPacketFor}, specs.Stations.{station_at, HasBeenGiven, AreGiven, AreIdle, IsFedAt}, specs.Steps.{Sees, HaveSeen}, specs.declared.stations.Stations.{Stations}, proofs.PlaceLaws.{same_place}}
 use Rattle.mctp_transport.specs.declared.packet_error.PacketError.TheVariants as packet
 use Rattle.mctp_transport.specs.Refusals as refusals
 
@@ -21,6 +21,7 @@ history_more i d (Fed j p answer ∷ seen) more =
 history_more i d (NoPacket why ∷ seen) more = history_more i d seen more
 history_more i d (Told way message ∷ seen) more = history_more i d seen more
 history_more i d (Other protocol ∷ seen) more = history_more i d seen more
+history_more i d (NotRead why ∷ seen) more = history_more i d seen more
 
 -- a packet to another destination, or on another interface, is no part of the history
 history_other : (i j : Interface) (d : ℕ) (seen : List Seen) (p : PacketValue) (answer : Answer) → (is_same j i && (p.destination == d)) ≡ false
@@ -73,6 +74,10 @@ one_more unit entries seen old new e (Told way message) before sees = record {
 one_more unit entries seen old new e (Other protocol) before sees = record {
   are = More entries seen e (Other protocol) before.are sees.0;
   given = kept old new seen (Other protocol) (λ i d. refl) sees.1 before.given;
+}
+one_more unit entries seen old new e (NotRead why) before sees = record {
+  are = More entries seen e (NotRead why) before.are sees.0;
+  given = kept old new seen (NotRead why) (λ i d. refl) sees.1 before.given;
 }
 
 -- why bytes were refused

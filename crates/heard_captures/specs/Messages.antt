@@ -2,7 +2,7 @@
 use Rattle.std.{specs.Prelude.{ℕ, Bool, List, [], ◌∷◌}, specs.List.{flat_map}}
 use Rattle.bus_captures.specs.declared.capture.Interface.{Interface}
 use Rattle.mctp_transport.{specs.PacketValues.{PacketValue}, specs.Hearing.{Answer, Whole, Held, Dropped}}
-use Rattle.heard_captures.{specs.Seen.{Seen, Fed, NoPacket, Told, Other}, specs.declared.messages.Message.{Message}}
+use Rattle.heard_captures.{specs.Seen.{Seen, Fed, NoPacket, Told, Other, NotRead}, specs.declared.messages.Message.{Message}}
 
 -- the endpoint IDs from which and to which a message went, its tag and whether the sender owns it, and its bytes
 pub record MessageValue : Type 0 where
@@ -43,6 +43,7 @@ messages_of (Fed i p answer) = came_of i p answer
 messages_of (NoPacket why) = []
 messages_of (Told way message) = []
 messages_of (Other protocol) = []
+messages_of (NotRead why) = []
 
 -- the messages that came whole, in the order of the packets that ended them
 abbrev pub messages_in : List Seen → List Came

@@ -1,6 +1,6 @@
 -- What becomes of the entries of a capture.
 use Rattle.std.specs.Prelude.{◌≡◌, ℕ, ◌==◌, ◌&&◌, List, [], ◌∷◌, ◌++◌, Option, if◌then◌else◌}
-use Rattle.bus_captures.{specs.Values.{EntryValue}, specs.declared.capture.Direction.{Direction}, specs.declared.capture.Interface.{Interface}}
+use Rattle.bus_captures.{specs.Values.{EntryValue}, specs.declared.capture.Direction.{Direction}, specs.declared.capture.Interface.{Interface}, specs.declared.capture.Unread.{Unread}}
 use Rattle.heard_captures.specs.Places.{is_same}
 use Rattle.mctp_transport.{specs.declared.packet_error.PacketError.{PacketError}, specs.PacketValues.{PacketValue, Spelled}, specs.Hearing.{Answer, HearsOnly}, specs.Histories.{History, Arrived}}
 use Rattle.bus_captures.specs.declared.capture.Kind.TheVariants as kind
@@ -8,12 +8,13 @@ use Rattle.mctp_transport.specs.declared.packet_error.PacketError.TheVariants as
 use Rattle.mctp_transport.specs.Refusals as refusals
 
 -- what became of an entry: a packet on an interface and what its assembler made of it, bytes that are no packet and
--- why, a message, or something of another protocol
+-- why, a message, something of another protocol, or something that isn't read and why
 pub data Seen : Type 0 where
   Fed : Interface → PacketValue → Answer → Seen
   NoPacket : PacketError → Seen
   Told : Option Direction → List ℕ → Seen
   Other : ℕ → Seen
+  NotRead : Unread → Seen
 
 -- the packets to a destination on an interface among what was seen
 abbrev pub history_to : Interface → ℕ → List Seen → History
@@ -23,6 +24,7 @@ history_to i d (Fed j p answer ∷ seen) =
 history_to i d (NoPacket why ∷ seen) = history_to i d seen
 history_to i d (Told way message ∷ seen) = history_to i d seen
 history_to i d (Other protocol ∷ seen) = history_to i d seen
+history_to i d (NotRead why ∷ seen) = history_to i d seen
 
 -- why bytes are no packet under a transmission unit: the first of the causes
 abbrev pub IsNoPacketFor : (unit : ℕ) → PacketError → List ℕ → Type 0
@@ -42,6 +44,7 @@ IsSeen unit before e (Fed i p answer) =
 IsSeen unit before e (NoPacket why) = (e.kind ≡ kind.Packet) × IsNoPacketFor unit why e.bytes
 IsSeen unit before e (Told way message) = (e.kind ≡ kind.Message) × (way ≡ e.direction) × (message ≡ e.bytes)
 IsSeen unit before e (Other protocol) = e.kind ≡ kind.Other protocol
+IsSeen unit before e (NotRead why) = e.kind ≡ kind.Unread why
 
 -- these became of the entries, one after the other
 pub data AreSeen (unit : ℕ) : List EntryValue → List Seen → Type 0 where

@@ -2,7 +2,7 @@
 use Rattle.std.specs.Prelude.{◌≡◌, ℕ, List, [], ◌∷◌, ◌++◌}
 use Rattle.bus_captures.specs.Values.{EntryValue}
 use Rattle.mctp_transport.specs.PacketValues.{Spelled}
-use Rattle.heard_captures.{specs.Seen.{Seen, Fed, NoPacket, Told, Other, IsNoPacketFor, AreSeen, history_to}, specs.Stations.{IsFedAt, AreGiven}, specs.declared.stations.Stations.{Stations}}
+use Rattle.heard_captures.{specs.Seen.{Seen, Fed, NoPacket, Told, Other, NotRead, IsNoPacketFor, AreSeen, history_to}, specs.Stations.{IsFedAt, AreGiven}, specs.declared.stations.Stations.{Stations}}
 use Rattle.bus_captures.specs.declared.capture.Kind.TheVariants as kind
 
 -- this becomes of the entry under a transmission unit, and of the stations
@@ -13,6 +13,7 @@ Sees unit old new e (NoPacket why) = (e.kind ≡ kind.Packet) × IsNoPacketFor u
 Sees unit old new e (Told way message) =
     (e.kind ≡ kind.Message) × (way ≡ e.direction) × (message ≡ e.bytes) × (new ≡ old)
 Sees unit old new e (Other protocol) = (e.kind ≡ kind.Other protocol) × (new ≡ old)
+Sees unit old new e (NotRead why) = (e.kind ≡ kind.Unread why) × (new ≡ old)
 
 -- this became of the entries, and each station was given the packets to its destination on its interface
 pub record HaveSeen (unit : ℕ) (entries : List EntryValue) (seen : List Seen) (stations : Stations) : Type 0 where

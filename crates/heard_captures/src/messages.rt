@@ -76,7 +76,7 @@ fn add_ended(
         Sight::Fed(interface, packet, heard) => {
             add_heard(alloc, tally, messages, interface, &packet, heard)
         }
-        Sight::NoPacket(_) | Sight::Told(..) | Sight::Other(_) => Ok(()),
+        Sight::NoPacket(_) | Sight::Told(..) | Sight::Other(_) | Sight::NotRead(_) => Ok(()),
     }
 }
 

@@ -5,7 +5,7 @@ ghost use Rattle.mctp_transport.specs.PacketValues.{IsUnit};
 ghost use Rattle.heard_captures.{specs.Sights.{seen_of}, specs.Steps.{Sees}};
 
 use crate::stations::Stations;
-use bus_captures::{Direction, Entry, Interface, Kind};
+use bus_captures::{Direction, Entry, Interface, Kind, Unread};
 use mctp_transport::{Heard, PacketError, PacketView};
 use std::alloc::{AllocError, Global};
 
@@ -20,6 +20,8 @@ pub enum Sight<'e> {
     Told(Option<Direction>, &'e [u8]),
     /// Something of another protocol, by its number.
     Other(u16),
+    /// Something that isn't read, and why.
+    NotRead(Unread),
 }
 
 /// Says what becomes of an entry under a transmission unit of 64 to 1024 bytes. A packet is given to the assembler of
@@ -37,6 +39,7 @@ pub fn see<'e>(
         Kind::Packet => see_packet(alloc, stations, unit, entry),
         Kind::Message => Ok(Sight::Told(entry.direction, &entry.bytes)),
         Kind::Other(protocol) => Ok(Sight::Other(protocol)),
+        Kind::Unread(why) => Ok(Sight::NotRead(why)),
     }
 }
 

@@ -649,13 +649,14 @@ Status 1: why the bytes are no record, D01 to D06.
 
 const OF_DECODE: &str = r#"mctpplan decode CAPTURE [PLAN]
 
-Reads a capture file (pcap) or a text of hex lines, and prints a line for each entry with its
-number, and its time, its interface and its direction where the capture has them: the packet, and
-whether it is held, dropped or ends a message. Behind the last packet of a message stands what the
-message says. Packets to one destination on one interface are joined as its assembler would, 16
-messages at a time. With PLAN, which isn't checked, the line of a packet ends with the names of the
-nodes that hold its source and its destination, and packets may be as long as the plan's
-transmission unit allows. Without it they have at most 64 payload bytes.
+Reads a capture file (pcap or pcapng) or a text of hex lines, and prints a line for each entry with
+its number, and its time, its interface and its direction where the capture has them: the packet,
+and whether it is held, dropped or ends a message. What was cut or is of another link type is told,
+and passed over. Behind the last packet of a message stands what the message says. Packets to one
+destination on one interface are joined as its assembler would, 16 messages at a time. With PLAN,
+which isn't checked, the line of a packet ends with the names of the nodes that hold its source and
+its destination, and packets may be as long as the plan's transmission unit allows. Without it they
+have at most 64 payload bytes.
 
 Status 0: the entries.
 Status 2: also where the capture can't be read to its end. What stands before is told.

@@ -1,10 +1,14 @@
-use Rattle.std.proofs.Common.{map}
-use Rattle.bus_captures.{specs.Values.{entry_value}, specs.Records.{record_value}, proofs.RecordLaws.{one_more}}
+use Rattle.std.{proofs.Common.{◌≡◌, ◌++◌, ◌∷◌, [], map, ap, ◌∙◌, subst, sym}, proofs.lemmas.List.{map-append}}
+use Rattle.bus_captures.{specs.Files.{AreRead}, specs.Values.{entry_value}, specs.Records.{record_value}, proofs.RecordLaws.{one_more}}
 use Rattle.bus_captures.proofs.file.add_entries.Goals as goal
 
 pub loop-left-preserved : goal.loop-left-preserved
 loop-left-preserved c =
-    let added = c.in_ok-add_entry.ensures in
-    let found = c.in-Ok.ensures in
-    rw added.2 (one_more c.args.order c.args.unit c.args.link c.args.bytes.now (map entry_value c.loop-left.entries.items)
-    c.loop-left.left.now c.in-Ok.found.1.now (record_value c.in-Ok.found.0) added.0 c.loop-left.invariant found.0 found.1 added.1)
+    let old = c.loop-left.entries.items in
+    let found = c.in-Some.ensures in
+    let e = entry_value c.in_ok-entry_of.field-0 in
+    let added : map entry_value c.push.new.self.items ≡ map entry_value old ++ e ∷ [] =
+    ap (map entry_value) c.in_ok-push.ensures.items ∙ map-append entry_value old _ in
+    subst (λ es. AreRead c.args.order c.args.unit c.args.link c.args.bytes.now es c.in-Some.rest.now) (sym added)
+    (one_more c.args.order c.args.unit c.args.link c.args.bytes.now (map entry_value old) c.loop-left.left.now c.in-Some.rest.now
+    (record_value c.in-Some.record) e c.loop-left.invariant found.0 found.1 c.in_ok-entry_of.ensures)

@@ -10,10 +10,9 @@ returns-in-None c =
     sym (take-append-drop 16 c.args.bytes.now) ∙ ap (λ xs. xs ++ drop 16 c.args.bytes.now) (sym c.split_at.ensures.front)
     ∙ ap (λ xs. ahead ++ xs) (sym c.split_at.ensures.back ∙ found.1) in (
       ahead,
-      c.in-Some.number,
       c.in-Some.body.now,
       c.split_at.ensures.front_len,
       found.0,
       whole ∙ sym (append_assoc ahead (number_bytes c.args.order c.in-Some.number) c.in-Some.body.now),
-      c.in-None.ensures,
+      sym c.in-None.ensures,
     )
