@@ -2,7 +2,7 @@
 use Rattle.std.proofs.Common.{inl, inr}
 use Rattle.plan_values.specs.declared.plan.Plan.{Plan}
 use Rattle.net_plan.specs.declared.error.PlanError.{PlanError}
-use Rattle.command_answers.{specs.declared.refused.Input.{Input}, specs.declared.refused.Refused.{Refused}, specs.Answers.{Stream, GavePlan, IsUnreadPlan, IsPlanUnread, IsUnreadCertificate, IsCertificateUnread}, specs.Moves.{IsUnreadInMove, IsMoveUnread, IsUnreadOfPlans, ArePlansUnread}, proofs.Causes.{unread_also}}
+use Rattle.command_answers.{specs.declared.refused.Input.{Input}, specs.declared.refused.Refused.{Refused}, specs.Answers.{Stream, GavePlan, IsUnreadPlan, IsPlanUnread, IsUnreadCertificate, IsCertificateUnread}, specs.Moves.{IsUnreadInMove, IsMoveUnread}, proofs.Causes.{unread_also}}
 use Rattle.command_answers.specs.declared.refused.Input.TheVariants as input
 
 -- the plan before was not read
@@ -39,25 +39,3 @@ move_certificate_unread before after why befores afters certificates first secon
     also input.Certificate cause h = (before, after, first, second, h)
     also input.Events cause h = absurd h
     also input.Lines cause h = absurd h
-
--- the plan before was not read
-pub first_unread : (why : Refused) (befores afters : Stream) → IsPlanUnread why befores → ArePlansUnread why befores afters
-first_unread why befores afters h =
-    unread_also (λ unread cause. IsUnreadPlan unread cause befores) (λ unread cause. IsUnreadOfPlans unread cause befores afters) why also h
-  where
-    also : (unread : Input) (cause : PlanError) → IsUnreadPlan unread cause befores → IsUnreadOfPlans unread cause befores afters
-    also input.Plan cause h = inl h
-    also input.Certificate cause h = h
-    also input.Events cause h = h
-    also input.Lines cause h = h
-
--- the plan after was not read
-pub second_unread : (before : Plan) (why : Refused) (befores afters : Stream) → GavePlan befores before → IsPlanUnread why afters → ArePlansUnread why befores afters
-second_unread before why befores afters gave h =
-    unread_also (λ unread cause. IsUnreadPlan unread cause afters) (λ unread cause. IsUnreadOfPlans unread cause befores afters) why also h
-  where
-    also : (unread : Input) (cause : PlanError) → IsUnreadPlan unread cause afters → IsUnreadOfPlans unread cause befores afters
-    also input.Plan cause h = inr (before, gave, h)
-    also input.Certificate cause h = h
-    also input.Events cause h = h
-    also input.Lines cause h = h

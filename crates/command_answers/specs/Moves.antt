@@ -3,7 +3,7 @@ use Rattle.std.specs.Prelude.{◌≡◌, ◌⊎◌, ℕ, List, Some}
 use Rattle.net_rules.{specs.declared.move_error.MoveError.{MoveError}, specs.MoveFaults.{NamesFirstMoveFault}}
 use Rattle.plan_values.{specs.declared.plan.Plan.{Plan}, specs.declared.certificate.Certificate.{Certificate}, specs.PlanValues.{plan_value}}
 use Rattle.net_plan.{specs.declared.error.PlanError.{PlanError}, specs.Unread.{GaveNoPlan, GaveNoCertificate}, specs.CertificateJson.{certificate_text}}
-use Rattle.command_answers.{specs.declared.refused.Input.{Input}, specs.declared.refused.Refused.{Refused}, specs.Answers.{Stream, GavePlan, GaveCertificate, GaveNothing}, specs.Statuses.{HasCause}}
+use Rattle.command_answers.{specs.declared.refused.Input.{Input}, specs.declared.refused.Refused.{Refused}, specs.Answers.{Stream, GavePlan, GaveCertificate, GaveNothing, IsPlanUnread}, specs.Statuses.{HasCause}}
 use Rattle.plan_texts.specs.MoveLines.{move_error_text}
 use Rattle.command_answers.specs.declared.refused.Input.TheVariants as input
 
@@ -44,14 +44,7 @@ abbrev pub IsMoveUnread : Refused → Stream → Stream → Stream → Type 0
 IsMoveUnread why befores afters certificates =
     HasCause (λ unread cause. IsUnreadInMove unread cause befores afters certificates) ⊥ ⊥ ⊥ why
 
--- why one of two plans can't be read; the second is read only where the first was given
-abbrev pub IsUnreadOfPlans : Input → PlanError → Stream → Stream → Type 0
-IsUnreadOfPlans input.Plan cause befores afters = GaveNothing GaveNoPlan befores cause
-    ⊎ ((before : Plan) × GavePlan befores before × GaveNothing GaveNoPlan afters cause)
-IsUnreadOfPlans input.Certificate cause befores afters = ⊥
-IsUnreadOfPlans input.Events cause befores afters = ⊥
-IsUnreadOfPlans input.Lines cause befores afters = ⊥
-
--- why the plans were not read
+-- why two plans were not read; the second is read only where the first was given
 abbrev pub ArePlansUnread : Refused → Stream → Stream → Type 0
-ArePlansUnread why befores afters = HasCause (λ unread cause. IsUnreadOfPlans unread cause befores afters) ⊥ ⊥ ⊥ why
+ArePlansUnread why befores afters = IsPlanUnread why befores
+    ⊎ ((before : Plan) × GavePlan befores before × IsPlanUnread why afters)
