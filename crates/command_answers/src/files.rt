@@ -181,7 +181,7 @@ pub type Certified<'p, 'c, P, C> = Then<PlanFile<'p, P>, CertificateFile<'c, C>>
 pub type Plans<'p, 'q, P, Q> = Then<PlanFile<'p, P>, Beside<PlanFile<'q, Q>>>;
 
 /// A plan and its certificate, by their sources.
-pub fn certified<'p, 'c, P, C>(plan: &'p mut P, certificate: &'c mut C) -> Certified<'p, 'c, P, C>
+pub fn plan_and_certificate<'p, 'c, P, C>(plan: &'p mut P, certificate: &'c mut C) -> Certified<'p, 'c, P, C>
     ensures plan { result.first.source ≡ plan.entry }
     ensures certificate { result.second.source ≡ certificate.entry }
 {
@@ -194,7 +194,7 @@ pub fn certified<'p, 'c, P, C>(plan: &'p mut P, certificate: &'c mut C) -> Certi
 }
 
 /// Two plans, by their sources.
-pub fn plans<'p, 'q, P, Q>(before: &'p mut P, after: &'q mut Q) -> Plans<'p, 'q, P, Q>
+pub fn two_plans<'p, 'q, P, Q>(before: &'p mut P, after: &'q mut Q) -> Plans<'p, 'q, P, Q>
     ensures before { result.first.source ≡ before.entry }
     ensures after { result.second.input.source ≡ after.entry }
 {

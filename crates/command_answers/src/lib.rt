@@ -24,8 +24,8 @@ pub use certify::{accepted, certificate_of_plan, others_of};
 pub use command::{Command, Reads, run};
 pub use faults::{fault_answer, fault_text, move_fault_answer};
 pub use files::{
-    Beside, ByteFile, Certified, CertificateFile, EventFile, LineFile, PlanFile, Plans, Then, certified,
-    plans,
+    Beside, ByteFile, CertificateFile, Certified, EventFile, LineFile, PlanFile, Plans, Then,
+    plan_and_certificate, two_plans,
 };
 pub use gathered::Gathered;
 pub use inputs::{

@@ -14,7 +14,6 @@ returns-in-Ok-clause-concludes g c =
     let answers = answers_given read.plan read.certificate read.events.items c.deref.result.now plans certificates happenings answered.result read.ensures.given read.ensures.events c.deref.ensures.value
     answered.ensures.answers in
     concludes_bytes _ _ _ _ _ _ _ answered.result answers (IfErr-weaker answered.result _ _ (memory_lacks _ _ _ _) answered.ensures.refused) told.told told.refuses told.untouched told.silent told.no_memory
-    (λ bytes h. h.5)
 
 pub returns-in-Ok-clause-in_order : goal.returns-in-Ok-clause-in_order
 returns-in-Ok-clause-in_order g c = λ without. absurd (without c.in-Ok.plan c.in-Ok.ensures.given.plan_text)
