@@ -1,5 +1,5 @@
 //! A command as a value: what it reads, what it answers on that, and the one function that runs it.
-ghost use Rattle.std.{specs.Prelude.{◌≡◌, ◌⊎◌, ℕ, List, IfOk, IfErr}, specs.Cow.{cow_str_bytes}};
+ghost use Rattle.std.{specs.Prelude.{◌≡◌, ◌⊎◌, ⊤, ℕ, List, IfOk, IfErr}, specs.Cow.{cow_str_bytes}};
 ghost use Rattle.net_plan.specs.Stream.{HasRoom};
 ghost use Rattle.command_answers.{specs.declared.refused.Refused.{Refused}, specs.declared.status.Status.{Status}, specs.Answers.{stream}, specs.Told.{Concludes}};
 
@@ -23,7 +23,7 @@ pub trait Reads<F> {
 
     ghost IsUnread: { Self → Self → F → Refused → Type 0 };
 
-    ghost IsInOrder: { Self → Self → F → Type 0 };
+    ghost IsInOrder: { Self → Self → F → Type 0 } = { λ s t first. ⊤ };
 
     /// Reads the input.
     fn read(&mut self, alloc: Global, first: &F) -> Result<Self::Given, Refused>
@@ -51,7 +51,7 @@ pub trait Command {
 
 /// Reads the inputs of a command, and tells on `output` what it answers on them. Where an input can't be read, or there
 /// is no answer, says so on `errors`; of inputs that can't be read the first is told, and those after it are not read.
-pub fn run<I: Reads<()>, C: Command<Of = I::Given>, O: Sink, E: Sink>(
+pub fn run_command<I: Reads<()>, C: Command<Of = I::Given>, O: Sink, E: Sink>(
     alloc: Global,
     command: &C,
     inputs: &mut I,

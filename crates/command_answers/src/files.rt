@@ -1,5 +1,5 @@
 //! The files that commands read, each of a sort, and inputs of several.
-ghost use Rattle.std.specs.Prelude.{◌≡◌, ◌⊎◌, ⊤, ℕ, IfOk, IfErr, MatchResult, string_bytes};
+ghost use Rattle.std.specs.Prelude.{◌≡◌, ◌⊎◌, MatchResult, string_bytes};
 ghost use Rattle.net_plan.specs.Stream.{HasRoom};
 ghost use Rattle.command_answers.{specs.Answers.{stream, GavePlan, GaveCertificate, IsPlanUnread, IsCertificateUnread}, specs.Inputs.{GaveBytes, GaveNoBytes, GaveEvents, GaveLines, AreEventsUnread, AreLinesUnread}};
 ghost use Rattle.command_answers.specs.declared.refused.Refused.TheVariants as refused;
@@ -26,8 +26,6 @@ impl<S: Source> Reads<()> for PlanFile<'_, S> {
 
     ghost IsUnread = { λ s t first why. IsPlanUnread why (stream S.account s.source.now t.source.now) };
 
-    ghost IsInOrder = { λ s t first. ⊤ };
-
     fn read(&mut self, alloc: Global, _first: &()) -> Result<Plan, Refused> {
         given_plan(alloc, self.source)
     }
@@ -47,8 +45,6 @@ impl<S: Source> Reads<Plan> for CertificateFile<'_, S> {
     ghost Gave = { λ s t plan certificate. GaveCertificate plan (stream S.account s.source.now t.source.now) certificate };
 
     ghost IsUnread = { λ s t plan why. IsCertificateUnread why plan (stream S.account s.source.now t.source.now) };
-
-    ghost IsInOrder = { λ s t plan. ⊤ };
 
     fn read(&mut self, alloc: Global, plan: &Plan) -> Result<Certificate, Refused> {
         given_certificate(alloc, plan, self.source)
@@ -70,8 +66,6 @@ impl<S: Source> Reads<(Plan, Certificate)> for EventFile<'_, S> {
 
     ghost IsUnread = { λ s t both why. AreEventsUnread why both.0 (stream S.account s.source.now t.source.now) };
 
-    ghost IsInOrder = { λ s t both. ⊤ };
-
     fn read(&mut self, alloc: Global, both: &(Plan, Certificate)) -> Result<Vec<Event>, Refused> {
         given_events(alloc, &both.0, self.source)
     }
@@ -91,8 +85,6 @@ impl<F, S: Source> Reads<F> for LineFile<'_, S> {
     ghost Gave = { λ s t first text. GaveLines (stream S.account s.source.now t.source.now) (string_bytes text) };
 
     ghost IsUnread = { λ s t first why. AreLinesUnread why (stream S.account s.source.now t.source.now) };
-
-    ghost IsInOrder = { λ s t first. ⊤ };
 
     fn read(&mut self, alloc: Global, _first: &F) -> Result<String, Refused> {
         given_lines(alloc, self.source)
@@ -114,8 +106,6 @@ impl<F, S: Source> Reads<F> for ByteFile<'_, S> {
         (GaveNoBytes (stream S.account s.source.now t.source.now)) };
 
     ghost IsUnread = { λ s t first why. why ≡ refused.NoMemory };
-
-    ghost IsInOrder = { λ s t first. ⊤ };
 
     fn read(&mut self, alloc: Global, _first: &F) -> Result<Result<Vec<u8>, TextFault>, Refused> {
         match read_within(alloc, self.source, TEXT_LIMIT) {

@@ -21,7 +21,7 @@ mod unread_texts;
 pub use answer::{Answer, YES, give, print, refuse, tell, tell_made};
 pub use bytes_answer::{BytesAnswer, tell_bytes};
 pub use certify::{accepted, certificate_of_plan, others_of};
-pub use command::{Command, Reads, run};
+pub use command::{Command, Reads, run_command};
 pub use faults::{fault_answer, fault_text, move_fault_answer};
 pub use files::{
     Beside, ByteFile, CertificateFile, Certified, EventFile, LineFile, PlanFile, Plans, Then,

@@ -11,7 +11,7 @@ use bus_commands::{Emulation, run_capture, run_emulate};
 use byte_commands::{DecodeCapture, DecodeNamed, ShownKind, WordQuestion, run_show, run_worded};
 use command_answers::{
     ByteFile, Command, EventFile, LineFile, PlanFile, Reads, Refused, Status, Then, given_plan,
-    plan_and_certificate, refuse, run, run_known, two_plans,
+    plan_and_certificate, refuse, run_command, run_known, two_plans,
 };
 use command_line::{
     FileAtPath, FileToWrite, FilesAtPaths, FilesBeside, Subcommand, VERSION, hint_node, hint_nodes,
@@ -67,11 +67,11 @@ macro_rules! over_told {
 }
 
 fn main(rt: HostRuntime) -> ExitCode {
-    ExitCode::from(run_words(&rt).number())
+    ExitCode::from(run(&rt).number())
 }
 
 /// Runs the command that the process was started with, over files and the standard streams.
-fn run_words(rt: &HostRuntime) -> Status {
+fn run(rt: &HostRuntime) -> Status {
     let alloc = rt.alloc();
     let mut errors = Counted::new(rt.stderr());
     let list = match given_words(rt) {
@@ -80,7 +80,7 @@ fn run_words(rt: &HostRuntime) -> Status {
     };
     match parse_command(alloc, list.as_slice()) {
         Ok(command) => {
-            let status = run_command(rt, command);
+            let status = run_subcommand(rt, command);
             if status == Status::Unreadable && rt.stderr().is_terminal() {
                 tell_record(rt, command, list.as_slice());
             }
@@ -97,7 +97,7 @@ fn run_words(rt: &HostRuntime) -> Status {
 }
 
 /// Runs a command over files and the standard streams.
-fn run_command<'a>(rt: &'a HostRuntime, command: Subcommand<'a>) -> Status {
+fn run_subcommand<'a>(rt: &'a HostRuntime, command: Subcommand<'a>) -> Status {
     match command {
         Subcommand::Certified {
             question,
@@ -212,7 +212,7 @@ fn run_over<I: Reads<()>, C: Command<Of = I::Given>>(
 {
     let mut output = Counted::new(rt.stdout());
     let mut errors = Counted::new(rt.stderr());
-    run(rt.alloc(), command, inputs, &mut output, &mut errors)
+    run_command(rt.alloc(), command, inputs, &mut output, &mut errors)
 }
 
 /// Runs a command over a plan and its certificate.
@@ -276,8 +276,7 @@ fn require<'a>(
     certificate: &'a str,
     wanted: &'a str,
 ) -> Status {
-    let mut plan = file(rt, plan);
-    let mut certificate = file(rt, certificate);
+    let (mut plan, mut certificate) = (file(rt, plan), file(rt, certificate));
     let mut wanted = file(rt, wanted);
     let mut inputs = Then {
         first: plan_and_certificate(&mut plan, &mut certificate),

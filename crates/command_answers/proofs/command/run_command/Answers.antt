@@ -1,6 +1,6 @@
 use Rattle.std.{proofs.Common.{inl, inr, refl}, proofs.lemmas.Result.{IfOk-weaker, IfErr-weaker}}
 use Rattle.command_answers.proofs.Told.{concludes, concludes_unread}
-use Rattle.command_answers.proofs.command.run.Goals as goal
+use Rattle.command_answers.proofs.command.run_command.Goals as goal
 
 pub returns-in-Ok-clause-concludes : goal.returns-in-Ok-clause-concludes
 returns-in-Ok-clause-concludes g c =
