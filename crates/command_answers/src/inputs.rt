@@ -188,7 +188,6 @@ pub fn given_lines<L: Source>(alloc: Global, lines: &mut L) -> Result<String, Re
 }
 
 /// The plan and its certificate. The certificate is read only where the plan could be read.
-#[tactic(auto, using(crate::proofs::Telling::certificate_unread))]
 pub fn read_inputs<P: Source, C: Source>(
     alloc: Global,
     plan: &mut P,
@@ -257,7 +256,6 @@ pub fn read_plans<P: Source, Q: Source>(
 
 /// The plans of a move and their certificate. Each is read only where those before it could be read; the certificate is
 /// read for the plan before.
-#[tactic(auto, using(crate::proofs::Moved::before_unread))]
 pub fn read_move<P: Source, Q: Source, C: Source>(
     alloc: Global,
     before: &mut P,
