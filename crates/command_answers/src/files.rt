@@ -171,7 +171,10 @@ pub type Certified<'p, 'c, P, C> = Then<PlanFile<'p, P>, CertificateFile<'c, C>>
 pub type Plans<'p, 'q, P, Q> = Then<PlanFile<'p, P>, Beside<PlanFile<'q, Q>>>;
 
 /// A plan and its certificate, by their sources.
-pub fn plan_and_certificate<'p, 'c, P, C>(plan: &'p mut P, certificate: &'c mut C) -> Certified<'p, 'c, P, C>
+pub fn plan_and_certificate<'p, 'c, P, C>(
+    plan: &'p mut P,
+    certificate: &'c mut C,
+) -> Certified<'p, 'c, P, C>
     ensures plan { result.first.source ≡ plan.entry }
     ensures certificate { result.second.source ≡ certificate.entry }
 {
