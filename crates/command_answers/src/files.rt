@@ -1,7 +1,7 @@
 //! The files that commands read, each of a sort, and inputs of several.
 ghost use Rattle.std.specs.Prelude.{◌≡◌, ◌⊎◌, MatchResult, string_bytes};
 ghost use Rattle.net_plan.specs.Stream.{HasRoom};
-ghost use Rattle.command_answers.{specs.Answers.{stream, GavePlan, GaveCertificate, IsPlanUnread, IsCertificateUnread}, specs.Inputs.{GaveBytes, GaveNoBytes, GaveEvents, GaveLines, AreEventsUnread, AreLinesUnread}};
+ghost use Rattle.command_answers.{specs.Answers.{stream, GavePlan, GaveCertificate, IsPlanUnread, IsCertificateUnread}, specs.Inputs.{GaveBytes, GaveNoBytes, GaveEvents, AreEventsUnread, AreLinesUnread}};
 ghost use Rattle.command_answers.specs.declared.refused.Refused.TheVariants as refused;
 
 use crate::command::Reads;
@@ -82,7 +82,7 @@ impl<F, S: Source> Reads<F> for LineFile<'_, S> {
 
     ghost IsReady = { λ s. HasRoom (S.account s.source.now) };
 
-    ghost Gave = { λ s t first text. GaveLines (stream S.account s.source.now t.source.now) (string_bytes text) };
+    ghost Gave = { λ s t first text. GaveBytes (stream S.account s.source.now t.source.now) (string_bytes text) };
 
     ghost IsUnread = { λ s t first why. AreLinesUnread why (stream S.account s.source.now t.source.now) };
 
