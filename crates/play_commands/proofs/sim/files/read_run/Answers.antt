@@ -1,5 +1,12 @@
-use Rattle.std.proofs.Common.{refl}
+use Rattle.std.proofs.Common.{refl, rules, ◌≡◌, Err, inr}
 use Rattle.play_commands.proofs.sim.files.read_run.Goals as goal
+
+pub returns-in_err-events-clause-unread : goal.returns-in_err-events-clause-unread
+returns-in_err-events-clause-unread g c =
+    let failed = c.in_err-events in
+    let read = c.in_ok-plan in
+    let ended : c.from_residual-in_err-events.result ≡ Err failed.field-0.0 = search rules in
+    rw ended (inr (read.plan, read.certificate, read.ensures.given, failed.ensures.unread))
 
 pub returns-in_err-plan-clause-in_order : goal.returns-in_err-plan-clause-in_order
 returns-in_err-plan-clause-in_order g c = λ without. (c.read_inputs.ensures.in_order without, refl)
