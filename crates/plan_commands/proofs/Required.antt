@@ -4,7 +4,6 @@ use Rattle.plan_values.{specs.declared.certificate.Certificate.{Certificate}, sp
 use Rattle.net_rules.specs.Rules.{Accepts}
 use Rattle.command_answers.{specs.declared.answer.Answer.{Answer}, specs.declared.refused.Refused.{Refused}, specs.Answers.{IsFaultText}}
 use Rattle.plan_commands.specs.Requiring.{IsRequiredOn, RequiresOn}
-use Rattle.command_answers.specs.declared.refused.Refused.TheVariants as refused
 use Rattle.command_answers.specs.declared.status.Status.TheVariants as status
 
 module _ (plan : Plan) (cert : Certificate) where
