@@ -1,5 +1,11 @@
-use Rattle.std.proofs.Common.{refl, rules, ◌≡◌, Err, inr}
+use Rattle.std.proofs.Common.{refl, rules, ◌≡◌, Err, inr, inl}
 use Rattle.play_commands.proofs.sim.files.read_run.Goals as goal
+
+pub returns-in_err-plan-clause-unread : goal.returns-in_err-plan-clause-unread
+returns-in_err-plan-clause-unread g c =
+    let failed = c.in_err-plan in
+    let ended : c.from_residual-in_err-plan.result ≡ Err failed.field-0.0 = search rules in
+    rw ended (inl failed.ensures.unread)
 
 pub returns-in_err-events-clause-unread : goal.returns-in_err-events-clause-unread
 returns-in_err-events-clause-unread g c =

@@ -1,5 +1,11 @@
-use Rattle.std.proofs.Common.{refl, rules, ◌≡◌, Err, inr}
+use Rattle.std.proofs.Common.{refl, rules, ◌≡◌, Err, inr, inl}
 use Rattle.play_commands.proofs.sim.moves.read_move_files.Goals as goal
+
+pub returns-in_err-before-clause-unread : goal.returns-in_err-before-clause-unread
+returns-in_err-before-clause-unread g c =
+    let failed = c.in_err-before in
+    let ended : c.from_residual-in_err-before.result ≡ Err failed.field-0.0 = search rules in
+    rw ended (inl failed.ensures.unread)
 
 pub returns-in_err-events-clause-unread : goal.returns-in_err-events-clause-unread
 returns-in_err-events-clause-unread g c =
