@@ -2,8 +2,8 @@
 use Rattle.std.specs.Prelude.{◌≡◌, ◌≢◌, ◌⊎◌, ℕ, Bool, true, false, List, Option, Some, None, codes}
 use Rattle.audited_captures.{specs.Audits.{AreAudited, is_match, audit_text}, specs.Lines.{LineValue}, specs.declared.sums.Sum.{Sum}}
 use Rattle.bus_captures.{specs.Captures.{IsCapture}, specs.Values.{EntryValue}, specs.declared.capture.End.{End}}
-use Rattle.byte_commands.specs.Decoding.{IsNotGiven, not_given}
-use Rattle.command_answers.{specs.Answers.{Stream, AreGiven, IsFaultText}, specs.declared.status.Status.{Status}}
+use Rattle.byte_commands.specs.Decoding.{not_given}
+use Rattle.command_answers.{specs.Answers.{Stream, AreGiven, IsFaultText}, specs.Inputs.{GaveNoBytes}, specs.declared.status.Status.{Status}}
 use Rattle.net_plan.{specs.Texts.{Gave}, specs.declared.stream.TextFault.{TextFault}, specs.Limits.{most_text_bytes}}
 use Rattle.plan_values.{specs.declared.certificate.Certificate.{Certificate}, specs.declared.plan.Plan.{Plan}}
 use Rattle.net_rules.specs.Rules.{Accepts}
@@ -44,7 +44,7 @@ AuditsOf plan certificate bus captures ended text =
     Gave most_text_bytes captures.before.bytes captures.after.bytes
     (λ bytes. AuditsOn plan certificate bus bytes ended text)
     ⊎ ((ended ≡ status.Unreadable)
-    × ((why : TextFault) × IsNotGiven why captures × (not_given why ≡ Some text)))
+    × ((why : TextFault) × GaveNoBytes captures why × (not_given why ≡ Some text)))
 
 -- The same of the bus that a name stands for. Where the plan has no bus of the name, this is told, and nothing of the
 -- capture was read.

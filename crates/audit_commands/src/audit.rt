@@ -1,7 +1,7 @@
 //! The command `audit`: what captured devices said, laid beside a checked plan.
 ghost use Rattle.std.{specs.Prelude.{◌≡◌, ◌≢◌, Option, IfOk, IfErr, map, option_map, string_bytes, codes, true, false}, specs.Cow.{cow_str_bytes}};
 ghost use Rattle.net_plan.specs.Stream.{HasRoom};
-ghost use Rattle.command_answers.{specs.declared.status.Status.TheVariants.{Yes, Fault, Unreadable}, specs.Answers.{stream, AreUnread, IsWithoutPlan, AreWithoutCertificate}, specs.Told.{ConcludesOnBoth}};
+ghost use Rattle.command_answers.{specs.declared.status.Status.TheVariants.{Yes, Fault, Unreadable}, specs.Answers.{stream, AreUnread, IsWithoutPlan, AreWithoutCertificate}, specs.Told.{Concludes}};
 ghost use Rattle.audited_captures.{specs.Audits.{is_match}, specs.Lines.{line_value}};
 ghost use Rattle.audit_commands.specs.Auditing.{AuditsCapture, AuditsOn, AuditsOf, AuditsAt, AuditsSo};
 ghost use Rattle.command_answers.specs.declared.refused.Refused.TheVariants as refused;
@@ -39,7 +39,7 @@ pub fn run_audit<P: Source, C: Source, T: Source, O: Sink, E: Sink>(
     ensures concludes { let plans = stream P.account plan.old plan.new in
         let certificates = stream C.account certificate.old certificate.new in
         let captures = stream T.account capture.old capture.new in
-        ConcludesOnBoth (AuditsSo (option_map (λ name. name.now) bus.entry) plans certificates captures) (λ why. AreUnread why plans certificates) result
+        Concludes (AuditsSo (option_map (λ name. name.now) bus.entry) plans certificates captures) (λ why. AreUnread why plans certificates) result
         (stream O.account output.old output.new) (stream E.account errors.old errors.new)
         (output.new ≡ output.old) (errors.new ≡ errors.old) }
     ensures in_order { IsWithoutPlan (stream P.account plan.old plan.new)

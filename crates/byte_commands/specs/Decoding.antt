@@ -1,9 +1,9 @@
 -- What `decode` prints.
-use Rattle.std.specs.Prelude.{◌≡◌, ◌≢◌, ◌⊎◌, ℕ, List, Option, Some, None, codes}
+use Rattle.std.specs.Prelude.{◌≡◌, ◌≢◌, ℕ, List, Option, Some, None, Result, Ok, Err, Vec, codes}
 use Rattle.bus_captures.{specs.Captures.{IsCapture}, specs.Values.{EntryValue}, specs.declared.capture.End.{End}}
 use Rattle.decoded_texts.specs.Decoding.{IsDecodedBy}
-use Rattle.net_plan.{specs.Stream.{TakesMoreThan}, specs.Texts.{Gave}, specs.declared.stream.TextFault.{TextFault}, specs.Limits.{most_text_bytes}}
-use Rattle.command_answers.{specs.declared.status.Status.{Status}, specs.Answers.{Stream, Fails, GavePlan}}
+use Rattle.net_plan.specs.declared.stream.TextFault.{TextFault}
+use Rattle.command_answers.specs.declared.status.Status.{Status}
 use Rattle.plan_values.specs.declared.plan.Plan.{Plan}
 use Rattle.bus_captures.specs.declared.capture.End.TheVariants as end
 use Rattle.net_plan.specs.declared.stream.TextFault.TheVariants as fault
@@ -28,24 +28,7 @@ not_given fault.TooLong = Some (codes "unreadable capture: J08\n")
 not_given fault.Device = Some (codes "unreadable capture: file\n")
 not_given fault.OutOfMemory = None
 
--- the source failed, or gave more bytes than a capture may have
-abbrev pub IsNotGiven : TextFault → Stream → Type 0
-IsNotGiven fault.TooLong source = TakesMoreThan most_text_bytes source.before.bytes source.after.bytes
-IsNotGiven fault.Device source = Fails source
-IsNotGiven fault.OutOfMemory source = ⊥
-
--- the text tells of the capture that the source gave, with the names that a plan has, or why it gave none
-abbrev pub DecodesBy : Option Plan → Stream → Status → List ℕ → Type 0
-DecodesBy plan source ended text =
-    Gave most_text_bytes source.before.bytes source.after.bytes (λ bytes. IsDecodedSo plan bytes ended text)
-    ⊎ ((ended ≡ status.Unreadable)
-    × ((why : TextFault) × IsNotGiven why source × (not_given why ≡ Some text)))
-
--- the same without a plan
-abbrev pub DecodesSo : Stream → Status → List ℕ → Type 0
-DecodesSo source ended text = DecodesBy None source ended text
-
--- and with the plan that another source gave
-abbrev pub DecodesNamedSo : Stream → Stream → Status → List ℕ → Type 0
-DecodesNamedSo plans source ended text =
-    (plan : Plan) × GavePlan plans plan × DecodesBy (Some plan) source ended text
+-- the text tells of a capture that was read, with the names that a plan has, or why it was not
+abbrev pub DecodesBy : {Z : Type 0} → Option Plan → Result (Vec ℕ Z) TextFault → Status → List ℕ → Type 0
+DecodesBy plan (Ok bytes) ended text = IsDecodedSo plan bytes.items ended text
+DecodesBy plan (Err why) ended text = (ended ≡ status.Unreadable) × (not_given why ≡ Some text)

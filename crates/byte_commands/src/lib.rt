@@ -6,6 +6,6 @@ mod show;
 mod worded;
 
 pub use command_questions::{ShownKind, WordQuestion};
-pub use decode::{not_given, run_decode, run_decode_named};
+pub use decode::{DecodeCapture, DecodeNamed, not_given};
 pub use show::run_show;
 pub use worded::run_worded;

@@ -2,21 +2,15 @@
 use Rattle.std.{proofs.Common.{◌≤◌, List, length, ℕ, Result, Err, refl}, specs.Io.KnownBytes.{Consumes, IsAtEnd}}
 use Rattle.net_plan.{specs.declared.error.PlanError.{PlanError}, specs.PlanReading.{plan}, specs.PlanText.{IsPlanOf}, specs.Refusals.{IsRefused}, specs.Unread.{GaveNoPlan}, proofs.Refusing.{answer_given}}
 use Rattle.plan_values.{specs.declared.certificate.Certificate.{Certificate}, specs.declared.plan.Plan.{Plan}}
-use Rattle.command_answers.{specs.declared.refused.Refused.{Refused}, specs.Answers.{Stream, GavePlan, GavePlanText, AreGiven, AreTextsGiven, IsPlanUnread, IsCertificateUnread, AreUnread}, specs.Statuses.{refused_at}}
+use Rattle.command_answers.{specs.Answers.{Stream, GavePlan, GavePlanText, AreGiven, AreTextsGiven, IsPlanUnread}, specs.Statuses.{refused_at}}
 use Rattle.net_plan.specs.declared.error.PlanError.TheVariants as cause_of
 use Rattle.command_answers.specs.declared.refused.Input.TheVariants as input
-use Rattle.command_answers.proofs.Telling as telling
 
 pub gave_plan : (plans : Stream) (text : List ℕ) (p : Plan) → GavePlanText plans text p → GavePlan plans p
 gave_plan plans text p h = (h.0, h.1, h.2, h.3, h.4.1)
 
 pub are_given : (plans certificates : Stream) (text : List ℕ) (p : Plan) (cert : Certificate) → AreTextsGiven plans certificates text p cert → AreGiven plans certificates p cert
 are_given plans certificates text p cert h = record { plan_text = gave_plan plans text p h.plan_text; certificate_text = h.certificate_text }
-
--- the plan was given, and its certificate was not read
-pub certificate_unread : (text : List ℕ) (p : Plan) (why : Refused) (plans certificates : Stream) → GavePlanText plans text p → IsCertificateUnread why p certificates
-    → AreUnread why plans certificates
-certificate_unread text p why plans certificates given h = telling.certificate_unread p why plans certificates (gave_plan plans text p given) h
 
 -- why a text that was given is none of a plan, as a refusal
 no_plan_for : (plans : Stream) (bytes : List ℕ) (cause : PlanError) → IsRefused plan IsPlanOf bytes cause → GaveNoPlan plans.before.bytes plans.after.bytes cause

@@ -1,10 +1,8 @@
-pub mod Causes
 pub mod Telling
 pub mod Told
 pub mod Places
 pub mod Waiting
 mod Names
-mod Moved
 mod Ends
 pub mod UnreadInputs
 pub mod UnreadTexts

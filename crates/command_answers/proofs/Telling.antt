@@ -2,7 +2,7 @@
 use Rattle.std.proofs.Common.{ℕ, List, Option}
 use Rattle.plan_values.{specs.declared.plan.Plan.{Plan}, specs.PlanValues.{plan_value}}
 use Rattle.net_plan.{specs.declared.error.PlanError.{PlanError}, specs.Stream.{HasFailed}, specs.TextFaults.{error_count}, specs.Unread.{GaveNoCertificate}}
-use Rattle.command_answers.{specs.declared.refused.Input.{Input}, specs.declared.refused.Refused.{Refused}, specs.Answers.{Stream, BreaksOff, GavePlan, GaveNothing, IsUnread, AreUnread, IsUnreadCertificate, IsCertificateUnread}, specs.Statuses.{refused_at}, proofs.Causes.{unread_also}}
+use Rattle.command_answers.{specs.declared.refused.Input.{Input}, specs.declared.refused.Refused.{Refused}, specs.Answers.{Stream, BreaksOff, GaveNothing, IsCertificateUnread}, specs.Statuses.{refused_at}}
 use Rattle.net_plan.specs.declared.error.PlanError.TheVariants as error
 use Rattle.command_answers.specs.declared.refused.Input.TheVariants as input
 use Rattle.command_answers.specs.declared.refused.Refused.TheVariants as refused
@@ -29,18 +29,6 @@ pub no_certificate : (e : PlanError) (p : Plan) (certificates : Stream) → Gave
 no_certificate e p certificates gave counted =
     refusal_at (λ why. IsCertificateUnread why p certificates) (GaveNoCertificate (plan_value p)) certificates input.Certificate e gave counted tt
     (λ cause nothing. nothing)
-
--- the plan was given, and its certificate was not read
-pub certificate_unread : (p : Plan) (why : Refused) (plans certificates : Stream) → GavePlan plans p → IsCertificateUnread why p certificates
-    → AreUnread why plans certificates
-certificate_unread p why plans certificates given h =
-    unread_also (λ unread cause. IsUnreadCertificate p unread cause certificates) (λ unread cause. IsUnread unread cause plans certificates) why also h
-  where
-    also : (unread : Input) (cause : PlanError) → IsUnreadCertificate p unread cause certificates → IsUnread unread cause plans certificates
-    also input.Plan cause h = absurd h
-    also input.Certificate cause h = (p, given, h)
-    also input.Events cause h = absurd h
-    also input.Lines cause h = absurd h
 
 -- an output that failed after a beginning of one text failed after a beginning of any answer that the text is
 pub breaks_off_also : (P Q : List ℕ → Type 0) (output : Stream) → ((text : List ℕ) → P text → Q text) → BreaksOff P output → BreaksOff Q output

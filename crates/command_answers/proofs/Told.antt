@@ -1,7 +1,7 @@
 -- What the end of a run tells of an answer.
 use Rattle.std.{proofs.Common.{◌≡◌, ◌≢◌, ◌⊎◌, ℕ, List, Result, Ok, Err, inl, inr, refl, sym, ◌∙◌, ap, subst}, specs.Prelude.{IfOk, IfErr, OnErr}, specs.Cow.{cow_str_bytes}, specs.declared.alloc.AllocError.{AllocError}}
 use Rattle.net_plan.specs.declared.error.PlanError.{PlanError}
-use Rattle.command_answers.{specs.declared.answer.Answer.{Answer}, specs.declared.bytes_answer.BytesAnswer.{BytesAnswer}, specs.declared.refused.Input.{Input}, specs.declared.refused.Refused.{Refused}, specs.declared.status.Status.{Status}, specs.Answers.{Stream, IsReported, Refuses, BreaksOff}, specs.Statuses.{status_of, IsReportedFor, HasCause}, specs.Told.{IsTold, IsSomeAnswer, Gives, Ends, Concludes, ConcludesOnBoth, ConcludesOnOutput}}
+use Rattle.command_answers.{specs.declared.answer.Answer.{Answer}, specs.declared.bytes_answer.BytesAnswer.{BytesAnswer}, specs.declared.refused.Input.{Input}, specs.declared.refused.Refused.{Refused}, specs.declared.status.Status.{Status}, specs.Answers.{Stream, IsReported, Refuses, BreaksOff}, specs.Statuses.{status_of, IsReportedFor, HasCause}, specs.Told.{IsTold, IsSomeAnswer, Gives, Ends, Concludes, ConcludesOnOutput}}
 use Rattle.command_answers.specs.declared.refused.Refused.TheVariants as refused
 use Rattle.command_answers.specs.declared.status.Status.TheVariants as status
 
@@ -86,28 +86,21 @@ module _ {A : Type 0} (due : A → Status) (text_of : A → List ℕ) (some : (a
   gives_or_breaks a answers (inr (is, fails, part, line)) unreadable =
       inr (record { text = text_of a; answer = (due a, answers); fails = fails; beginning = part })
 
-  -- with no such answer, an output that failed did so in an answer
-  only_breaks : (Same : Type 0) → ((text : List ℕ) → Answers status.Unreadable text → ⊥)
-      → Gives Answers status.Unreadable output ⊎ BreaksOff (IsSomeAnswer Answers) output → Same ⊎ BreaksOff (IsSomeAnswer Answers) output
-  only_breaks Same none (inl (text, answers, written)) = absurd (none text answers)
-  only_breaks Same none (inr breaks) = inr breaks
-
-  breaks_by : (Same : Type 0) (answered : Result A Refused) → IfOk answered (λ a. Answers (due a) (text_of a))
-      → IfOk answered (λ a. IsTold (due a) (text_of a) ended output errors) → OnErr answered Same
-      → ((text : List ℕ) → Answers status.Unreadable text → ⊥) → ended ≡ status.Unreadable → Same ⊎ BreaksOff (IsSomeAnswer Answers) output
-  breaks_by Same (Ok a) answers told same none unreadable = only_breaks Same none (gives_or_breaks a answers told unreadable)
-  breaks_by Same (Err why) answers told same none unreadable = inl same
+  same_gives_or_breaks : (Same : Type 0) (answered : Result A Refused) → IfOk answered (λ a. Answers (due a) (text_of a))
+      → IfOk answered (λ a. IsTold (due a) (text_of a) ended output errors) → OnErr answered Same → ended ≡ status.Unreadable
+      → Same ⊎ (Gives Answers status.Unreadable output ⊎ BreaksOff (IsSomeAnswer Answers) output)
+  same_gives_or_breaks Same (Ok a) answers told same unreadable = inr (gives_or_breaks a answers told unreadable)
+  same_gives_or_breaks Same (Err why) answers told same unreadable = inl same
 
   -- all that it says
   concludes_by : (IsWhy : Refused → Type 0) (untouched quiet : Type 0) (answered : Result A Refused) → IfOk answered (λ a. Answers (due a) (text_of a))
       → IfErr answered IsWhy → IfOk answered (λ a. IsTold (due a) (text_of a) ended output errors)
       → IfErr answered (λ why. Refuses why ended errors) → OnErr answered untouched → ((ended ≡ status.Yes) ⊎ (ended ≡ status.Fault) → quiet)
-      → (ended ≡ status.NoMemory → untouched) → ((text : List ℕ) → Answers status.Unreadable text → ⊥)
-      → Concludes Answers IsWhy ended output errors untouched quiet
-  concludes_by IsWhy untouched quiet answered answers why told refuses same silent no_memory none = record {
+      → (ended ≡ status.NoMemory → untouched) → Concludes Answers IsWhy ended output errors untouched quiet
+  concludes_by IsWhy untouched quiet answered answers why told refuses same silent no_memory = record {
     tells = ends_by IsWhy answered answers why told refuses;
     silent = silent;
-    unwritten = breaks_by untouched answered answers told same none;
+    unwritten = same_gives_or_breaks untouched answered answers told same;
     no_memory = no_memory;
   }
 
@@ -117,7 +110,7 @@ module _ (Answers : Status → List ℕ → Type 0) (ended : Status) (output err
       → IfOk answered (λ (a : BytesAnswer). Answers a.status a.bytes.items) → IfErr answered IsWhy
       → IfOk answered (λ (a : BytesAnswer). IsTold a.status a.bytes.items ended output errors) → IfErr answered (λ why. Refuses why ended errors)
       → OnErr answered untouched → ((ended ≡ status.Yes) ⊎ (ended ≡ status.Fault) → quiet) → (ended ≡ status.NoMemory → untouched)
-      → ((text : List ℕ) → Answers status.Unreadable text → ⊥) → Concludes Answers IsWhy ended output errors untouched quiet
+      → Concludes Answers IsWhy ended output errors untouched quiet
   concludes_bytes = concludes_by (λ (a : BytesAnswer). a.status) (λ a. a.bytes.items) (λ a. a.memory) Answers ended output errors
 
   -- and of a text
@@ -125,7 +118,7 @@ module _ (Answers : Status → List ℕ → Type 0) (ended : Status) (output err
       → IfOk answered (λ (a : Answer). Answers a.status (cow_str_bytes a.text)) → IfErr answered IsWhy
       → IfOk answered (λ (a : Answer). IsTold a.status (cow_str_bytes a.text) ended output errors) → IfErr answered (λ why. Refuses why ended errors)
       → OnErr answered untouched → ((ended ≡ status.Yes) ⊎ (ended ≡ status.Fault) → quiet) → (ended ≡ status.NoMemory → untouched)
-      → ((text : List ℕ) → Answers status.Unreadable text → ⊥) → Concludes Answers IsWhy ended output errors untouched quiet
+      → Concludes Answers IsWhy ended output errors untouched quiet
   concludes = concludes_by (λ (a : Answer). a.status) (λ a. cow_str_bytes a.text) (λ a. a.memory) Answers ended output errors
 
   -- where only memory can be wanting
@@ -133,7 +126,7 @@ module _ (Answers : Status → List ℕ → Type 0) (ended : Status) (output err
       → IfOk answered (λ (a : Answer). Answers a.status (cow_str_bytes a.text)) → IsWhy refused.NoMemory
       → IfOk answered (λ (a : Answer). IsTold a.status (cow_str_bytes a.text) ended output errors) → IfErr answered (λ _. Refuses refused.NoMemory ended errors)
       → OnErr answered untouched → ((ended ≡ status.Yes) ⊎ (ended ≡ status.Fault) → quiet) → (ended ≡ status.NoMemory → untouched)
-      → ((text : List ℕ) → Answers status.Unreadable text → ⊥) → Concludes Answers IsWhy ended output errors untouched quiet
+      → Concludes Answers IsWhy ended output errors untouched quiet
   concludes_made IsWhy untouched quiet (Ok a) answers lacks told refuses same = concludes IsWhy untouched quiet (Ok a) answers tt told tt tt
   concludes_made IsWhy untouched quiet (Err e) answers lacks told refuses same = concludes IsWhy untouched quiet (Err refused.NoMemory) tt lacks tt refuses same
 
@@ -145,26 +138,6 @@ module _ (Answers : Status → List ℕ → Type 0) (ended : Status) (output err
     silent = refuses_so (λ s. (s ≡ status.Yes) ⊎ (s ≡ status.Fault) → quiet) errors why (λ unread line. unread_is_silent quiet) (λ line. lack_is_silent quiet) ended refuses;
     unwritten = λ ends. inl same;
     no_memory = λ ends. same;
-  }
-
-  same_gives_or_breaks : (Same : Type 0) (answered : Result Answer Refused) → IfOk answered (λ (a : Answer). Answers a.status (cow_str_bytes a.text))
-      → IfOk answered (λ (a : Answer). IsTold a.status (cow_str_bytes a.text) ended output errors) → OnErr answered Same → ended ≡ status.Unreadable
-      → Same ⊎ (Gives Answers status.Unreadable output ⊎ BreaksOff (IsSomeAnswer Answers) output)
-  same_gives_or_breaks Same (Ok a) answers told same unreadable =
-      inr (gives_or_breaks (λ (a : Answer). a.status) (λ a. cow_str_bytes a.text) (λ a. a.memory) Answers ended output errors a answers told unreadable)
-  same_gives_or_breaks Same (Err why) answers told same unreadable = inl same
-
-  -- where of some inputs an answer tells why they can't be read
-  pub concludes_on_both : (IsWhy : Refused → Type 0) (untouched quiet : Type 0) (answered : Result Answer Refused)
-      → IfOk answered (λ (a : Answer). Answers a.status (cow_str_bytes a.text)) → IfErr answered IsWhy
-      → IfOk answered (λ (a : Answer). IsTold a.status (cow_str_bytes a.text) ended output errors) → IfErr answered (λ why. Refuses why ended errors)
-      → OnErr answered untouched → ((ended ≡ status.Yes) ⊎ (ended ≡ status.Fault) → quiet) → (ended ≡ status.NoMemory → untouched)
-      → ConcludesOnBoth Answers IsWhy ended output errors untouched quiet
-  concludes_on_both IsWhy untouched quiet answered answers why told refuses same silent no_memory = record {
-    tells = ends_by (λ (a : Answer). a.status) (λ a. cow_str_bytes a.text) (λ a. a.memory) Answers ended output errors IsWhy answered answers why told refuses;
-    silent = silent;
-    unwritten = same_gives_or_breaks untouched answered answers told same;
-    no_memory = no_memory;
   }
 
   only_memory_lacks : (answered : Result Answer Refused) → IfOk answered (λ (a : Answer). Answers a.status (cow_str_bytes a.text))
@@ -193,17 +166,3 @@ pub quiet_told : (P Q : Type 0) (s : Status) (errors : Stream) (answered : Resul
     → IfOk answered (λ _. P → Q) → IfErr answered (λ why. Refuses why s errors) → s ≢ status.NoMemory → P → Q
 quiet_told P Q s errors (Ok answer) none quiet ends told p = quiet p
 quiet_told P Q s errors (Err why) none quiet ends told p = absurd (told (of_memory why s errors none ends).0)
-
--- what is concluded of any answer is concluded where some tell why an input can't be read
-pub on_both : {Answers : Status → List ℕ → Type 0} {IsWhy : Refused → Type 0} {ended : Status} {output errors : Stream} {untouched quiet : Type 0}
-    → Concludes Answers IsWhy ended output errors untouched quiet → ConcludesOnBoth Answers IsWhy ended output errors untouched quiet
-on_both {Answers} {IsWhy} {ended} {output} {errors} {untouched} {quiet} c = record {
-  tells = c.tells;
-  silent = c.silent;
-  unwritten = λ is. or_breaks (c.unwritten is);
-  no_memory = c.no_memory;
-}
-  where
-    or_breaks : untouched ⊎ BreaksOff (IsSomeAnswer Answers) output → untouched ⊎ (Gives Answers status.Unreadable output ⊎ BreaksOff (IsSomeAnswer Answers) output)
-    or_breaks (inl same) = inl same
-    or_breaks (inr breaks) = inr (inr breaks)

@@ -124,14 +124,7 @@ abbrev pub IsCertificateUnread : Refused → Plan → Stream → Type 0
 IsCertificateUnread why plan certificates =
     HasCause (λ unread cause. IsUnreadCertificate plan unread cause certificates) ⊥ ⊥ ⊥ why
 
--- why an input can't be read; a certificate is read only where the plan was given
-abbrev pub IsUnread : Input → PlanError → Stream → Stream → Type 0
-IsUnread input.Plan cause plans certificates = GaveNothing GaveNoPlan plans cause
-IsUnread input.Certificate cause plans certificates = (plan : Plan) × GavePlan plans plan
-    × GaveNothing (GaveNoCertificate (plan_value plan)) certificates cause
-IsUnread input.Events cause plans certificates = ⊥
-IsUnread input.Lines cause plans certificates = ⊥
-
--- why the inputs were not read
+-- why the inputs were not read; the certificate is read only where the plan was given
 abbrev pub AreUnread : Refused → Stream → Stream → Type 0
-AreUnread why plans certificates = HasCause (λ unread cause. IsUnread unread cause plans certificates) ⊥ ⊥ ⊥ why
+AreUnread why plans certificates = IsPlanUnread why plans
+    ⊎ ((plan : Plan) × GavePlan plans plan × IsCertificateUnread why plan certificates)

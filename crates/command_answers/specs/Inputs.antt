@@ -1,10 +1,11 @@
 -- Events and lines that sources gave, or why they gave none.
 use Rattle.std.specs.Prelude.{◌≡◌, ℕ, List, map, IsUtf8}
 use Rattle.plan_values.{specs.declared.plan.Plan.{Plan}, specs.declared.certificate.Certificate.{Certificate}, specs.declared.event.Event.{Event}, specs.EventValues.{event_entry}, specs.PlanValues.{plan_value}}
-use Rattle.net_plan.{specs.declared.error.PlanError.{PlanError}, specs.EventText.{AreEventsOf}, specs.Texts.{Gave, IsJsonTextOf}, specs.Unread.{GaveNoEvents}, specs.Stream.{TakesMoreThan}, specs.Limits.{most_text_bytes}}
+use Rattle.net_plan.{specs.declared.error.PlanError.{PlanError}, specs.EventText.{AreEventsOf}, specs.Texts.{Gave, IsJsonTextOf}, specs.Unread.{GaveNoEvents}, specs.Stream.{TakesMoreThan}, specs.declared.stream.TextFault.{TextFault}, specs.Limits.{most_text_bytes}}
 use Rattle.command_answers.{specs.declared.refused.Input.{Input}, specs.declared.refused.Refused.{Refused}, specs.Answers.{Stream, GaveNothing, Fails}, specs.Statuses.{HasCause}}
 use Rattle.command_answers.specs.declared.refused.Input.TheVariants as input
 use Rattle.net_plan.specs.declared.error.PlanError.TheVariants as error
+use Rattle.net_plan.specs.declared.stream.TextFault.TheVariants as fault
 
 -- the source gave the events at the nodes of the plan
 abbrev pub GaveEvents : Plan → Stream → List Event → Type 0
@@ -24,9 +25,15 @@ abbrev pub AreEventsUnread : Refused → Plan → Stream → Type 0
 AreEventsUnread why plan happenings =
     HasCause (λ unread cause. AreUnreadEvents plan unread cause happenings) ⊥ ⊥ ⊥ why
 
--- the source gave this text of lines
-abbrev pub GaveLines : Stream → List ℕ → Type 0
-GaveLines stream wanted = Gave most_text_bytes stream.before.bytes stream.after.bytes (λ text. text ≡ wanted)
+-- the source gave these bytes
+abbrev pub GaveBytes : Stream → List ℕ → Type 0
+GaveBytes stream bytes = Gave most_text_bytes stream.before.bytes stream.after.bytes (λ given. given ≡ bytes)
+
+-- why a source gave none: too many, or it failed
+abbrev pub GaveNoBytes : Stream → TextFault → Type 0
+GaveNoBytes stream fault.TooLong = TakesMoreThan most_text_bytes stream.before.bytes stream.after.bytes
+GaveNoBytes stream fault.Device = Fails stream
+GaveNoBytes stream fault.OutOfMemory = ⊥
 
 -- why a source gave no text of lines: it failed, it gave too many bytes, or they are no UTF-8
 abbrev pub GaveNoLines : Stream → PlanError → Type 0

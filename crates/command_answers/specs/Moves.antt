@@ -1,11 +1,9 @@
 -- What is read for a move from one plan to another, and the line of its fault.
 use Rattle.std.specs.Prelude.{◌≡◌, ◌⊎◌, ℕ, List, Some}
 use Rattle.net_rules.{specs.declared.move_error.MoveError.{MoveError}, specs.MoveFaults.{NamesFirstMoveFault}}
-use Rattle.plan_values.{specs.declared.plan.Plan.{Plan}, specs.declared.certificate.Certificate.{Certificate}, specs.PlanValues.{plan_value}}
-use Rattle.net_plan.{specs.declared.error.PlanError.{PlanError}, specs.Unread.{GaveNoPlan, GaveNoCertificate}, specs.CertificateJson.{certificate_text}}
-use Rattle.command_answers.{specs.declared.refused.Input.{Input}, specs.declared.refused.Refused.{Refused}, specs.Answers.{Stream, GavePlan, GaveCertificate, GaveNothing}, specs.Statuses.{HasCause}}
+use Rattle.plan_values.{specs.declared.plan.Plan.{Plan}, specs.declared.certificate.Certificate.{Certificate}}
+use Rattle.command_answers.{specs.declared.refused.Refused.{Refused}, specs.Answers.{Stream, GavePlan, GaveCertificate, IsPlanUnread, IsCertificateUnread}}
 use Rattle.plan_texts.specs.MoveLines.{move_error_text}
-use Rattle.command_answers.specs.declared.refused.Input.TheVariants as input
 
 -- one source gave the plan before, one the plan after, and one the certificate, which is read for the plan before
 pub record IsMoveGiven (befores afters certificates : Stream) (before after : Plan)
@@ -29,29 +27,13 @@ IsMoveFaultText before after certificate text =
 abbrev pub IsMoveErrorText : Plan → MoveError → List ℕ → Type 0
 IsMoveErrorText before error text = move_error_text before error ≡ Some text
 
--- why an input of a move can't be read; each is read only where those before it were given
-abbrev pub IsUnreadInMove : Input → PlanError → Stream → Stream → Stream → Type 0
-IsUnreadInMove input.Plan cause befores afters certificates = GaveNothing GaveNoPlan befores cause
-    ⊎ ((before : Plan) × GavePlan befores before × GaveNothing GaveNoPlan afters cause)
-IsUnreadInMove input.Certificate cause befores afters certificates =
-    (before : Plan) × (after : Plan) × GavePlan befores before × GavePlan afters after
-    × GaveNothing (GaveNoCertificate (plan_value before)) certificates cause
-IsUnreadInMove input.Events cause befores afters certificates = ⊥
-IsUnreadInMove input.Lines cause befores afters certificates = ⊥
-
--- why the inputs were not read
-abbrev pub IsMoveUnread : Refused → Stream → Stream → Stream → Type 0
-IsMoveUnread why befores afters certificates =
-    HasCause (λ unread cause. IsUnreadInMove unread cause befores afters certificates) ⊥ ⊥ ⊥ why
-
--- why one of two plans can't be read; the second is read only where the first was given
-abbrev pub IsUnreadOfPlans : Input → PlanError → Stream → Stream → Type 0
-IsUnreadOfPlans input.Plan cause befores afters = GaveNothing GaveNoPlan befores cause
-    ⊎ ((before : Plan) × GavePlan befores before × GaveNothing GaveNoPlan afters cause)
-IsUnreadOfPlans input.Certificate cause befores afters = ⊥
-IsUnreadOfPlans input.Events cause befores afters = ⊥
-IsUnreadOfPlans input.Lines cause befores afters = ⊥
-
--- why the plans were not read
+-- why two plans were not read; the second is read only where the first was given
 abbrev pub ArePlansUnread : Refused → Stream → Stream → Type 0
-ArePlansUnread why befores afters = HasCause (λ unread cause. IsUnreadOfPlans unread cause befores afters) ⊥ ⊥ ⊥ why
+ArePlansUnread why befores afters = IsPlanUnread why befores
+    ⊎ ((before : Plan) × GavePlan befores before × IsPlanUnread why afters)
+
+-- why the inputs of a move were not read; the certificate is read only where both plans were given
+abbrev pub IsMoveUnread : Refused → Stream → Stream → Stream → Type 0
+IsMoveUnread why befores afters certificates = ArePlansUnread why befores afters
+    ⊎ ((before : Plan) × (after : Plan) × GavePlan befores before × GavePlan afters after
+    × IsCertificateUnread why before certificates)

@@ -33,16 +33,9 @@ Ends Answers IsWhy status.Unreadable output errors =
     Gives Answers status.Unreadable output ⊎ SaysWhy (IsUngivenFor IsWhy output) errors
 Ends Answers IsWhy status.NoMemory output errors = IsReported refused.NoMemory errors
 
--- What the end of a run says of an answer, whichever it is, of the outputs, and of where they are as they were.
+-- What the end of a run says of an answer, whichever it is, of the outputs, and of where they are as they were. Where
+-- no text answers for what can't be read, the output of a run that ends so is as it was, or failed in an answer.
 pub record Concludes (Answers : Status → List ℕ → Type 0) (IsWhy : Refused → Type 0) (ended : Status)
-    (output errors : Stream) (untouched quiet : Type 0) : Type 0 where
-  pub tells : Ends Answers IsWhy ended output errors
-  pub silent : (ended ≡ status.Yes) ⊎ (ended ≡ status.Fault) → quiet
-  pub unwritten : ended ≡ status.Unreadable → untouched ⊎ BreaksOff (IsSomeAnswer Answers) output
-  pub no_memory : ended ≡ status.NoMemory → untouched
-
--- The same where of some inputs that can't be read an answer tells why, and of the others there is none.
-pub record ConcludesOnBoth (Answers : Status → List ℕ → Type 0) (IsWhy : Refused → Type 0) (ended : Status)
     (output errors : Stream) (untouched quiet : Type 0) : Type 0 where
   pub tells : Ends Answers IsWhy ended output errors
   pub silent : (ended ≡ status.Yes) ⊎ (ended ≡ status.Fault) → quiet

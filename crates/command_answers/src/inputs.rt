@@ -1,7 +1,7 @@
 //! The files that commands read.
 ghost use Rattle.std.specs.Prelude.{◌≡◌, IfOk, IfErr, string_bytes};
 ghost use Rattle.net_plan.{specs.Stream.{HasRoom}, specs.CertificateText.{IsCertificateOf}, specs.PlanText.{IsPlanOf}, specs.Texts.{IsJsonTextOf}};
-ghost use Rattle.command_answers.{specs.Answers.{stream, IsWithoutPlan, GavePlan, GavePlanText, GaveCertificate, IsPlanUnread, IsCertificateUnread, AreGiven, AreTextsGiven, AreUnread}, specs.UnreadInputs.{IsNoPlanIn, IsNoPlanBy, IsNoCertificateIn, IsNoCertificateBy, IsTextOf, unread_of}, specs.Moves.{IsMoveGiven, IsMoveUnread, ArePlansUnread}, specs.Inputs.{GaveLines, AreLinesUnread, GaveEvents, AreEventsUnread}};
+ghost use Rattle.command_answers.{specs.Answers.{stream, IsWithoutPlan, GavePlan, GavePlanText, GaveCertificate, IsPlanUnread, IsCertificateUnread, AreGiven, AreTextsGiven, AreUnread}, specs.UnreadInputs.{IsNoPlanIn, IsNoPlanBy, IsNoCertificateIn, IsNoCertificateBy, IsTextOf, unread_of}, specs.Moves.{IsMoveGiven, IsMoveUnread, ArePlansUnread}, specs.Inputs.{GaveBytes, AreLinesUnread, GaveEvents, AreEventsUnread}};
 ghost use Rattle.plan_values.{specs.CertificateValues.{certificate_value}, specs.PlanValues.{plan_value}};
 
 use crate::refused::{Input, Refused};
@@ -135,7 +135,7 @@ pub fn without_text(fault: NoText) -> Unread
 }
 
 /// The certificate that a source gives for a plan.
-fn given_certificate<C: Source>(
+pub fn given_certificate<C: Source>(
     alloc: Global,
     plan: &Plan,
     certificate: &mut C,
@@ -174,7 +174,7 @@ pub fn given_events<V: Source>(
 pub fn given_lines<L: Source>(alloc: Global, lines: &mut L) -> Result<String, Refused>
     requires { HasRoom (L.account lines.old) }
     ensures given { let expectations = stream L.account lines.old lines.new in
-        IfOk result (λ text. GaveLines expectations (string_bytes text)) }
+        IfOk result (λ text. GaveBytes expectations (string_bytes text)) }
     ensures unread { let expectations = stream L.account lines.old lines.new in
         IfErr result (λ refused. AreLinesUnread refused expectations) }
 {
@@ -188,7 +188,6 @@ pub fn given_lines<L: Source>(alloc: Global, lines: &mut L) -> Result<String, Re
 }
 
 /// The plan and its certificate. The certificate is read only where the plan could be read.
-#[tactic(auto, using(crate::proofs::Telling::certificate_unread))]
 pub fn read_inputs<P: Source, C: Source>(
     alloc: Global,
     plan: &mut P,
@@ -234,7 +233,6 @@ pub fn read_texts<P: Source, C: Source>(
 }
 
 /// Two plans. The second is read only where the first could be read.
-#[tactic(auto, using(crate::proofs::Moved::first_unread))]
 pub fn read_plans<P: Source, Q: Source>(
     alloc: Global,
     before: &mut P,
@@ -258,7 +256,6 @@ pub fn read_plans<P: Source, Q: Source>(
 
 /// The plans of a move and their certificate. Each is read only where those before it could be read; the certificate is
 /// read for the plan before.
-#[tactic(auto, using(crate::proofs::Moved::before_unread))]
 pub fn read_move<P: Source, Q: Source, C: Source>(
     alloc: Global,
     before: &mut P,

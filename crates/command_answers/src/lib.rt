@@ -5,7 +5,9 @@
 mod answer;
 mod bytes_answer;
 mod certify;
+mod command;
 mod faults;
+mod files;
 mod gathered;
 mod inputs;
 mod known;
@@ -19,7 +21,12 @@ mod unread_texts;
 pub use answer::{Answer, YES, give, print, refuse, tell, tell_made};
 pub use bytes_answer::{BytesAnswer, tell_bytes};
 pub use certify::{accepted, certificate_of_plan, others_of};
+pub use command::{Command, Reads, run_command};
 pub use faults::{fault_answer, fault_text, move_fault_answer};
+pub use files::{
+    Beside, ByteFile, CertificateFile, Certified, EventFile, LineFile, PlanFile, Plans, Then,
+    plan_and_certificate, two_plans,
+};
 pub use gathered::Gathered;
 pub use inputs::{
     PlanText, Unread, certificate_or_text, given_events, given_lines, given_plan, given_plan_text,

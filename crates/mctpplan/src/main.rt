@@ -8,8 +8,11 @@ ghost use Rattle.std.specs.Prelude.{◌≡◌};
 
 use audit_commands::run_audit;
 use bus_commands::{Emulation, run_capture, run_emulate};
-use byte_commands::{ShownKind, WordQuestion, run_decode, run_decode_named, run_show, run_worded};
-use command_answers::{Refused, Status, given_plan, refuse, run_known};
+use byte_commands::{DecodeCapture, DecodeNamed, ShownKind, WordQuestion, run_show, run_worded};
+use command_answers::{
+    ByteFile, Command, EventFile, LineFile, PlanFile, Reads, Refused, Status, Then, given_plan,
+    plan_and_certificate, refuse, run_command, run_known, two_plans,
+};
 use command_line::{
     FileAtPath, FileToWrite, FilesAtPaths, FilesBeside, Subcommand, VERSION, hint_node, hint_nodes,
     hint_record, hint_words, links_of_words, parse_command,
@@ -22,14 +25,14 @@ use json_commands::{CertifiedJson, PlanJson, run_certified_json, run_planned_jso
 use kit::PROVED;
 use net_plan::Counted;
 use plan_commands::{
-    MakeFiles, PlanQuestion, Question, run_certified, run_certify_move, run_make,
-    run_make_certified, run_make_kept, run_move, run_planned, run_require,
+    CertifyMove, MakeFiles, PlanQuestion, Question, RequireWays, run_certified, run_make,
+    run_make_certified, run_make_kept, run_move, run_planned,
 };
-use plan_differences::run_diff;
-use plan_values::Plan;
-use play_commands::{WalkScript, run_expect, run_script, simulate, simulate_move};
-use report_commands::{run_report, run_report_certified};
-use rollout_commands::{run_rollout, run_rollout_written};
+use plan_differences::Diff;
+use plan_values::{Certificate, Plan};
+use play_commands::{ExpectLines, WalkScript, WriteScript, simulate, simulate_move};
+use report_commands::{ReportCertified, ReportPlan};
+use rollout_commands::{TellSteps, run_rollout_written};
 use std::io::{BufReader, IsTerminal};
 use std::process::ExitCode;
 use std::{env, fs};
@@ -77,7 +80,7 @@ fn run(rt: &HostRuntime) -> Status {
     };
     match parse_command(alloc, list.as_slice()) {
         Ok(command) => {
-            let status = run_command(rt, command);
+            let status = run_subcommand(rt, command);
             if status == Status::Unreadable && rt.stderr().is_terminal() {
                 tell_record(rt, command, list.as_slice());
             }
@@ -94,7 +97,7 @@ fn run(rt: &HostRuntime) -> Status {
 }
 
 /// Runs a command over files and the standard streams.
-fn run_command<'a>(rt: &'a HostRuntime, command: Subcommand<'a>) -> Status {
+fn run_subcommand<'a>(rt: &'a HostRuntime, command: Subcommand<'a>) -> Status {
     match command {
         Subcommand::Certified {
             question,
@@ -142,8 +145,8 @@ fn run_command<'a>(rt: &'a HostRuntime, command: Subcommand<'a>) -> Status {
             new,
             certificate,
         } => check_move(rt, old, new, certificate),
-        Subcommand::CertifyMove { old, new } => certify_move(rt, old, new),
-        Subcommand::Diff { old, new } => tell_changes(rt, old, new),
+        Subcommand::CertifyMove { old, new } => over_plans(rt, &CertifyMove, old, new),
+        Subcommand::Diff { old, new } => over_plans(rt, &Diff, old, new),
         Subcommand::Rollout { old, new, folder } => roll_out(rt, old, new, folder),
         Subcommand::SimMove {
             old,
@@ -199,6 +202,45 @@ fn tell_record(rt: &HostRuntime, command: Subcommand, list: &[String]) {
     }
 }
 
+/// Runs a command over its inputs and the standard streams.
+fn run_over<I: Reads<()>, C: Command<Of = I::Given>>(
+    rt: &HostRuntime,
+    command: &C,
+    inputs: &mut I,
+) -> Status
+    requires { I.IsReady inputs.old }
+{
+    let mut output = Counted::new(rt.stdout());
+    let mut errors = Counted::new(rt.stderr());
+    run_command(rt.alloc(), command, inputs, &mut output, &mut errors)
+}
+
+/// Runs a command over a plan and its certificate.
+fn over_certified<'a, C: Command<Of = (Plan, Certificate)>>(
+    rt: &'a HostRuntime,
+    command: &C,
+    plan: &'a str,
+    certificate: &'a str,
+) -> Status {
+    let mut plan = file(rt, plan);
+    let mut certificate = file(rt, certificate);
+    let mut inputs = plan_and_certificate(&mut plan, &mut certificate);
+    run_over(rt, command, &mut inputs)
+}
+
+/// Runs a command over two plans.
+fn over_plans<'a, C: Command<Of = (Plan, Plan)>>(
+    rt: &'a HostRuntime,
+    command: &C,
+    before: &'a str,
+    after: &'a str,
+) -> Status {
+    let mut before = file(rt, before);
+    let mut after = file(rt, after);
+    let mut inputs = two_plans(&mut before, &mut after);
+    run_over(rt, command, &mut inputs)
+}
+
 /// Answers a question about a plan with its certificate.
 fn certified<'a>(
     rt: &'a HostRuntime,
@@ -234,7 +276,15 @@ fn require<'a>(
     certificate: &'a str,
     wanted: &'a str,
 ) -> Status {
-    over!(rt, run_require(), plan, certificate, wanted)
+    let (mut plan, mut certificate) = (file(rt, plan), file(rt, certificate));
+    let mut wanted = file(rt, wanted);
+    let mut inputs = Then {
+        first: plan_and_certificate(&mut plan, &mut certificate),
+        second: ByteFile {
+            source: &mut wanted,
+        },
+    };
+    run_over(rt, &RequireWays, &mut inputs)
 }
 
 /// Makes a plan of a board, and its certificate where a file for it is given. The numbers of an old plan are kept, or
@@ -352,7 +402,20 @@ fn play<'a>(rt: &'a HostRuntime, plan: &'a str, certificate: &'a str, events: &'
 
 /// Compares what `sim` prints with lines. The files are the plan, the certificate, the events and the lines.
 fn expect<'a>(rt: &'a HostRuntime, [plan, certificate, events, lines]: [&'a str; 4]) -> Status {
-    over!(rt, run_expect(), plan, certificate, events, lines)
+    let mut plan = file(rt, plan);
+    let mut certificate = file(rt, certificate);
+    let mut events = file(rt, events);
+    let mut lines = file(rt, lines);
+    let mut inputs = Then {
+        first: Then {
+            first: plan_and_certificate(&mut plan, &mut certificate),
+            second: EventFile {
+                source: &mut events,
+            },
+        },
+        second: LineFile { source: &mut lines },
+    };
+    run_over(rt, &ExpectLines, &mut inputs)
 }
 
 /// Makes the events of a walk over the network of a plan.
@@ -362,7 +425,7 @@ fn write_script<'a>(
     plan: &'a str,
     certificate: &'a str,
 ) -> Status {
-    let status = over!(rt, run_script(script), plan, certificate);
+    let status = over_certified(rt, &WriteScript { script }, plan, certificate);
     with_hint(rt, status, script.node, plan)
 }
 
@@ -404,16 +467,6 @@ fn check_move<'a>(
     over!(rt, run_move(), before, after, certificate)
 }
 
-/// Makes the certificate of a move from one plan to another.
-fn certify_move<'a>(rt: &'a HostRuntime, before: &'a str, after: &'a str) -> Status {
-    over!(rt, run_certify_move(), before, after)
-}
-
-/// Tells what the change from one plan to another does.
-fn tell_changes<'a>(rt: &'a HostRuntime, before: &'a str, after: &'a str) -> Status {
-    over!(rt, run_diff(), before, after)
-}
-
 /// Tells the steps from the rows of one plan to those of another, and writes their files where a folder is given.
 fn roll_out<'a>(
     rt: &'a HostRuntime,
@@ -422,7 +475,7 @@ fn roll_out<'a>(
     folder: Option<&'a str>,
 ) -> Status {
     match folder {
-        None => over!(rt, run_rollout(), before, after),
+        None => over_plans(rt, &TellSteps, before, after),
         Some(folder) => roll_out_into(rt, before, after, folder),
     }
 }
@@ -494,9 +547,28 @@ fn show(rt: &HostRuntime, kind: ShownKind, hex: &str) -> Status {
 /// Tells what became of each entry of a capture, with the names of a plan where there is one.
 fn decode<'a>(rt: &'a HostRuntime, capture: &'a str, plan: Option<&'a str>) -> Status {
     match plan {
-        None => over!(rt, run_decode(), capture),
-        Some(plan) => over!(rt, run_decode_named(), plan, capture),
+        None => {
+            let mut capture = file(rt, capture);
+            let mut input = ByteFile {
+                source: &mut capture,
+            };
+            run_over(rt, &DecodeCapture, &mut input)
+        }
+        Some(plan) => decode_named(rt, plan, capture),
     }
+}
+
+/// The same with the names of a plan.
+fn decode_named<'a>(rt: &'a HostRuntime, plan: &'a str, capture: &'a str) -> Status {
+    let mut plan = file(rt, plan);
+    let mut capture = file(rt, capture);
+    let mut inputs = Then {
+        first: PlanFile { source: &mut plan },
+        second: ByteFile {
+            source: &mut capture,
+        },
+    };
+    run_over(rt, &DecodeNamed, &mut inputs)
 }
 
 /// Tells what the devices of a capture said, beside a plan. The files are the plan, the certificate and the capture.
@@ -548,8 +620,15 @@ fn capture_run<'a>(
 /// Writes the page about a plan, with its certificate where there is one.
 fn report<'a>(rt: &'a HostRuntime, name: &'a str, certificate: Option<&'a str>) -> Status {
     match certificate {
-        None => over!(rt, run_report(name), name),
-        Some(certificate) => over!(rt, run_report_certified(name), name, certificate),
+        None => {
+            let mut plan = file(rt, name);
+            run_over(
+                rt,
+                &ReportPlan { name },
+                &mut PlanFile { source: &mut plan },
+            )
+        }
+        Some(certificate) => over_certified(rt, &ReportCertified { name }, name, certificate),
     }
 }
 

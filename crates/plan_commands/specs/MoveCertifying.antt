@@ -3,7 +3,7 @@ use Rattle.std.specs.Prelude.{◌≡◌, ◌≤◌, ℕ, List, length}
 use Rattle.plan_values.{specs.declared.plan.Plan.{Plan}, specs.declared.certificate.Certificate.{Certificate}, specs.CertificateValues.{certificate_value}, specs.PlanValues.{node_names, plan_value}, specs.WellFormed.{IsWellFormed}}
 use Rattle.net_plan.{specs.CertificateJson.{certificate_text}, specs.CertificateText.{IsCertificateOf}, specs.Texts.{IsJsonTextOf}}
 use Rattle.net_rules.{specs.declared.move_obstacle.MoveObstacle.{MoveObstacle}, specs.MoveObstacles.{IsExactForMove}, specs.MoveRules.{AcceptsMove}}
-use Rattle.command_answers.{specs.declared.status.Status.{Status}, specs.Answers.{Stream, GavePlan}}
+use Rattle.command_answers.specs.declared.status.Status.{Status}
 use Rattle.fault_texts.specs.RuledOutMoves.{IsMoveRuledOutBy}
 use Rattle.command_answers.specs.declared.status.Status.TheVariants as status
 
@@ -26,8 +26,3 @@ CertifiesMove before after status.Yes text =
 CertifiesMove before after status.Fault text = (obstacle : MoveObstacle) × IsMoveRuledOutBy before after obstacle text
 CertifiesMove before after status.Unreadable text = ⊥
 CertifiesMove before after status.NoMemory text = ⊥
-
--- so it does of the plans that were given
-abbrev pub CertifiesMoveSo : Stream → Stream → Status → List ℕ → Type 0
-CertifiesMoveSo befores afters ended text = (before : Plan) × (after : Plan)
-    × GavePlan befores before × GavePlan afters after × CertifiesMove before after ended text

@@ -1,10 +1,11 @@
 -- What the end of `require` says of the plan, the certificate and the text that it read, and of what it wrote.
-use Rattle.std.{specs.Prelude.{◌≡◌, ◌≢◌, ◌⊎◌, ℕ, Bool, true, false, List, [], ◌++◌, codes, All}, specs.Fmt.{decimal}, specs.Str.{IsUtf8}}
+use Rattle.std.{specs.Prelude.{◌≡◌, ◌≢◌, ◌⊎◌, ℕ, Bool, true, false, List, [], ◌++◌, codes, All, Result, Ok, Err, Vec}, specs.Fmt.{decimal}, specs.Str.{IsUtf8}}
 use Rattle.plan_values.{specs.declared.plan.Plan.{Plan}, specs.declared.certificate.Certificate.{Certificate}}
-use Rattle.net_plan.{specs.Stream.{TakesMoreThan}, specs.Texts.{Gave}, specs.Limits.{most_text_bytes}}
+use Rattle.net_plan.specs.declared.stream.TextFault.{TextFault}
 use Rattle.net_reached.{specs.declared.reading.BadLine.{BadLine}, specs.declared.reading.WishError.TheVariants.{Unread}, specs.declared.wish.Wish.{Wish}, specs.Lines.{wish_lines}, specs.Reading.{AreWishesOf, IsWhyUnread}, specs.Wishes.{IsMet, AreUnmet}}
 use Rattle.net_rules.specs.Rules.{Accepts}
-use Rattle.command_answers.{specs.declared.status.Status.{Status}, specs.Answers.{Stream, Fails, AreGiven, IsFaultText}, specs.Statuses.{yes_line}}
+use Rattle.command_answers.{specs.declared.status.Status.{Status}, specs.Answers.{IsFaultText}, specs.Statuses.{yes_line}}
+use Rattle.net_plan.specs.declared.stream.TextFault.TheVariants as fault
 use Rattle.command_answers.specs.declared.status.Status.TheVariants as status
 
 -- ---- wishes that were read
@@ -50,19 +51,13 @@ abbrev pub RequiresOn : Plan → Certificate → List ℕ → Status → List �
 RequiresOn plan certificate wanted ended text = (Accepts plan certificate × IsRequiredOn plan wanted ended text)
     ⊎ ((ended ≡ status.Fault) × IsFaultText plan certificate text)
 
--- the source of what is wanted gave no text to its end: too many bytes, or it failed
-abbrev pub IsWithoutWanted : Stream → List ℕ → Type 0
-IsWithoutWanted wanted text =
-    (TakesMoreThan most_text_bytes wanted.before.bytes wanted.after.bytes × (text ≡ unread_wanted (codes "J08")))
-    ⊎ (Fails wanted × (text ≡ unread_wanted (codes "file")))
+-- what is told of a text that could not be read; want of memory is not told
+abbrev pub IsWithoutWanted : TextFault → List ℕ → Type 0
+IsWithoutWanted fault.TooLong text = text ≡ unread_wanted (codes "J08")
+IsWithoutWanted fault.Device text = text ≡ unread_wanted (codes "file")
+IsWithoutWanted fault.OutOfMemory text = ⊥
 
--- the same of a plan, a certificate and the text that a source gave, or why it gave none
-abbrev pub RequiresOf : Plan → Certificate → Stream → Status → List ℕ → Type 0
-RequiresOf plan certificate wanted ended text =
-    Gave most_text_bytes wanted.before.bytes wanted.after.bytes (λ bytes. RequiresOn plan certificate bytes ended text)
-    ⊎ ((ended ≡ status.Unreadable) × IsWithoutWanted wanted text)
-
--- the same of the plan and the certificate that were given
-abbrev pub RequiresSo : Stream → Stream → Stream → Status → List ℕ → Type 0
-RequiresSo plans certificates wanted ended text = (plan : Plan) × (certificate : Certificate)
-    × AreGiven plans certificates plan certificate × RequiresOf plan certificate wanted ended text
+-- the same of a plan, a certificate and a text that was read, or why it was not
+abbrev pub RequiresOf : {Z : Type 0} → Plan → Certificate → Result (Vec ℕ Z) TextFault → Status → List ℕ → Type 0
+RequiresOf plan certificate (Ok wanted) ended text = RequiresOn plan certificate wanted.items ended text
+RequiresOf plan certificate (Err why) ended text = (ended ≡ status.Unreadable) × IsWithoutWanted why text

@@ -2,7 +2,7 @@
 ghost use Rattle.std.{specs.Prelude.{◌≡◌, IfOk, IfErr, OnOk, map, option_map, string_bytes}, specs.Cow.{cow_str_bytes}};
 ghost use Rattle.net_plan.specs.Stream.{HasRoom};
 ghost use Rattle.step_files.{specs.StepFiles.{file_value}, specs.Writes.{MayFail, WritesAll, writes}};
-ghost use Rattle.command_answers.{specs.declared.status.Status.TheVariants.{Yes, Fault, NoMemory}, specs.Answers.{stream}, specs.Told.{ConcludesOnBoth, IsTold}};
+ghost use Rattle.command_answers.{specs.declared.status.Status.TheVariants.{Yes, Fault, NoMemory}, specs.Answers.{stream}, specs.Told.{Concludes, IsTold}};
 ghost use Rattle.board_made.specs.Made.{ReadsBack};
 ghost use Rattle.plan_commands.{specs.Keeping.{IsAnsweredSo, IsKeptSo, IsNoteSaid, IsUnkept, KeepsSo, changes_text, kept_text, made_files, notes_of, printed_of}, specs.Making.{IsMadeBy}};
 ghost use Rattle.command_answers.specs.declared.refused.Refused.TheVariants as refused;
@@ -36,7 +36,7 @@ pub fn run_make_kept<B: Source, F: RecordFiles, W: TextFiles, O: Sink, E: Sink>(
     requires errors { HasRoom (E.account errors.old) }
     ensures concludes { let boards = stream B.account board.old board.new in
         let made = writes W.account written.old written.new in
-        ConcludesOnBoth (λ ended text. KeepsSo wanted.now (option_map (λ p. p.now) old.entry) (F.holds files.now) boards made ended text)
+        Concludes (λ ended text. KeepsSo wanted.now (option_map (λ p. p.now) old.entry) (F.holds files.now) boards made ended text)
         IsUnkept result (stream O.account output.old output.new) (stream E.account errors.old errors.new)
         (output.new ≡ output.old) (result ≡ Fault → errors.new ≡ errors.old) }
     ensures kept { let boards = stream B.account board.old board.new in

@@ -20,11 +20,11 @@ mod trace;
 mod walk;
 
 pub use certified::run_certified;
-pub use certify_move::run_certify_move;
+pub use certify_move::CertifyMove;
 pub use command_questions::{DrawnRows, MakeFiles, PlanQuestion, Question, RecordFiles};
 pub use commands::{run_assign, run_certify, run_check, run_walk};
 pub use keeping::run_make_kept;
 pub use make::{run_make, run_make_certified};
 pub use moving::run_move;
 pub use planned::run_planned;
-pub use require::run_require;
+pub use require::RequireWays;

@@ -1,7 +1,7 @@
 //! The command `make`: the plan that is made of a board.
 ghost use Rattle.std.{specs.Prelude.{◌≡◌, ℕ, List, IfOk, IfErr, OnOk, string_bytes}, specs.Cow.{cow_str_bytes}, specs.Io.KnownBytes.{Appends}};
 ghost use Rattle.net_plan.specs.Stream.{HasRoom};
-ghost use Rattle.command_answers.{specs.declared.status.Status.TheVariants.{Fault}, specs.Answers.{stream}, specs.Told.{ConcludesOnBoth, ConcludesOnOutput}};
+ghost use Rattle.command_answers.{specs.declared.status.Status.TheVariants.{Fault}, specs.Answers.{stream}, specs.Told.{Concludes, ConcludesOnOutput}};
 ghost use Rattle.plan_commands.specs.Making.{long_board, failed_board, AreHeld, IsFileUnread, IsAnswerWith, IsAnswerOf, MakesSo, MakesWithSo, IsUnwrittenBy};
 ghost use Rattle.command_answers.specs.declared.refused.Refused.TheVariants as refused;
 
@@ -48,7 +48,7 @@ pub fn run_make_certified<B: Source, F: RecordFiles, C: Sink, O: Sink, E: Sink>(
     requires errors { HasRoom (E.account errors.old) }
     ensures concludes { let boards = stream B.account board.old board.new in
         let certificates = stream C.account certificate.old certificate.new in
-        ConcludesOnBoth (MakesWithSo (F.holds files.now) boards certificates) (λ why. IsUnwrittenBy certificates why) result
+        Concludes (MakesWithSo (F.holds files.now) boards certificates) (λ why. IsUnwrittenBy certificates why) result
         (stream O.account output.old output.new) (stream E.account errors.old errors.new)
         (output.new ≡ output.old) (errors.new ≡ errors.old) }
     ensures kept { result ≡ Fault → certificate.new ≡ certificate.old }

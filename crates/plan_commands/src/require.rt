@@ -1,70 +1,40 @@
 //! The command `require`: whether a checked plan's nodes reach whom they are to reach.
 ghost use Rattle.std.{specs.Prelude.{◌≡◌, ◌++◌, codes, IfOk, IfErr, string_bytes}, specs.Fmt.{decimal}, specs.Cow.{cow_str_bytes}};
-ghost use Rattle.net_plan.specs.Stream.{HasRoom};
-ghost use Rattle.command_answers.{specs.declared.status.Status.TheVariants.{Unreadable}, specs.Answers.{stream, AreUnread, IsWithoutPlan, AreWithoutCertificate}, specs.Told.{ConcludesOnBoth}};
-ghost use Rattle.plan_commands.specs.Requiring.{AnswersWishes, unread_wanted, unread_line_text, IsRequiredOn, RequiresOn, RequiresOf, RequiresSo};
+ghost use Rattle.command_answers.specs.declared.status.Status.TheVariants.{Unreadable};
+ghost use Rattle.plan_commands.specs.Requiring.{AnswersWishes, unread_wanted, unread_line_text, IsRequiredOn, RequiresOn, RequiresOf};
 ghost use Rattle.command_answers.specs.declared.refused.Refused.TheVariants as refused;
 
-use command_answers::{Answer, Refused, Status, fault_answer, read_inputs, refuse, tell};
+use command_answers::{Answer, Command, Refused, fault_answer};
 use net_check::{Checked, check};
-use net_plan::{Sink, Source, TEXT_LIMIT, TextFault, read_within};
+use net_plan::TextFault;
 use net_reached::{BadLine, Wish, WishError, unmet_wishes, wish_lines, wishes_of_text};
 use plan_values::{Certificate, Plan};
 use std::alloc::{AllocError, Global};
 
-/// Says on `output` that a plan's nodes reach whom a text wants them to reach, or gives the lines of the text of which
-/// it isn't so, or tells the fault of the plan and its certificate. Where the text can't be read, it says so there too.
-/// Where the plan or the certificate can't be read, says so on `errors`, and reads nothing more.
-pub fn run_require<P: Source, C: Source, W: Source, O: Sink, E: Sink>(
-    alloc: Global,
-    plan: &mut P,
-    certificate: &mut C,
-    wanted: &mut W,
-    output: &mut O,
-    errors: &mut E,
-) -> Status
-    requires plan { HasRoom (P.account plan.old) }
-    requires certificate { HasRoom (C.account certificate.old) }
-    requires wanted { HasRoom (W.account wanted.old) }
-    requires output { HasRoom (O.account output.old) }
-    requires errors { HasRoom (E.account errors.old) }
-    ensures concludes { let plans = stream P.account plan.old plan.new in
-        let certificates = stream C.account certificate.old certificate.new in
-        let texts = stream W.account wanted.old wanted.new in
-        ConcludesOnBoth (RequiresSo plans certificates texts) (λ why. AreUnread why plans certificates) result
-        (stream O.account output.old output.new) (stream E.account errors.old errors.new)
-        (output.new ≡ output.old) (errors.new ≡ errors.old) }
-    ensures in_order { IsWithoutPlan (stream P.account plan.old plan.new)
-        → (certificate.new ≡ certificate.old) × (wanted.new ≡ wanted.old) }
-    ensures certified_in_order { AreWithoutCertificate (stream P.account plan.old plan.new) (stream C.account certificate.old certificate.new)
-        → wanted.new ≡ wanted.old }
-{
-    match read_inputs(alloc, plan, certificate) {
-        Ok((plan, certificate)) => {
-            let answered = answer_wanted(alloc, &plan, &certificate, wanted);
-            tell(alloc, answered, output, errors)
-        }
-        Err(refused) => refuse(alloc, refused, errors),
-    }
-}
+/// Asks a plan with its certificate whether its nodes reach whom a text wants them to reach.
+#[derive(Clone, Copy)]
+pub struct RequireWays;
 
-/// The answer on a plan, a certificate and what a source gives.
-fn answer_wanted<W: Source>(
-    alloc: Global,
-    plan: &Plan,
-    certificate: &Certificate,
-    wanted: &mut W,
-) -> Result<Answer, Refused>
-    requires { HasRoom (W.account wanted.old) }
-    ensures answers { let texts = stream W.account wanted.old wanted.new in
-        IfOk result (λ answer. RequiresOf plan.now certificate.now texts answer.status (cow_str_bytes answer.text)) }
-    ensures refused { IfErr result (λ why. why ≡ refused.NoMemory) }
-{
-    match read_within(alloc, wanted, TEXT_LIMIT) {
-        Ok(text) => answer_of_text(alloc, plan, certificate, &text),
-        Err(TextFault::TooLong) => unread(alloc, "J08"),
-        Err(TextFault::Device) => unread(alloc, "file"),
-        Err(TextFault::OutOfMemory) => Err(Refused::NoMemory),
+impl Command for RequireWays {
+    type Of = ((Plan, Certificate), Result<Vec<u8>, TextFault>);
+
+    ghost Answers = { λ s given ended text. RequiresOf given.0.0 given.0.1 given.1 ended text };
+
+    ghost IsUnanswered = { λ s given why. why ≡ refused.NoMemory };
+
+    /// That they do, or the lines of the text of which it isn't so, or the fault of the plan and its certificate; or why
+    /// the text can't be read.
+    fn answer(
+        &self,
+        alloc: Global,
+        given: &((Plan, Certificate), Result<Vec<u8>, TextFault>),
+    ) -> Result<Answer, Refused> {
+        match &given.1 {
+            Ok(text) => answer_of_text(alloc, &given.0.0, &given.0.1, text),
+            Err(TextFault::TooLong) => unread(alloc, "J08"),
+            Err(TextFault::Device) => unread(alloc, "file"),
+            Err(TextFault::OutOfMemory) => Err(Refused::NoMemory),
+        }
     }
 }
 

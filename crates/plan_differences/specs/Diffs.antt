@@ -1,7 +1,7 @@
 -- What `diff` prints of two plans.
 use Rattle.std.specs.Prelude.{◌≡◌, ◌≢◌, ℕ, List, []}
 use Rattle.plan_values.specs.declared.plan.Plan.{Plan}
-use Rattle.command_answers.{specs.declared.status.Status.{Status}, specs.Answers.{Stream, GavePlan}}
+use Rattle.command_answers.specs.declared.status.Status.{Status}
 use Rattle.plan_differences.{specs.Facts.{plan_facts}, specs.Changes.{AreChangesTold}}
 use Rattle.command_answers.specs.declared.status.Status.TheVariants as status
 
@@ -12,8 +12,3 @@ Diffs before after status.Yes text = (plan_facts before ≡ plan_facts after) ×
 Diffs before after status.Fault text = (plan_facts before ≢ plan_facts after) × AreChangesTold before after text
 Diffs before after status.Unreadable text = ⊥
 Diffs before after status.NoMemory text = ⊥
-
--- so it does of the plans that were given
-abbrev pub DiffsSo : Stream → Stream → Status → List ℕ → Type 0
-DiffsSo befores afters ended text = (before : Plan) × (after : Plan)
-    × GavePlan befores before × GavePlan afters after × Diffs before after ended text

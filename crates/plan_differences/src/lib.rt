@@ -14,6 +14,6 @@ mod ways;
 pub use difference::{Difference, differences};
 pub use fact::{Fact, Thing};
 pub use facts::facts_of;
-pub use run::run_diff;
+pub use run::Diff;
 pub use told::changes_told;
 pub use ways::{OtherWay, other_ways};

@@ -1,5 +1,5 @@
 mod Simulated
 mod Expected
 mod Scripted
-mod MovePlayed
+mod UnreadInPlay
 mod Playing

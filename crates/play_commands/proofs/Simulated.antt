@@ -1,15 +1,14 @@
 -- Lines of outcomes, and runs of which they are.
 use Rattle.std.{proofs.Common.{◌≡◌, ℕ, zero, suc, ◌+◌, ◌<◌, ◌≤◌, List, [], ◌∷◌, ◌++◌, length, map, take, drop, get_or, Option, Some, Result, Ok, Err, refl, sym, ◌∙◌, ap, subst, append_assoc, append-nil, arith}, specs.Prelude.{slice_get, option_map, IfErr, OnOk, OnErr}, specs.Io.KnownBytes.{Appends}, proofs.KnownBytes.{Appends-nil}, proofs.lemmas.List.{take-append-drop, length-map, length-take-le, take_more, take_all, take-map}, proofs.lemmas.Option.{slice_get-map, slice_get-get_or, get_or_from_slice_get}}
 use Rattle.plan_values.{specs.declared.plan.Plan.{Plan}, specs.declared.certificate.Certificate.{Certificate}}
-use Rattle.net_plan.{specs.Stream.{AppendsBeginning}, specs.declared.error.PlanError.{PlanError}}
-use Rattle.command_answers.{specs.Gathering.{AppendsAllBut}, proofs.Waiting.{added_after, begins_after, begins_at_end, given_at_end}, specs.declared.refused.Refused.{Refused}, specs.declared.refused.Input.{Input}, specs.Answers.{Stream, Fails, BreaksOff, AreGiven}, proofs.Causes.{unread_also}, proofs.Telling.{breaks_off_also}, specs.Inputs.{AreUnreadEvents, AreEventsUnread}}
+use Rattle.net_plan.specs.Stream.{AppendsBeginning}
+use Rattle.command_answers.{specs.Gathering.{AppendsAllBut}, proofs.Waiting.{added_after, begins_after, begins_at_end, given_at_end}, specs.declared.refused.Refused.{Refused}, specs.Answers.{Stream, Fails, BreaksOff}, proofs.Telling.{breaks_off_also}}
 use Rattle.net_runs.{specs.WalkedRuns.{WalkedTurn, WalkedRunFrom}, specs.Walkers.{WalkedState, WalkedEvent, WalkedOutcome, walked_at_start}}
 use Rattle.net_tables.specs.TwoPlans.{Tables}
 use Rattle.net_sim.{specs.declared.outcome.Outcome.{Outcome}, specs.Outcomes.{outcome_value}, specs.Played.{IsRunOf}, specs.WalkedStanding.{NetworkValue, StandsForWalked}, specs.Walks.{HaveWalked, PlaysWalks}}
 use Rattle.run_texts.specs.OutcomeLines.{outcome_line, lines_from, outcome_lines}
-use Rattle.play_commands.specs.Simulating.{IsRunText, ShowsRun, ShowsBeginning, ShowsWalks, ShowsBegunWalks, IsWalksText, ShowsAllOr, AreFirstLines, ShowsLines, IsUnreadAmong, AreUnreadAmong}
+use Rattle.play_commands.specs.Simulating.{IsRunText, ShowsRun, ShowsBeginning, ShowsWalks, ShowsBegunWalks, IsWalksText, ShowsAllOr, AreFirstLines, ShowsLines}
 use Rattle.command_answers.specs.declared.refused.Refused.TheVariants as refused
-use Rattle.command_answers.specs.declared.refused.Input.TheVariants as input
 
 -- ---- lines
 
@@ -233,17 +232,3 @@ pub first_lines_in : (plan plan' : Plan) (outcomes outcomes' : List Outcome) (te
     → AreFirstLines plan' (map outcome_value outcomes') text → AreFirstLines plan (map outcome_value outcomes) text
 first_lines_in plan plan' outcomes outcomes' text same listed (k, is) =
     (k, is ∙ (ap (λ (p : Plan). outcome_lines p (take k (map outcome_value outcomes'))) same ∙ ap (λ os. outcome_lines plan (take k (map outcome_value os))) listed))
-
--- ---- files
-
--- the plan and the certificate were given, and the events were not read
-pub events_unread : (plan : Plan) (cert : Certificate) (why : Refused) (plans certificates happenings : Stream) → AreGiven plans certificates plan cert
-    → AreEventsUnread why plan happenings → AreUnreadAmong why plans certificates happenings
-events_unread plan cert why plans certificates happenings given h =
-    unread_also (λ unread cause. AreUnreadEvents plan unread cause happenings) (λ unread cause. IsUnreadAmong unread cause plans certificates happenings) why also h
-  where
-    also : (unread : Input) (cause : PlanError) → AreUnreadEvents plan unread cause happenings → IsUnreadAmong unread cause plans certificates happenings
-    also input.Plan cause h = absurd h
-    also input.Certificate cause h = absurd h
-    also input.Events cause h = (plan, cert, given, h)
-    also input.Lines cause h = absurd h

@@ -3,11 +3,9 @@ use Rattle.std.specs.Prelude.{◌⊎◌, ℕ, List, map}
 use Rattle.net_tables.specs.TwoPlans.{moving}
 use Rattle.net_runs.specs.Walkers.{WalkedEvent}
 use Rattle.net_sim.specs.Outcomes.{event_value}
-use Rattle.plan_values.{specs.declared.plan.Plan.{Plan}, specs.declared.certificate.Certificate.{Certificate}, specs.declared.event.Event.{Event}, specs.PlanValues.{plan_value}}
-use Rattle.net_plan.{specs.declared.error.PlanError.{PlanError}, specs.Unread.{GaveNoEvents}}
-use Rattle.command_answers.{specs.declared.refused.Input.{Input}, specs.declared.refused.Refused.{Refused}, specs.declared.status.Status.{Status}, specs.Answers.{Stream, GaveNothing}, specs.Moves.{IsMoveGiven, IsMoveFaultText, IsUnreadInMove}, specs.Inputs.{GaveEvents}, specs.Statuses.{HasCause}}
+use Rattle.plan_values.{specs.declared.plan.Plan.{Plan}, specs.declared.certificate.Certificate.{Certificate}, specs.declared.event.Event.{Event}}
+use Rattle.command_answers.{specs.declared.refused.Refused.{Refused}, specs.declared.status.Status.{Status}, specs.Answers.{Stream}, specs.Moves.{IsMoveGiven, IsMoveFaultText, IsMoveUnread}, specs.Inputs.{GaveEvents, AreEventsUnread}}
 use Rattle.play_commands.specs.Simulating.{RunsIn, IsTextIn}
-use Rattle.command_answers.specs.declared.refused.Input.TheVariants as input
 
 -- the sources gave the plans, the certificate, and the events at the nodes of the plan before
 pub record IsPlayGiven (befores afters certificates happenings : Stream) (before after : Plan)
@@ -48,19 +46,8 @@ IsPlayAnswer befores afters certificates happenings text =
     AreOfMoveFiles (λ before after certificate events. IsMovePlayText before after certificate events text)
     befores afters certificates happenings
 
--- why an input can't be read; each is read only where those before it were given
-abbrev pub IsUnreadInPlay : Input → PlanError → Stream → Stream → Stream → Stream → Type 0
-IsUnreadInPlay input.Plan cause befores afters certificates happenings =
-    IsUnreadInMove input.Plan cause befores afters certificates
-IsUnreadInPlay input.Certificate cause befores afters certificates happenings =
-    IsUnreadInMove input.Certificate cause befores afters certificates
-IsUnreadInPlay input.Events cause befores afters certificates happenings =
-    (before : Plan) × (after : Plan) × (certificate : Certificate)
-    × IsMoveGiven befores afters certificates before after certificate
-    × GaveNothing (GaveNoEvents (plan_value before)) happenings cause
-IsUnreadInPlay input.Lines cause befores afters certificates happenings = ⊥
-
--- why the inputs were not read
+-- why the inputs were not read; each is read only where those before it were given
 abbrev pub IsPlayUnread : Refused → Stream → Stream → Stream → Stream → Type 0
-IsPlayUnread why befores afters certificates happenings =
-    HasCause (λ unread cause. IsUnreadInPlay unread cause befores afters certificates happenings) ⊥ ⊥ ⊥ why
+IsPlayUnread why befores afters certificates happenings = IsMoveUnread why befores afters certificates
+    ⊎ ((before : Plan) × (after : Plan) × (certificate : Certificate)
+    × IsMoveGiven befores afters certificates before after certificate × AreEventsUnread why before happenings)

@@ -9,7 +9,7 @@ use Rattle.net_sim.{specs.Outcomes.{event_value}, specs.Walks.{HaveWalked}}
 use Rattle.net_tables.{specs.Repositories.{records_of}, specs.Routing.{Holds}, specs.TwoPlans.{one_plan}}
 use Rattle.command_questions.specs.declared.walk_script.WalkScript.{WalkScript}
 use Rattle.play_commands.specs.declared.script.judging.Judged.{Judged}
-use Rattle.command_answers.{specs.declared.refused.Refused.{Refused}, specs.declared.status.Status.{Status}, specs.Answers.{Stream, AreGiven, AreUnread, IsFaultText}, specs.Statuses.{HasCause}, specs.Naming.{IsFirstNamed}}
+use Rattle.command_answers.{specs.declared.refused.Refused.{Refused}, specs.declared.status.Status.{Status}, specs.Answers.{IsFaultText}, specs.Statuses.{HasCause}, specs.Naming.{IsFirstNamed}}
 use Rattle.run_texts.specs.OutcomeLines.{outcome_line}
 use Rattle.net_plan.specs.declared.error.PlanError.TheVariants as error
 use Rattle.net_runs.specs.Events as flight
@@ -139,11 +139,6 @@ AnswersScriptOn script plan cert status.Fault text =
 AnswersScriptOn script plan cert status.Unreadable text = ⊥
 AnswersScriptOn script plan cert status.NoMemory text = ⊥
 
--- so it does of the plan and the certificate that were given
-abbrev pub AnswersScriptSo : WalkScript → Stream → Stream → Status → List ℕ → Type 0
-AnswersScriptSo script plans certificates ended text = (plan : Plan) × (certificate : Certificate)
-    × AreGiven plans certificates plan certificate × AnswersScriptOn script plan certificate ended text
-
 -- no node has the name
 abbrev pub IsNameless : List ℕ → Plan → Type 0
 IsNameless name plan = (n : ℕ) → name_of plan n ≢ Some name
@@ -151,9 +146,3 @@ IsNameless name plan = (n : ℕ) → name_of plan n ≢ Some name
 -- why there is no answer on a plan: no node has the name
 abbrev pub IsUnscriptedOn : List ℕ → Plan → Refused → Type 0
 IsUnscriptedOn name plan why = HasCause (λ unread cause. ⊥) (IsNameless name plan) ⊥ ⊥ why
-
--- why there is none: the inputs were not read; or they were, and there is none on them
-abbrev pub IsUnscriptedFor : List ℕ → Stream → Stream → Refused → Type 0
-IsUnscriptedFor name plans certificates why = AreUnread why plans certificates
-    ⊎ ((plan : Plan) × (certificate : Certificate) × AreGiven plans certificates plan certificate
-    × IsUnscriptedOn name plan why)

@@ -1,14 +1,12 @@
 -- What the end of `sim` says of the events that were played and of what was written.
 use Rattle.std.{specs.Prelude.{◌≡◌, ◌⊎◌, ℕ, List, map, take, Result, Ok, Err, ⊤}, specs.Io.KnownBytes.{Appends}}
-use Rattle.plan_values.{specs.declared.plan.Plan.{Plan}, specs.declared.certificate.Certificate.{Certificate}, specs.declared.event.Event.{Event}, specs.PlanValues.{plan_value}}
-use Rattle.net_plan.{specs.declared.error.PlanError.{PlanError}, specs.Unread.{GaveNoEvents}}
+use Rattle.plan_values.{specs.declared.plan.Plan.{Plan}, specs.declared.certificate.Certificate.{Certificate}, specs.declared.event.Event.{Event}}
 use Rattle.net_check.specs.Accepted.{IsAccepted}
 use Rattle.net_tables.specs.TwoPlans.{Tables, one_plan}
 use Rattle.net_runs.{specs.WalkedRuns.{WalkedTurn, WalkedRunFrom}, specs.Walkers.{WalkedState, WalkedEvent, WalkedOutcome, walked_at_start}}
 use Rattle.net_sim.{specs.Outcomes.{event_value}, specs.Promised.{IsPromised}, specs.Walks.{HaveWalked}}
-use Rattle.command_answers.{specs.declared.refused.Input.{Input}, specs.declared.refused.Refused.{Refused}, specs.declared.status.Status.{Status}, specs.Answers.{Stream, BreaksOff, AreGiven, GaveNothing, IsUnread, IsFaultText, IsReported, SaysWhy}, specs.Statuses.{HasCause}, specs.Told.{IsUngivenFor}, specs.Inputs.{GaveEvents}}
+use Rattle.command_answers.{specs.declared.refused.Refused.{Refused}, specs.declared.status.Status.{Status}, specs.Answers.{Stream, BreaksOff, AreGiven, AreUnread, IsFaultText, IsReported, SaysWhy}, specs.Told.{IsUngivenFor}, specs.Inputs.{GaveEvents, AreEventsUnread}}
 use Rattle.run_texts.specs.OutcomeLines.{outcome_lines}
-use Rattle.command_answers.specs.declared.refused.Input.TheVariants as input
 use Rattle.command_answers.specs.declared.refused.Refused.TheVariants as refused
 use Rattle.command_answers.specs.declared.status.Status.TheVariants as status
 
@@ -99,19 +97,11 @@ ShowsLines plan outcomes count output =
 abbrev pub AreFirstLines : Plan → List WalkedOutcome → List ℕ → Type 0
 AreFirstLines plan outcomes text = (count : ℕ) × (text ≡ outcome_lines plan (take count outcomes))
 
--- why an input can't be read; the events are read only where the plan and the certificate were given
-abbrev pub IsUnreadAmong : Input → PlanError → Stream → Stream → Stream → Type 0
-IsUnreadAmong input.Plan cause plans certificates happenings = IsUnread input.Plan cause plans certificates
-IsUnreadAmong input.Certificate cause plans certificates happenings =
-    IsUnread input.Certificate cause plans certificates
-IsUnreadAmong input.Events cause plans certificates happenings = (plan : Plan) × (certificate : Certificate)
-    × AreGiven plans certificates plan certificate × GaveNothing (GaveNoEvents (plan_value plan)) happenings cause
-IsUnreadAmong input.Lines cause plans certificates happenings = ⊥
-
--- why the inputs were not read
+-- why the inputs were not read; the events are read only where the plan and the certificate were given
 abbrev pub AreUnreadAmong : Refused → Stream → Stream → Stream → Type 0
-AreUnreadAmong why plans certificates happenings =
-    HasCause (λ unread cause. IsUnreadAmong unread cause plans certificates happenings) ⊥ ⊥ ⊥ why
+AreUnreadAmong why plans certificates happenings = AreUnread why plans certificates
+    ⊎ ((plan : Plan) × (certificate : Certificate) × AreGiven plans certificates plan certificate
+    × AreEventsUnread why plan happenings)
 
 -- ---- answers that are written as they are found
 

@@ -1,86 +1,39 @@
 //! The command `expect`: whether `sim` prints the lines of a file.
 ghost use Rattle.std.{specs.Prelude.{◌≡◌, IfOk, IfErr, map, string_bytes}, specs.Cow.{cow_str_bytes}};
-ghost use Rattle.net_plan.specs.Stream.{HasRoom};
 ghost use Rattle.net_sim.specs.Outcomes.{event_value, outcome_value};
 ghost use Rattle.net_tables.specs.TwoPlans.{one_plan};
-ghost use Rattle.command_answers.{specs.Answers.{stream, IsWithoutPlan, AreWithoutCertificate}, specs.Told.{Concludes}};
-ghost use Rattle.play_commands.{specs.Expecting.{given_only, IsPrinted, AnswersLinesOn, AnswersLinesSo, AreUnreadInExpect}, specs.Simulating.{ShowsWalks}};
+ghost use Rattle.play_commands.{specs.Expecting.{given_only, IsPrinted, AnswersLinesOn}, specs.Simulating.{ShowsWalks}};
 ghost use Rattle.run_texts.specs.OutcomeLines.{outcome_lines};
 ghost use Rattle.command_answers.specs.declared.refused.Refused.TheVariants as refused;
 
-use crate::sim::files::read_run;
-use command_answers::{Answer, Refused, Status, fault_text, given_lines, planned_network, tell};
+use command_answers::{Answer, Command, Refused, fault_text, planned_network};
 use net_check::{AcceptedNetwork, Checked, check};
-use net_plan::{Sink, Source};
 use net_sim::Outcome;
 use plan_texts::first_difference;
 use plan_values::{Certificate, Event, Plan};
 use run_texts::outcome_line;
 use std::alloc::{AllocError, Global};
 
-/// Answers on `output` whether `sim` prints the lines of a file of a plan, its certificate and events, or tells the
-/// first line that differs. Of files that can't be read the first is told on `errors`, and those after it are not read.
-pub fn run_expect<P: Source, C: Source, V: Source, L: Source, O: Sink, E: Sink>(
-    alloc: Global,
-    plan: &mut P,
-    certificate: &mut C,
-    events: &mut V,
-    lines: &mut L,
-    output: &mut O,
-    errors: &mut E,
-) -> Status
-    requires plan { HasRoom (P.account plan.old) }
-    requires certificate { HasRoom (C.account certificate.old) }
-    requires events { HasRoom (V.account events.old) }
-    requires lines { HasRoom (L.account lines.old) }
-    requires output { HasRoom (O.account output.old) }
-    requires errors { HasRoom (E.account errors.old) }
-    ensures concludes { let plans = stream P.account plan.old plan.new in
-        let certificates = stream C.account certificate.old certificate.new in
-        let happenings = stream V.account events.old events.new in
-        let expectations = stream L.account lines.old lines.new in
-        Concludes (AnswersLinesSo plans certificates happenings expectations)
-        (λ why. AreUnreadInExpect why plans certificates happenings expectations) result
-        (stream O.account output.old output.new) (stream E.account errors.old errors.new)
-        (output.new ≡ output.old) (errors.new ≡ errors.old) }
-    ensures in_order { IsWithoutPlan (stream P.account plan.old plan.new)
-        → (certificate.new ≡ certificate.old) × (events.new ≡ events.old) × (lines.new ≡ lines.old) }
-    ensures certified_in_order { AreWithoutCertificate (stream P.account plan.old plan.new) (stream C.account certificate.old certificate.new)
-        → (events.new ≡ events.old) × (lines.new ≡ lines.old) }
-{
-    let answered = answer_expect(alloc, plan, certificate, events, lines);
-    tell(alloc, answered, output, errors)
-}
+/// Asks a plan with its certificate and events whether `sim` prints lines of them.
+#[derive(Clone, Copy)]
+pub struct ExpectLines;
 
-fn answer_expect<P: Source, C: Source, V: Source, L: Source>(
-    alloc: Global,
-    plan: &mut P,
-    certificate: &mut C,
-    events: &mut V,
-    lines: &mut L,
-) -> Result<Answer, Refused>
-    requires plan { HasRoom (P.account plan.old) }
-    requires certificate { HasRoom (C.account certificate.old) }
-    requires events { HasRoom (V.account events.old) }
-    requires lines { HasRoom (L.account lines.old) }
-    ensures answers { let plans = stream P.account plan.old plan.new in
-        let certificates = stream C.account certificate.old certificate.new in
-        let happenings = stream V.account events.old events.new in
-        let expectations = stream L.account lines.old lines.new in
-        IfOk result (λ answer. AnswersLinesSo plans certificates happenings expectations answer.status (cow_str_bytes answer.text)) }
-    ensures unread { let plans = stream P.account plan.old plan.new in
-        let certificates = stream C.account certificate.old certificate.new in
-        let happenings = stream V.account events.old events.new in
-        let expectations = stream L.account lines.old lines.new in
-        IfErr result (λ why. AreUnreadInExpect why plans certificates happenings expectations) }
-    ensures in_order { IsWithoutPlan (stream P.account plan.old plan.new)
-        → (certificate.new ≡ certificate.old) × (events.new ≡ events.old) × (lines.new ≡ lines.old) }
-    ensures certified_in_order { AreWithoutCertificate (stream P.account plan.old plan.new) (stream C.account certificate.old certificate.new)
-        → (events.new ≡ events.old) × (lines.new ≡ lines.old) }
-{
-    let (plan, certificate, events) = read_run(alloc, plan, certificate, events)?;
-    let wanted = given_lines(alloc, lines)?;
-    answer_on_lines(alloc, &plan, &certificate, events.as_slice(), &wanted)
+impl Command for ExpectLines {
+    type Of = (((Plan, Certificate), Vec<Event>), String);
+
+    ghost Answers = { λ s given ended text. AnswersLinesOn given.0.0.0 given.0.0.1 (map event_value given.0.1.items) (string_bytes given.1) ended text };
+
+    ghost IsUnanswered = { λ s given why. why ≡ refused.NoMemory };
+
+    /// That it does, or the first line that differs.
+    fn answer(
+        &self,
+        alloc: Global,
+        given: &(((Plan, Certificate), Vec<Event>), String),
+    ) -> Result<Answer, Refused> {
+        let both = &given.0.0;
+        answer_on_lines(alloc, &both.0, &both.1, given.0.1.as_slice(), &given.1)
+    }
 }
 
 /// The answer whether `sim` prints the wanted lines.

@@ -6,8 +6,8 @@ mod script;
 mod sim;
 
 pub use command_questions::{Flights, WalkScript};
-pub use expect::run_expect;
-pub use script::run_script;
+pub use expect::ExpectLines;
+pub use script::WriteScript;
 pub use sim::files::{read_run, simulate};
 pub use sim::moves::simulate_move;
 pub use sim::{run_sim, run_simmove};

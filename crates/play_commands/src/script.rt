@@ -1,8 +1,7 @@
 //! The command `script`: the events of a walk over a network, made as it runs.
 ghost use Rattle.std.{specs.Prelude.{◌≡◌, IfOk, IfErr}, specs.Cow.{cow_str_bytes}};
-ghost use Rattle.net_plan.specs.Stream.{HasRoom};
-ghost use Rattle.command_answers.{specs.Answers.{stream, IsWithoutPlan}, specs.Told.{Concludes}, specs.Naming.{IsFirstNamed}};
-ghost use Rattle.play_commands.specs.Scripting.{AnswersScriptOn, AnswersScriptSo, IsUnscriptedOn, IsUnscriptedFor};
+ghost use Rattle.command_answers.specs.Naming.{IsFirstNamed};
+ghost use Rattle.play_commands.specs.Scripting.{AnswersScriptOn, IsUnscriptedOn};
 ghost use Rattle.command_answers.specs.declared.refused.Refused.TheVariants as refused;
 
 mod course;
@@ -10,14 +9,11 @@ mod judging;
 mod making;
 mod text;
 
-use command_answers::{
-    Answer, Refused, Status, fault_answer, first_named, read_inputs, refuse, tell,
-};
+use command_answers::{Answer, Command, Refused, fault_answer, first_named};
 use command_questions::WalkScript;
 use judging::{Judged, judge};
 use making::made_events;
 use net_check::{Checked, check};
-use net_plan::{Sink, Source};
 use plan_values::{Certificate, Plan};
 use std::alloc::{AllocError, Global};
 use text::script_text;
@@ -25,34 +21,23 @@ use text::script_text;
 /// What is told where no text that was made is a script. No walk is known of which this is told.
 const NO_SCRIPT: &str = "no script: no text that was made reads back as a walk\n";
 
-/// Gives on `output` the events of a walk over the network of a plan, or what comes of the event with which it doesn't
-/// go on; or the fault for which the plan and its certificate are not accepted. Where a file can't be read, or no node
-/// has the name, says so on `errors`.
-pub fn run_script<P: Source, C: Source, O: Sink, E: Sink>(
-    alloc: Global,
-    script: &WalkScript,
-    plan: &mut P,
-    certificate: &mut C,
-    output: &mut O,
-    errors: &mut E,
-) -> Status
-    requires plan { HasRoom (P.account plan.old) }
-    requires certificate { HasRoom (C.account certificate.old) }
-    requires output { HasRoom (O.account output.old) }
-    requires errors { HasRoom (E.account errors.old) }
-    ensures concludes { let plans = stream P.account plan.old plan.new in
-        let certificates = stream C.account certificate.old certificate.new in
-        Concludes (AnswersScriptSo script.now plans certificates) (IsUnscriptedFor script.now.node.now plans certificates) result
-        (stream O.account output.old output.new) (stream E.account errors.old errors.new)
-        (output.new ≡ output.old) (errors.new ≡ errors.old) }
-    ensures in_order { IsWithoutPlan (stream P.account plan.old plan.new) → certificate.new ≡ certificate.old }
-{
-    match read_inputs(alloc, plan, certificate) {
-        Ok((plan, certificate)) => {
-            let answered = answer_of_both(alloc, script, &plan, &certificate);
-            tell(alloc, answered, output, errors)
-        }
-        Err(refused) => refuse(alloc, refused, errors),
+/// Asks a plan with its certificate for the events of a walk over its network.
+#[derive(Clone, Copy)]
+pub struct WriteScript<'a> {
+    pub script: &'a WalkScript<'a>,
+}
+
+impl Command for WriteScript<'_> {
+    type Of = (Plan, Certificate);
+
+    ghost Answers = { λ s both ended text. AnswersScriptOn s.script.now both.0 both.1 ended text };
+
+    ghost IsUnanswered = { λ s both why. IsUnscriptedOn s.script.now.node.now both.0 why };
+
+    /// The events, or what comes of the event with which the walk doesn't go on; or the fault for which the plan and its
+    /// certificate are not accepted.
+    fn answer(&self, alloc: Global, both: &(Plan, Certificate)) -> Result<Answer, Refused> {
+        answer_of_both(alloc, self.script, &both.0, &both.1)
     }
 }
 

@@ -4,7 +4,7 @@ use Rattle.plan_values.{specs.declared.certificate.Certificate.{Certificate}, sp
 use Rattle.net_tables.specs.Routing.{OfItem}
 use Rattle.net_rules.{specs.declared.certify_error.CertifyError.{CertifyError}, specs.Rules.{Accepts}}
 use Rattle.net_reached.specs.Wishes.{ComesTo, ReachesNode}
-use Rattle.command_answers.{specs.Answers.{Stream, AreGiven, GavePlan, IsFaultText}, specs.Certifying.{IsRuledOutBy}, specs.declared.status.Status.{Status}}
+use Rattle.command_answers.{specs.Answers.{IsFaultText}, specs.Certifying.{IsRuledOutBy}, specs.declared.status.Status.{Status}}
 use Rattle.plan_pages.specs.Pages.{TellsVerdict}
 use Rattle.command_answers.specs.declared.status.Status.TheVariants as status
 
@@ -18,10 +18,6 @@ Reports plan status.Fault page = (obstacle : CertifyError) × (line : List ℕ) 
 Reports plan status.Unreadable page = ⊥
 Reports plan status.NoMemory page = ⊥
 
--- so it is of the plan that was given
-abbrev pub ReportsSo : Stream → Status → List ℕ → Type 0
-ReportsSo plans ended page = (plan : Plan) × GavePlan plans plan × Reports plan ended page
-
 -- A page of a plan and a certificate, in a run that ends so. It tells that the certificate fits, and it does; or the
 -- verdict is the line of the first fault, as `check` prints it.
 abbrev pub ReportsWith : Plan → Certificate → Status → List ℕ → Type 0
@@ -31,11 +27,6 @@ ReportsWith plan certificate status.Fault page =
     (line : List ℕ) × IsFaultText plan certificate line × TellsVerdict (codes "no") line page
 ReportsWith plan certificate status.Unreadable page = ⊥
 ReportsWith plan certificate status.NoMemory page = ⊥
-
--- so it is of the plan and the certificate that were given
-abbrev pub ReportsWithSo : Stream → Stream → Status → List ℕ → Type 0
-ReportsWithSo plans certificates ended page = (plan : Plan) × (certificate : Certificate)
-    × AreGiven plans certificates plan certificate × ReportsWith plan certificate ended page
 
 -- So many hops a packet of a makes to b; none where it doesn't arrive.
 abbrev pub AreHopsTo : Plan → ℕ → ℕ → Option ℕ → Type 0

@@ -6,4 +6,4 @@ mod matrix;
 mod promises;
 mod reports;
 
-pub use reports::{run_report, run_report_certified};
+pub use reports::{ReportCertified, ReportPlan};

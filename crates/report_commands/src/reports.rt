@@ -1,46 +1,34 @@
-//! The command `report` over the files that it reads and the streams that it writes.
+//! The command `report`: the page of a plan, alone or with its certificate.
 ghost use Rattle.std.{specs.Prelude.{◌≡◌, IfOk, IfErr}, specs.Cow.{cow_str_bytes}};
-ghost use Rattle.command_answers.{specs.Answers.{stream, AreUnread, IsPlanUnread, IsWithoutPlan}, specs.Told.{Concludes}};
 ghost use Rattle.net_check.specs.Errors.{NamesFirstFault};
-ghost use Rattle.net_plan.specs.Stream.{HasRoom};
 ghost use Rattle.net_rules.{specs.Certificates.{NamesObstacle, RulesOutCertificates}, specs.Rules.{Accepts}};
-ghost use Rattle.report_commands.specs.Reporting.{Reports, ReportsSo, ReportsWith, ReportsWithSo};
+ghost use Rattle.report_commands.specs.Reporting.{Reports, ReportsWith};
 ghost use Rattle.command_answers.specs.declared.refused.Refused.TheVariants as refused;
 
 use crate::bodies::{accepted_page, refused_page};
-use command_answers::{
-    Answer, Refused, Status, accepted, fault_text, given_plan, read_inputs, refuse, tell, tell_made,
-};
+use command_answers::{Answer, Command, Refused, accepted, fault_text};
 use net_check::{CertifyError, CheckError, Checked, certify, check};
-use net_plan::{Sink, Source};
 use plan_texts::obstacle_line;
 use plan_values::{Certificate, Plan};
 use std::alloc::{AllocError, Global};
 
-/// Writes the page of a plan on `output`: HTML with the title `name`. It begins with the verdict of `certify`, that a
-/// certificate fits or why none does, and the run ends as that of `certify` does. Where the plan can't be read, says so
-/// on `errors`.
-pub fn run_report<P: Source, O: Sink, E: Sink>(
-    alloc: Global,
-    name: &str,
-    plan: &mut P,
-    output: &mut O,
-    errors: &mut E,
-) -> Status
-    requires plan { HasRoom (P.account plan.old) }
-    requires output { HasRoom (O.account output.old) }
-    requires errors { HasRoom (E.account errors.old) }
-    ensures concludes { let plans = stream P.account plan.old plan.new in
-        Concludes (ReportsSo plans) (λ why. IsPlanUnread why plans) result
-        (stream O.account output.old output.new) (stream E.account errors.old errors.new)
-        (output.new ≡ output.old) (errors.new ≡ errors.old) }
-{
-    match given_plan(alloc, plan) {
-        Ok(given) => {
-            let answered = report_of(alloc, name, &given);
-            tell_made(alloc, answered, output, errors)
-        }
-        Err(refused) => refuse(alloc, refused, errors),
+/// Asks a plan for its page: HTML with the title `name`.
+#[derive(Clone, Copy)]
+pub struct ReportPlan<'a> {
+    pub name: &'a str,
+}
+
+impl Command for ReportPlan<'_> {
+    type Of = Plan;
+
+    ghost Answers = { λ s plan ended page. Reports plan ended page };
+
+    ghost IsUnanswered = { λ s plan why. why ≡ refused.NoMemory };
+
+    /// The page. It begins with the verdict of `certify`, that a certificate fits or why none does, and the run ends as
+    /// that of `certify` does.
+    fn answer(&self, alloc: Global, plan: &Plan) -> Result<Answer, Refused> {
+        Ok(report_of(alloc, self.name, plan)?)
     }
 }
 
@@ -96,34 +84,23 @@ fn nodes_of(alloc: Global, obstacle: &CertifyError) -> Result<Vec<usize>, AllocE
     }
 }
 
-/// Writes the page of a plan with its certificate on `output`: HTML with the title `name`. It begins with the verdict
-/// of `check`, that the certificate fits or the first fault, and the run ends as that of `check` does. Where a file
-/// can't be read, says so on `errors`. Of two that can't be read, the plan is told and the certificate is not read.
-pub fn run_report_certified<P: Source, C: Source, O: Sink, E: Sink>(
-    alloc: Global,
-    name: &str,
-    plan: &mut P,
-    certificate: &mut C,
-    output: &mut O,
-    errors: &mut E,
-) -> Status
-    requires plan { HasRoom (P.account plan.old) }
-    requires certificate { HasRoom (C.account certificate.old) }
-    requires output { HasRoom (O.account output.old) }
-    requires errors { HasRoom (E.account errors.old) }
-    ensures concludes { let plans = stream P.account plan.old plan.new in
-        let certificates = stream C.account certificate.old certificate.new in
-        Concludes (ReportsWithSo plans certificates) (λ why. AreUnread why plans certificates) result
-        (stream O.account output.old output.new) (stream E.account errors.old errors.new)
-        (output.new ≡ output.old) (errors.new ≡ errors.old) }
-    ensures in_order { IsWithoutPlan (stream P.account plan.old plan.new) → certificate.new ≡ certificate.old }
-{
-    match read_inputs(alloc, plan, certificate) {
-        Ok((given, certificate)) => {
-            let answered = report_with(alloc, name, &given, &certificate);
-            tell(alloc, answered, output, errors)
-        }
-        Err(refused) => refuse(alloc, refused, errors),
+/// Asks a plan with its certificate for its page: HTML with the title `name`.
+#[derive(Clone, Copy)]
+pub struct ReportCertified<'a> {
+    pub name: &'a str,
+}
+
+impl Command for ReportCertified<'_> {
+    type Of = (Plan, Certificate);
+
+    ghost Answers = { λ s both ended page. ReportsWith both.0 both.1 ended page };
+
+    ghost IsUnanswered = { λ s both why. why ≡ refused.NoMemory };
+
+    /// The page. It begins with the verdict of `check`, that the certificate fits or the first fault, and the run ends as
+    /// that of `check` does.
+    fn answer(&self, alloc: Global, both: &(Plan, Certificate)) -> Result<Answer, Refused> {
+        report_with(alloc, self.name, &both.0, &both.1)
     }
 }
 

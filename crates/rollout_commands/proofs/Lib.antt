@@ -1,2 +1,1 @@
-mod RolledOut
 mod Written

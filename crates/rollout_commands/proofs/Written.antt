@@ -1,6 +1,6 @@
 -- How a run ends that writes files.
 use Rattle.std.{proofs.Common.{◌≡◌, ◌⊎◌, ◌++◌, ℕ, List, Result, Ok, Err, ap, sym, ◌∙◌, subst, inl, inr}, specs.Prelude.{IfOk, IfErr, codes}, specs.Cow.{cow_str_bytes}}
-use Rattle.command_answers.{specs.declared.answer.Answer.{Answer}, specs.declared.refused.Refused.{Refused}, specs.declared.status.Status.{Status}, specs.Answers.{Stream, GavePlan, Refuses}, specs.Moves.{ArePlansUnread}, specs.Statuses.{status_of, IsReportedFor}, specs.Told.{IsTold}}
+use Rattle.command_answers.{specs.declared.answer.Answer.{Answer}, specs.declared.refused.Refused.{Refused}, specs.declared.status.Status.{Status}, specs.Answers.{Stream, GavePlan, IsPlanUnread, Refuses}, specs.Statuses.{status_of, IsReportedFor}, specs.Told.{IsTold}}
 use Rattle.plan_values.specs.declared.plan.Plan.{Plan}
 use Rattle.net_rollout.specs.declared.change.Rollout.{Rollout}
 use Rattle.step_files.{specs.StepFiles.{AreFilesOf, FileValue}, specs.Writes.{Writes, WritesAll, WritesFirst}}
@@ -36,7 +36,7 @@ pub none_so : {T : Type 0} (folder : List ℕ) (befores afters : Stream) (writte
     → IfErr answered (λ why. IsWithoutFiles folder befores afters written why)
 none_so folder befores afters written before after (Ok a) first second none = tt
 none_so folder befores afters written before after (Err why) first second (inl memory) =
-    inl (subst (λ w. ArePlansUnread w befores afters) (sym memory) tt)
+    inl (inl (subst (λ w. IsPlanUnread w befores) (sym memory) tt))
 none_so folder befores afters written before after (Err why) first second (inr (is, breaks)) =
     inr (is, (before, after, first, second, breaks))
 

@@ -2,7 +2,7 @@
 use Rattle.std.specs.Prelude.{◌≡◌, ℕ, List, Some}
 use Rattle.plan_values.specs.declared.plan.Plan.{Plan}
 use Rattle.net_rollout.{specs.declared.change.Rollout.{Rollout}, specs.Steps.{IsRollout}}
-use Rattle.command_answers.{specs.declared.status.Status.{Status}, specs.Answers.{Stream, GavePlan}}
+use Rattle.command_answers.specs.declared.status.Status.{Status}
 use Rattle.plan_texts.specs.MoveSteps.{rollout_text}
 use Rattle.net_rollout.specs.declared.change.Rollout.TheVariants as way
 use Rattle.command_answers.specs.declared.status.Status.TheVariants as status
@@ -23,8 +23,3 @@ pub record IsRolledOut (before after : Plan) (found : Rollout) (ended : Status) 
 -- the text answers for the plans, in a run that ends so
 abbrev pub RollsOut : Plan → Plan → Status → List ℕ → Type 0
 RollsOut before after ended text = (found : Rollout) × IsRolledOut before after found ended text
-
--- so it does of the plans that were given
-abbrev pub RollsOutSo : Stream → Stream → Status → List ℕ → Type 0
-RollsOutSo befores afters ended text = (before : Plan) × (after : Plan)
-    × GavePlan befores before × GavePlan afters after × RollsOut before after ended text

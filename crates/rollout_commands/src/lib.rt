@@ -5,5 +5,5 @@
 mod rollout;
 mod writing;
 
-pub use rollout::run_rollout;
+pub use rollout::TellSteps;
 pub use writing::run_rollout_written;

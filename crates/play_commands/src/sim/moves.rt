@@ -97,7 +97,6 @@ fn answer_move_files<P: Source, Q: Source, C: Source, V: Source, O: Sink>(
 
 /// The plans, their certificate and the events. Each is read only where those before it could be read; the certificate
 /// and the events are read for the plan before.
-#[tactic(auto, using(crate::proofs::MovePlayed::inputs_unread))]
 fn read_move_files<P: Source, Q: Source, C: Source, V: Source>(
     alloc: Global,
     before: &mut P,

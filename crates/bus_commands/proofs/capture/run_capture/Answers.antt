@@ -1,4 +1,4 @@
-use Rattle.std.{proofs.Common.{refl}, proofs.lemmas.Result.{IfErr-weaker}}
+use Rattle.std.{proofs.Common.{inl, refl}, proofs.lemmas.Result.{IfErr-weaker}}
 use Rattle.command_answers.{specs.Answers.{stream}, proofs.Told.{concludes_bytes, concludes_unread, memory_lacks}}
 use Rattle.bus_commands.proofs.Capturing.{answers_given}
 use Rattle.bus_commands.proofs.capture.run_capture.Goals as goal
@@ -13,8 +13,7 @@ returns-in-Ok-clause-concludes g c =
     let happenings = stream g.V.Source.account c.args.events.now c.read_run.new.events in
     let answers = answers_given read.plan read.certificate read.events.items c.deref.result.now plans certificates happenings answered.result read.ensures.given read.ensures.events c.deref.ensures.value
     answered.ensures.answers in
-    concludes_bytes _ _ _ _ _ _ _ answered.result answers (IfErr-weaker answered.result _ _ (memory_lacks _ _ _ _) answered.ensures.refused) told.told told.refuses told.untouched told.silent told.no_memory
-    (λ bytes h. h.5)
+    concludes_bytes _ _ _ _ _ _ _ answered.result answers (IfErr-weaker answered.result _ _ (λ why is. inl (inl (memory_lacks _ _ _ _ why is))) answered.ensures.refused) told.told told.refuses told.untouched told.silent told.no_memory
 
 pub returns-in-Ok-clause-in_order : goal.returns-in-Ok-clause-in_order
 returns-in-Ok-clause-in_order g c = λ without. absurd (without c.in-Ok.plan c.in-Ok.ensures.given.plan_text)

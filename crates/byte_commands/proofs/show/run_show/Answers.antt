@@ -6,6 +6,5 @@ returns g c =
     let answered = c.answer_show-answered in
     let told = c.tell.ensures in
     record {
-      concludes = concludes _ _ _ _ _ _ _ answered.result answered.ensures.answers answered.ensures.no_hex told.told told.refuses told.untouched told.silent told.no_memory
-          (λ text h. h.2);
+      concludes = concludes _ _ _ _ _ _ _ answered.result answered.ensures.answers answered.ensures.no_hex told.told told.refuses told.untouched told.silent told.no_memory;
     }

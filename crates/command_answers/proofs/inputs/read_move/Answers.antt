@@ -1,19 +1,17 @@
-use Rattle.std.proofs.Common.{rules, ◌≡◌, Err}
-use Rattle.command_answers.proofs.Moved.{after_unread, move_certificate_unread}
+use Rattle.std.proofs.Common.{rules, ◌≡◌, Err, inr, inl}
 use Rattle.command_answers.proofs.inputs.read_move.Goals as goal
 
 pub returns-in_err-after-clause-unread : goal.returns-in_err-after-clause-unread
 returns-in_err-after-clause-unread g c =
     let failed = c.in_err-after in
     let ended : c.from_residual-in_err-after.result ≡ Err failed.field-0.0 = search rules in
-    rw ended (after_unread c.in_ok-before.before failed.field-0.0 _ _ _ c.in_ok-before.ensures.given failed.ensures.unread)
+    rw ended (inl (inr (c.in_ok-before.before, c.in_ok-before.ensures.given, failed.ensures.unread)))
 
 pub returns-in_err-certificate-clause-unread : goal.returns-in_err-certificate-clause-unread
 returns-in_err-certificate-clause-unread g c =
     let failed = c.in_err-certificate in
     let ended : c.from_residual-in_err-certificate.result ≡ Err failed.field-0.0 = search rules in
-    rw ended (move_certificate_unread c.in_ok-before.before c.in_ok-after.after failed.field-0.0 _ _ _
-    c.in_ok-before.ensures.given c.in_ok-after.ensures.given failed.ensures.unread)
+    rw ended (inr (c.in_ok-before.before, c.in_ok-after.after, c.in_ok-before.ensures.given, c.in_ok-after.ensures.given, failed.ensures.unread))
 
 pub returns-in_err-after-clause-in_order : goal.returns-in_err-after-clause-in_order
 returns-in_err-after-clause-in_order g c = λ without. absurd (without c.in_ok-before.before c.in_ok-before.ensures.given)

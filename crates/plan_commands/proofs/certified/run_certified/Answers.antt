@@ -9,7 +9,6 @@ returns-in-Ok-clause-concludes g c =
     let told = c.tell.ensures in
     concludes _ _ _ _ _ _ _ answered.result (IfOk-weaker answered.result _ _ (λ answer h. (read.given.text.items, read.given.plan, read.certificate, read.ensures.given, h)) answered.ensures.answers)
     (IfErr-weaker answered.result _ _ (λ why h. inr (read.given.plan, read.certificate, are_given _ _ read.given.text.items read.given.plan read.certificate read.ensures.given, h)) answered.ensures.unanswered) told.told told.refuses told.untouched told.silent told.no_memory
-    (λ lines h. h.4)
 
 pub returns-in-Err-clause-concludes : goal.returns-in-Err-clause-concludes
 returns-in-Err-clause-concludes g c = concludes_unread _ _ _ _ _ _ _ c.in-Err.refused (inl c.in-Err.ensures.unread) c.refuse.ensures.refuses refl

@@ -8,7 +8,6 @@ returns-in-Ok-clause-concludes g c =
     let made = c.answer_of_move-answered in
     let told = c.tell_made.ensures in
     concludes_made _ _ _ _ _ _ _ made.result (IfOk-weaker made.result _ _ (λ answer h. (read.before, read.after, read.certificate, read.ensures.given, h)) made.ensures) tt told.told told.refuses told.untouched told.silent told.no_memory
-    (λ text h. h.4)
 
 pub returns-in-Err-clause-concludes : goal.returns-in-Err-clause-concludes
 returns-in-Err-clause-concludes g c = concludes_unread _ _ _ _ _ _ _ c.in-Err.refused c.in-Err.ensures.unread c.refuse.ensures.refuses refl

@@ -1,7 +1,14 @@
+use Rattle.std.proofs.Common.{rules, ◌≡◌, Err, inl}
 use Rattle.command_answers.specs.Answers.{stream}
 use Rattle.step_files.specs.Writes.{writes}
 use Rattle.rollout_commands.proofs.Written.{told_so}
 use Rattle.rollout_commands.proofs.writing.answer_written.Goals as goal
+
+pub returns-in_err-before-clause-refused : goal.returns-in_err-before-clause-refused
+returns-in_err-before-clause-refused g c =
+    let failed = c.in_err-before in
+    let ended : c.from_residual.result ≡ Err failed.field-0.0 = search rules in
+    rw ended (inl failed.ensures.unread)
 
 pub returns-clause-answers : goal.returns-clause-answers
 returns-clause-answers g c =

@@ -8,7 +8,6 @@ returns-clause-concludes g c =
     let answered = c.answer_written-answered in
     let told = c.tell.ensures in
     concludes _ _ _ _ _ _ _ answered.result answered.ensures.answers answered.ensures.refused told.told told.refuses told.untouched told.silent told.no_memory
-    (λ text h. h.4)
 
 pub returns-clause-kept : goal.returns-clause-kept
 returns-clause-kept g c =

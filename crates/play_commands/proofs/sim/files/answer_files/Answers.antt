@@ -2,7 +2,7 @@ use Rattle.std.proofs.Common.{rules, ◌≡◌, List, map, Err, refl, subst}
 use Rattle.plan_values.specs.declared.event.Event.{Event}
 use Rattle.net_sim.specs.Outcomes.{event_value}
 use Rattle.command_answers.specs.Answers.{stream, IsFaultText}
-use Rattle.play_commands.{specs.Simulating.{RunsOn, IsPlayText, TellsRun, IsSimFault, IsSimAnswer, AreUnreadAmong, PlaysSo}, proofs.Playing.{plays_unread, plays_also}}
+use Rattle.play_commands.{specs.Simulating.{RunsOn, IsPlayText, TellsRun, IsSimFault, IsSimAnswer, AreUnreadAmong, PlaysSo}, proofs.Playing.{plays_unread, plays_also}, proofs.UnreadInPlay.{unread_written}}
 use Rattle.play_commands.proofs.sim.files.answer_files.Goals as goal
 
 pub returns-in_err-plan-clause-plays : goal.returns-in_err-plan-clause-plays
@@ -13,7 +13,7 @@ returns-in_err-plan-clause-plays g c =
     let happenings = stream g.V.Source.account c.args.events.now c.read_run.new.events in
     let output = stream g.O.Sink.account c.args.output.now c.args.output.now in
     let ended : c.from_residual.result ≡ Err failed.field-0.0 = search rules in
-    rw ended (plays_unread (TellsRun plans certificates happenings) (IsSimFault plans certificates happenings) (IsSimAnswer plans certificates happenings) (λ why. AreUnreadAmong why plans certificates happenings) _ output failed.field-0.0 (λ none. none) failed.ensures.unread refl)
+    rw ended (plays_unread (TellsRun plans certificates happenings) (IsSimFault plans certificates happenings) (IsSimAnswer plans certificates happenings) (λ why. AreUnreadAmong why plans certificates happenings) _ output failed.field-0.0 (unread_written plans certificates happenings) failed.ensures.unread refl)
 
 pub returns-clause-plays : goal.returns-clause-plays
 returns-clause-plays g c =

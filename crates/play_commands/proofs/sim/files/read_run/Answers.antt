@@ -1,13 +1,18 @@
-use Rattle.std.proofs.Common.{rules, ◌≡◌, Err, refl}
-use Rattle.play_commands.proofs.Simulated.{events_unread}
+use Rattle.std.proofs.Common.{refl, rules, ◌≡◌, Err, inr, inl}
 use Rattle.play_commands.proofs.sim.files.read_run.Goals as goal
+
+pub returns-in_err-plan-clause-unread : goal.returns-in_err-plan-clause-unread
+returns-in_err-plan-clause-unread g c =
+    let failed = c.in_err-plan in
+    let ended : c.from_residual-in_err-plan.result ≡ Err failed.field-0.0 = search rules in
+    rw ended (inl failed.ensures.unread)
 
 pub returns-in_err-events-clause-unread : goal.returns-in_err-events-clause-unread
 returns-in_err-events-clause-unread g c =
     let failed = c.in_err-events in
     let read = c.in_ok-plan in
     let ended : c.from_residual-in_err-events.result ≡ Err failed.field-0.0 = search rules in
-    rw ended (events_unread read.plan read.certificate failed.field-0.0 _ _ _ read.ensures.given failed.ensures.unread)
+    rw ended (inr (read.plan, read.certificate, read.ensures.given, failed.ensures.unread))
 
 pub returns-in_err-plan-clause-in_order : goal.returns-in_err-plan-clause-in_order
 returns-in_err-plan-clause-in_order g c = λ without. (c.read_inputs.ensures.in_order without, refl)

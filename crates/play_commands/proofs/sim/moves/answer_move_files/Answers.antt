@@ -2,7 +2,7 @@ use Rattle.std.proofs.Common.{rules, ◌≡◌, List, map, Err, refl, subst}
 use Rattle.plan_values.specs.declared.event.Event.{Event}
 use Rattle.net_sim.specs.Outcomes.{event_value}
 use Rattle.command_answers.{specs.Answers.{stream}, specs.Moves.{IsMoveFaultText}}
-use Rattle.play_commands.{specs.MoveSimulating.{MovesOn, IsMovePlayText, TellsMovedRun, IsPlayFault, IsPlayAnswer, IsPlayUnread}, specs.Simulating.{PlaysSo}, proofs.Playing.{plays_unread, plays_also}}
+use Rattle.play_commands.{specs.MoveSimulating.{MovesOn, IsMovePlayText, TellsMovedRun, IsPlayFault, IsPlayAnswer, IsPlayUnread}, specs.Simulating.{PlaysSo}, proofs.Playing.{plays_unread, plays_also}, proofs.UnreadInPlay.{move_unread_written}}
 use Rattle.play_commands.proofs.sim.moves.answer_move_files.Goals as goal
 
 pub returns-in_err-before-clause-plays : goal.returns-in_err-before-clause-plays
@@ -14,7 +14,7 @@ returns-in_err-before-clause-plays g c =
     let happenings = stream g.V.Source.account c.args.events.now c.read_move_files.new.events in
     let output = stream g.O.Sink.account c.args.output.now c.args.output.now in
     let ended : c.from_residual.result ≡ Err failed.field-0.0 = search rules in
-    rw ended (plays_unread (TellsMovedRun befores afters certificates happenings) (IsPlayFault befores afters certificates happenings) (IsPlayAnswer befores afters certificates happenings) (λ why. IsPlayUnread why befores afters certificates happenings) _ output failed.field-0.0 (λ none. none) failed.ensures.unread refl)
+    rw ended (plays_unread (TellsMovedRun befores afters certificates happenings) (IsPlayFault befores afters certificates happenings) (IsPlayAnswer befores afters certificates happenings) (λ why. IsPlayUnread why befores afters certificates happenings) _ output failed.field-0.0 (move_unread_written befores afters certificates happenings) failed.ensures.unread refl)
 
 pub returns-clause-plays : goal.returns-clause-plays
 returns-clause-plays g c =
