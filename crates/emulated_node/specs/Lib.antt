@@ -6,3 +6,4 @@ pub mod Replying
 pub mod Heard
 pub mod Receiving
 pub mod Standing
+pub mod Ways

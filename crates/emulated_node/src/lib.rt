@@ -8,6 +8,8 @@ mod received;
 mod replying;
 mod responding;
 mod sending;
+mod way;
 
 pub use emulated::Emulated;
 pub use received::{Reason, Received};
+pub use way::{Way, is_at};
