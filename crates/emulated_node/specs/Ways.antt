@@ -1,13 +1,18 @@
 -- Where the packets go that a node sends: over which bus, and to whom there.
-use Rattle.std.{specs.Prelude.{◌≡◌, ℕ, ◌+◌, ◌==◌, ◌&&◌, Bool, not, nat_le, nat_lt, List, [], Any, Option, Some, None, find, if◌then◌else◌, option_map}, specs.Option.{option_and_then}}
+use Rattle.std.{specs.Prelude.{◌≡◌, ℕ, ◌+◌, ◌==◌, ◌&&◌, Bool, not, nat_le, nat_lt, List, [], Option, Some, None, find, if◌then◌else◌, option_map, slice_get}, specs.Option.{option_and_then}}
 use Rattle.mctp_routing.{specs.declared.row.TableRow.{TableRow}, specs.declared.row.Hop.{Hop}}
-use Rattle.plan_values.specs.declared.plan.Plan.{Plan}
+use Rattle.plan_values.{specs.declared.nodes.Port.{Port}, specs.declared.plan.Plan.{Plan}}
 use Rattle.net_tables.{specs.Names.{address_on}, specs.Routing.{ports_of}, specs.Rows.{bus_of}}
 use Rattle.emulated_node.specs.declared.way.Way.{Way}
 
--- n has a port of this physical address on the bus
+-- the port is on the bus, with this physical address
+abbrev pub IsPortAt : Port → (bus : ℕ) → (address : List ℕ) → Type 0
+IsPortAt port bus address = (port.bus ≡ bus) × (port.address.items ≡ address)
+
+-- n has such a port
 abbrev pub IsAt : Plan → ℕ → (bus : ℕ) → (address : List ℕ) → Type 0
-IsAt plan n bus address = Any (λ port. (port.bus ≡ bus) × (port.address.items ≡ address)) (ports_of plan n)
+IsAt plan n bus address =
+    (p : ℕ) × (port : Port) × (slice_get (ports_of plan n) p ≡ Some port) × IsPortAt port bus address
 
 -- e is one of the row's endpoint IDs
 abbrev pub covers : ℕ → TableRow → Bool
@@ -37,9 +42,9 @@ abbrev pub way_of : Plan → ℕ → List TableRow → (over asked e : ℕ) → 
 way_of plan n rows over asked e = way_or_back over asked (row_way plan n rows e)
 
 -- the physical address of the next node on the bus; no bytes where nothing is known of it
+abbrev pub next_address : Plan → ℕ → Option ℕ → List ℕ
+next_address plan bus (Some n) = address_on plan n (Some bus)
+next_address plan bus None = []
+
 abbrev pub way_address : Plan → Way → List ℕ
 way_address plan way = next_address plan way.bus way.next
-  where
-    abbrev next_address : Plan → ℕ → Option ℕ → List ℕ
-    next_address plan bus (Some n) = address_on plan n (Some bus)
-    next_address plan bus None = []

@@ -94,6 +94,20 @@ impl<'a, T: Terminus> Emulated<'a, T> {
         }
     }
 
+    /// The plan of the node.
+    pub fn plan(&self) -> &'a Plan
+        ensures { result.now ≡ (setting_of self.now).plan }
+    {
+        self.plan
+    }
+
+    /// The index of the node in the plan's list.
+    pub fn node(&self) -> usize
+        ensures { result ≡ (setting_of self.now).node }
+    {
+        self.node
+    }
+
     /// Where a packet to `destination` goes that the node sends for one to `asked`, which came over the bus.
     pub fn way(&self, over: usize, asked: Eid, destination: Eid) -> Way
         ensures { let set = setting_of self.now in

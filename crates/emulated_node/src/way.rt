@@ -1,11 +1,11 @@
 //! Where the packets go that a node sends.
-ghost use Rattle.std.specs.Prelude.{◌≡◌, ◌↔◌, IsTrue};
-ghost use Rattle.emulated_node.specs.Ways.{IsAt, back_over, covers, hop_way, row_way, way_address, way_or_back};
+ghost use Rattle.std.specs.Prelude.{◌≡◌, ◌↔◌, IsTrue, find, option_map};
+ghost use Rattle.emulated_node.specs.Ways.{IsAt, IsPortAt, back_over, covers, hop_way, row_way, way_address, way_or_back};
 
 use mctp_routing::{Hop, TableRow};
 use mctp_transport::Eid;
 use net_tables::lookup::{address_on, bus_at, ports_at};
-use plan_values::Plan;
+use plan_values::{Plan, Port};
 
 /// Where a packet goes: over a bus, to a node that has a port there.
 #[derive(Clone, Copy)]
@@ -33,22 +33,37 @@ impl Way {
 pub fn is_at(plan: &Plan, node: usize, bus: usize, address: &[u8]) -> bool
     ensures { IsTrue result ↔ IsAt plan.now node bus address.now }
 {
-    for port in ports_at(plan, node) {
-        if port.bus == bus && port.address.as_slice() == address {
+    let ports = ports_at(plan, node);
+    for port in ports {
+        if is_port_at(port, bus, address) {
             return true;
         }
     }
     false
 }
 
+/// Whether a port is on the bus, with this physical address.
+fn is_port_at(port: &Port, bus: usize, address: &[u8]) -> bool
+    ensures { IsTrue result ↔ IsPortAt port.now bus address.now }
+{
+    port.bus == bus && port.address.as_slice() == address
+}
+
 /// Where a node's packet to an endpoint ID goes, by its rows.
 pub(crate) fn row_way(plan: &Plan, node: usize, rows: &[TableRow], eid: Eid) -> Option<Way>
     ensures { result ≡ row_way plan.now node rows.now eid.value }
 {
-    match rows.iter().find(|row| covers(row, eid)) {
+    match row_for(rows, eid) {
         Some(row) => hop_way(plan, node, row.hop),
         None => None,
     }
+}
+
+/// The row that covers the endpoint ID.
+fn row_for(rows: &[TableRow], eid: Eid) -> Option<&TableRow>
+    ensures { option_map (λ r. r.now) result ≡ find (covers eid.value) rows.now }
+{
+    rows.iter().find(|row| covers(row, eid))
 }
 
 /// Whether the row covers the endpoint ID.
