@@ -48,10 +48,11 @@ sent_text false set over asked (Sent bus packets) = flat_map (answer_line set.pl
 sent_text addressed set over asked Held = []
 sent_text addressed set over asked (Dropped why) = []
 
--- what stands behind what is sent for a line
-abbrev pub end_mark : Bool → List ℕ
-end_mark true = codes ".\n"
-end_mark false = []
+-- what stands behind what is sent for a line; nothing where the line is empty
+abbrev pub end_mark : Bool → List ℕ → List ℕ
+end_mark true (b ∷ line) = codes ".\n"
+end_mark true [] = []
+end_mark false line = []
 
 -- a printable ASCII character as it is, and a question mark for any other byte
 abbrev pub shown_byte : ℕ → ℕ
@@ -127,4 +128,4 @@ GivesLine addressed set s line answer note next = (says : SaidValue)
 -- state then. The end mark, where lines have it, stands behind all that is sent.
 abbrev pub Takes : LineForm → Setting → NodeState → (line answer note : List ℕ) → NodeState → Type 0
 Takes form set s line answer note next = (sent : List ℕ) × GivesLine form.is_addressed set s line sent note next
-    × (answer ≡ sent ++ end_mark form.has_ends)
+    × (answer ≡ sent ++ end_mark form.has_ends line)

@@ -19,7 +19,7 @@ use std::alloc::Global;
 /// `packets` gives lines: the name of a bus, a blank, and in hex a packet that comes to the node over that bus. What
 /// the node sends is written on `output` as such lines, for each line before the next one is read. Where the question
 /// asks for it, the physical address to which a packet is sent stands behind the bus, in hex, or a line `.` behind what
-/// is sent for each line. On `errors` a line that begins with `#` says of what nothing comes, and why. Where a file can't be read, or then where the plan has no
+/// is sent for each line that isn't empty. On `errors` a line that begins with `#` says of what nothing comes, and why. Where a file can't be read, or then where the plan has no
 /// node of the name, says so on `errors`, and reads no packets.
 pub fn run_emulate<P: Source, C: Source, I: Source, O: Sink, E: Sink>(
     alloc: Global,

@@ -39,15 +39,24 @@ pub fn take_line<T: Terminus>(
         × HasNodeState T.tid T.records emulated.new next) }
 {
     let mut turn = give_line(alloc, form.is_addressed, emulated, line)?;
-    turn.answer.push_str(end_mark(form.has_ends))?;
+    turn.answer.push_str(end_mark(form.has_ends, line))?;
     Ok(turn)
 }
 
-/// What stands behind what is sent for a line.
-fn end_mark(has_ends: bool) -> &'static str
-    ensures { result.now ≡ end_mark has_ends }
+/// What stands behind what is sent for a line; nothing where the line is empty.
+fn end_mark(has_ends: bool, line: &[u8]) -> &'static str
+    ensures { result.now ≡ end_mark has_ends line.now }
 {
-    if has_ends { ".\n" } else { "" }
+    match line {
+        [] => "",
+        [_, ..] => {
+            if has_ends {
+                ".\n"
+            } else {
+                ""
+            }
+        }
+    }
 }
 
 /// The same, but for the end mark.

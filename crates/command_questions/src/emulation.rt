@@ -16,6 +16,6 @@ pub struct Emulation<'a> {
 pub struct LineForm {
     /// Whether a physical address stands behind the name of a bus: that to which the packet is sent.
     pub is_addressed: bool,
-    /// Whether a line `.` stands behind what is sent for each line.
+    /// Whether a line `.` stands behind what is sent for each line that isn't empty.
     pub has_ends: bool,
 }

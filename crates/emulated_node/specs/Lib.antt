@@ -7,3 +7,7 @@ pub mod Heard
 pub mod Receiving
 pub mod Standing
 pub mod Ways
+pub mod Unread
+pub mod Networks
+pub mod Emulating
+pub mod Emulations

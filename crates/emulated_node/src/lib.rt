@@ -3,7 +3,9 @@
 
 mod deciding;
 mod emulated;
+mod handled;
 mod hearing;
+mod network;
 mod received;
 mod replying;
 mod responding;
@@ -11,5 +13,7 @@ mod sending;
 mod way;
 
 pub use emulated::Emulated;
+pub use handled::{Handled, SentPacket};
+pub use network::{EmulatedNetwork, Spread};
 pub use received::{Reason, Received};
 pub use way::{Way, is_at};
