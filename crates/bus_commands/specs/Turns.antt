@@ -1,7 +1,7 @@
 -- What becomes of a line that a node is given: the lines that it sends, and what is noted of what it drops.
 use Rattle.std.{specs.Prelude.{◌≡◌, ◌⊎◌, ℕ, ◌&&◌, Bool, true, false, nat_le, List, [], ◌∷◌, ◌++◌, map, codes, if◌then◌else◌, slice_index}, specs.List.{flat_map}}
 use Rattle.hex.specs.Hex.{encode_lower}
-use Rattle.emulated_node.{specs.Nodes.{NodeState, Setting}, specs.ReceivedValues.{ReceivedValue, Sent, Held, Dropped}, specs.Receiving.{Receives}, specs.Ways.{way_address, way_of}, specs.declared.received.Reason.{Reason}, specs.declared.way.Way.{Way}}
+use Rattle.emulated_node.{specs.Nodes.{NodeState, Setting}, specs.ReceivedValues.{ReceivedValue, Sent, Held, Dropped}, specs.Receiving.{Receives}, specs.Unread.{IsNoPacketFor}, specs.Ways.{way_address, way_of}, specs.declared.received.Reason.{Reason}, specs.declared.way.Way.{Way}}
 use Rattle.mctp_routing.specs.Decisions.{forward_fault_code}
 use Rattle.mctp_transport.{specs.Causes.{cause_code}, specs.PacketValues.{PacketValue, Spelled}, specs.declared.packet_error.PacketError.{PacketError}}
 use Rattle.plan_values.specs.declared.plan.Plan.{Plan}
@@ -10,16 +10,7 @@ use Rattle.command_questions.specs.declared.emulation.LineForm.{LineForm}
 use Rattle.bus_commands.specs.PacketLines.{SaidValue, Says}
 use Rattle.emulated_node.specs.declared.received.Reason.TheVariants as reason
 use Rattle.mctp_transport.specs.Refusals as refusals
-use Rattle.mctp_transport.specs.declared.packet_error.PacketError.TheVariants as packet
 use Rattle.bus_commands.specs.PacketLines as said
-
--- why bytes are no packet under a transmission unit: the first of the causes
-abbrev pub IsNoPacketFor : ℕ → PacketError → List ℕ → Type 0
-IsNoPacketFor unit packet.Short bytes = refusals.IsShort bytes
-IsNoPacketFor unit packet.Empty bytes = ¬ refusals.IsShort bytes × refusals.IsEmpty bytes
-IsNoPacketFor unit packet.Long bytes = refusals.IsLong unit bytes
-IsNoPacketFor unit packet.Version bytes =
-    ¬ refusals.IsShort bytes × ¬ refusals.IsEmpty bytes × ¬ refusals.IsLong unit bytes × refusals.HasOtherVersion bytes
 
 -- a packet that is sent over a bus
 abbrev pub answer_line : Plan → ℕ → List ℕ → List ℕ

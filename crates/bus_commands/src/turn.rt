@@ -1,11 +1,11 @@
 //! What becomes of a line: the lines that are sent for it, and what is noted of it.
-ghost use Rattle.std.{specs.Prelude.{◌≡◌, ◌<◌, ◌++◌, [], IfOk, length, map, slice_index, string_bytes}, specs.List.{flat_map}};
+ghost use Rattle.std.{specs.Prelude.{◌≡◌, ◌<◌, ◌++◌, [], IfOk, length, map, string_bytes}, specs.List.{flat_map}};
 ghost use Rattle.emulated_node.{specs.Nodes.{NodeState}, specs.ReceivedValues.{received_value, Sent}, specs.Standing.{HasNodeState, setting_of}};
 ghost use Rattle.bus_commands.specs.Turns.{GivesLine, IsToldOf, Takes, TakesBytes, address_word, addressed_line, answer_line, end_mark, note_line, onward_line, reason_words, sent_text, shown_byte};
 
 use crate::line::{Said, read_line};
 use command_questions::LineForm;
-use emulated_node::{Emulated, Reason, Received, Way};
+use emulated_node::{Emulated, Reason, Received, Way, destination_of};
 use mctp_transport::{Eid, PacketView};
 use net_tables::lookup::bus_name;
 use pdr_repository::Terminus;
@@ -44,7 +44,7 @@ pub fn take_line<T: Terminus>(
 }
 
 /// What stands behind what is sent for a line; nothing where the line is empty.
-fn end_mark(has_ends: bool, line: &[u8]) -> &'static str
+pub fn end_mark(has_ends: bool, line: &[u8]) -> &'static str
     ensures { result.now ≡ end_mark has_ends line.now }
 {
     match line {
@@ -184,17 +184,7 @@ fn onward_line<T: Terminus>(
     addressed_line(alloc, emulated.plan(), way, packet)
 }
 
-/// The destination of a packet's bytes.
-fn destination_of(packet: &[u8]) -> Eid
-    ensures { result.value ≡ slice_index packet.now 1 }
-{
-    match packet {
-        [_, destination, ..] => Eid::new(*destination),
-        _ => Eid::new(0),
-    }
-}
-
-fn addressed_line(
+pub fn addressed_line(
     alloc: Global,
     plan: &Plan,
     way: Way,
@@ -219,7 +209,7 @@ fn address_word(alloc: Global, address: &[u8]) -> Result<String, AllocError>
 }
 
 /// Nothing is sent, and nothing noted.
-fn silent(alloc: Global) -> Turn
+pub fn silent(alloc: Global) -> Turn
     ensures answer { string_bytes result.answer ≡ [] }
     ensures note { result.note.items ≡ [] }
 {
@@ -254,7 +244,7 @@ fn answer_line(alloc: Global, plan: &Plan, bus: usize, packet: &[u8]) -> Result<
 }
 
 /// Why nothing is sent for a packet, and the code of it, if it has one.
-fn reason_words(why: Reason) -> (&'static str, &'static str)
+pub fn reason_words(why: Reason) -> (&'static str, &'static str)
     ensures { result.0.now ++ result.1.now ≡ reason_words why }
 {
     match why {
@@ -267,7 +257,7 @@ fn reason_words(why: Reason) -> (&'static str, &'static str)
 }
 
 /// A line for which nothing is sent, and a note of why.
-fn noted(alloc: Global, word: &str, code: &str, line: &[u8]) -> Result<Turn, AllocError>
+pub fn noted(alloc: Global, word: &str, code: &str, line: &[u8]) -> Result<Turn, AllocError>
     ensures answer { IfOk result (λ turn. string_bytes turn.answer ≡ []) }
     ensures note { IfOk result (λ turn. turn.note.items ≡ note_line (word.now ++ code.now) line.now) }
 {

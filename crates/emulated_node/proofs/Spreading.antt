@@ -1,5 +1,5 @@
 -- Packets that reach nodes of a network, and what is sent for them.
-use Rattle.std.{proofs.Common.{◌≡◌, ℕ, ◌<◌, List, length, map, Some, get_or, refl, sym, ◌∙◌, ap, subst, arith, [], ◌∷◌, ◌++◌, ◌+◌, ◌≤◌, ◌↔◌, ◌⊎◌, take, inl, inr, Result, Ok, Err, IfOk}, specs.List.{flat_map}, proofs.lemmas.List.{flat_map_more, length-map, length_push, map-append, take_more, take-append-le}, specs.Prelude.{option_map, slice_get, slice_set}, proofs.Math.Seq.{map-set_same}, proofs.lemmas.Bool.Decides.{eqb_tells}, proofs.lemmas.Option.{slice_get-get_or, slice_get-map, slice_get_cases, same_Some}}
+use Rattle.std.{proofs.Common.{◌≡◌, ℕ, ◌<◌, List, length, map, Some, get_or, refl, sym, ◌∙◌, ap, subst, arith, [], ◌∷◌, ◌++◌, ◌+◌, ◌↔◌, ◌⊎◌, take, inl, inr, Result, Ok, Err, IfOk}, specs.List.{flat_map}, proofs.lemmas.List.{flat_map_more, length-map, length_push, map-append, take_more, take-append-le}, specs.Prelude.{option_map, slice_get, slice_set}, proofs.Math.Seq.{map-set_same}, proofs.lemmas.Bool.Decides.{eqb_tells}, proofs.lemmas.Option.{slice_get-get_or, slice_get-map, slice_get_cases, same_Some}}
 use Rattle.pdr_repository.specs.Records.{Entry}
 use Rattle.mctp_transport.{specs.PacketValues.{PacketValue}, specs.declared.packet_error.PacketError.{PacketError}}
 use Rattle.net_tables.proofs.Elements.{in_set}

@@ -14,6 +14,6 @@ mod way;
 
 pub use emulated::Emulated;
 pub use handled::{Handled, SentPacket};
-pub use network::{EmulatedNetwork, Spread};
+pub use network::{EmulatedNetwork, Spread, destination_of};
 pub use received::{Reason, Received};
 pub use way::{Way, is_at};

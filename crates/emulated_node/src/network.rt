@@ -32,6 +32,7 @@ pub struct Spread {
     /// What became of each packet that was taken. Fewer than there are packets only where more would have been taken
     /// than are at most.
     pub handled: Vec<Handled>,
+    pub ghost fewer: { length handled.items ≤ length packets.items },
 }
 
 /// What became of a packet, and what was sent for it.

@@ -1,4 +1,3 @@
-use Rattle.std.proofs.Common.{refl, subst, sym}
 use Rattle.mctp_transport.specs.Packets.{packet_value_of}
 use Rattle.emulated_node.{specs.ReceivedValues.{received_value}, specs.Standing.{setting_of}, proofs.Spreading.{receives_at, setting_there, settings_kept}}
 use Rattle.emulated_node.proofs.network.receive_at.Goals as goal

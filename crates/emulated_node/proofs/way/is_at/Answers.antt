@@ -1,4 +1,4 @@
-use Rattle.std.{proofs.Common.{◌≡◌, ◌<◌, length, Some, refl, sym, subst, arith}, specs.Prelude.{slice_get}, proofs.lemmas.Option.{slice_get_read}}
+use Rattle.std.{proofs.Common.{◌≡◌, ◌<◌, length, Some, refl, sym, arith}, specs.Prelude.{slice_get}, proofs.lemmas.Option.{slice_get_read}}
 use Rattle.plan_values.specs.declared.nodes.Port.{Port}
 use Rattle.net_tables.proofs.RowSearches.{of_one_more, of_all_items}
 use Rattle.emulated_node.specs.Ways.{IsPortAt}

@@ -1,4 +1,4 @@
-use Rattle.std.{proofs.Common.{◌∙◌, ap, sym}, specs.Option.{option_and_then}}
+use Rattle.std.{proofs.Common.{◌∙◌, ap}, specs.Option.{option_and_then}}
 use Rattle.mctp_routing.specs.declared.row.TableRow.{TableRow}
 use Rattle.emulated_node.specs.Ways.{hop_way}
 use Rattle.emulated_node.proofs.way.row_way.Goals as goal

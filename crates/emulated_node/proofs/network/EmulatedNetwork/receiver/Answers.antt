@@ -1,4 +1,4 @@
-use Rattle.std.proofs.Common.{◌≡◌, ◌<◌, length, arith}
+use Rattle.std.proofs.Common.{◌<◌, length, arith}
 use Rattle.emulated_node.proofs.Spreading.{node_there}
 use Rattle.emulated_node.proofs.network.EmulatedNetwork.receiver.Goals as goal
 

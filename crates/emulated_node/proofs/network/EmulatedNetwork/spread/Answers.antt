@@ -1,4 +1,4 @@
-use Rattle.std.{proofs.Common.{◌≡◌, ◌<◌, ◌≤◌, ◌+◌, ◌++◌, ◌∷◌, [], ap, arith, get_or, inl, inr, length, map, refl, subst, sym, ◌∙◌}, proofs.lemmas.List.{length-append, length-map, length_push, map-append}, proofs.Math.ListN.{get_or-map}}
+use Rattle.std.{proofs.Common.{◌≡◌, ◌<◌, ◌+◌, ◌++◌, ◌∷◌, [], ap, arith, get_or, inl, inr, length, map, refl, subst, sym, ◌∙◌}, proofs.lemmas.List.{length-append, length-map, length_push, map-append}, proofs.Math.ListN.{get_or-map}}
 use Rattle.emulated_node.{specs.Emulating.{HaveStates}, specs.Emulations.{world_of}, specs.Networks.{Becomes, World, sent_value}, proofs.Spreading.{spread_more, spread_none, spread_ends}}
 use Rattle.emulated_node.proofs.network.EmulatedNetwork.spread.Goals as goal
 

@@ -1,4 +1,4 @@
-use Rattle.std.proofs.Common.{◌≡◌, ◌≤◌, ◌∙◌, arith, refl, subst}
+use Rattle.std.proofs.Common.{◌≤◌, refl, subst}
 use Rattle.emulated_node.{specs.Emulations.{world_of}, specs.Networks.{sent_value}, specs.Unread.{IsNoPacketFor}, proofs.Spreading.{alone_becomes, no_packet}}
 use Rattle.emulated_node.specs.declared.handled.Handled.TheVariants as handled
 use Rattle.emulated_node.proofs.network.EmulatedNetwork.step.Goals as goal

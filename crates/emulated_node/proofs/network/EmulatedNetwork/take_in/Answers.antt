@@ -1,6 +1,6 @@
 use Rattle.std.proofs.Common.{◌≡◌, map, refl, subst}
 use Rattle.mctp_transport.specs.Packets.{packet_value_of}
-use Rattle.emulated_node.{specs.Emulations.{world_of}, specs.Networks.{SentValue, sent_on, sent_value, with_state}, specs.Nodes.{Setting}, specs.ReceivedValues.{received_value}, specs.Receiving.{Receives}, proofs.Spreading.{alone_becomes, setting_after}}
+use Rattle.emulated_node.{specs.Emulations.{world_of}, specs.Networks.{sent_on, sent_value, with_state}, specs.Nodes.{Setting}, specs.ReceivedValues.{received_value}, specs.Receiving.{Receives}, proofs.Spreading.{alone_becomes, setting_after}}
 use Rattle.emulated_node.specs.declared.handled.Handled.TheVariants as handled
 use Rattle.emulated_node.proofs.network.EmulatedNetwork.take_in.Goals as goal
 
