@@ -1,8 +1,8 @@
 -- Buses that lines name.
-use Rattle.std.{proofs.Common.{◌≡◌, ◌≢◌, ℕ, ◌<◌, Bool, true, false, List, [], length, Option, None, Some, Result, Ok, Err, IfOk, option_map, slice_get, string_bytes, refl, sym, subst}, proofs.lemmas.Option.{slice_get_within}}
+use Rattle.std.{proofs.Common.{◌≡◌, ◌≢◌, ℕ, ◌<◌, Bool, true, false, List, [], length, Option, None, Some, Result, Ok, Err, IfOk, option_map, slice_get, string_bytes, refl, subst}, proofs.lemmas.Option.{slice_get_within}}
 use Rattle.plan_values.{specs.declared.nodes.Bus.{Bus}, specs.declared.plan.Plan.{Plan}}
 use Rattle.bus_captures.specs.Lines.{behind_word, uncommented, word}
-use Rattle.bus_commands.{specs.PacketLines.{IsReadBehind, IsSaidOver, NamesBus, Says, said_value}, specs.declared.line.Said.{Said}}
+use Rattle.bus_commands.{specs.PacketLines.{IsReadBehind, NamesBus, Says, said_value}, specs.declared.line.Said.{Said}}
 use Rattle.net_tables.specs.Names.{name_of_bus}
 use Rattle.bus_commands.specs.declared.line.Said.TheVariants as said
 

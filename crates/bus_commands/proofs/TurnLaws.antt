@@ -1,5 +1,5 @@
 -- What becomes of lines that name a bus.
-use Rattle.std.proofs.Common.{◌≡◌, ◌++◌, ℕ, Bool, List, Result, Ok, Err, IfOk, inl, sym, subst, string_bytes}
+use Rattle.std.proofs.Common.{◌≡◌, ℕ, Bool, List, Result, Ok, Err, IfOk, inl, subst, string_bytes}
 use Rattle.emulated_node.{specs.Nodes.{NodeState, Setting}, specs.ReceivedValues.{ReceivedValue}, specs.Receiving.{Receives}}
 use Rattle.mctp_transport.specs.PacketValues.{PacketValue, Spelled}
 use Rattle.plan_values.specs.declared.plan.Plan.{Plan}

@@ -101,7 +101,8 @@ TakesBytes addressed set s bus bytes line answer note next =
     ComesOver addressed set s bus bytes line answer note next ⊎ IsRefused set s bytes line answer note next
 
 -- The line said so. A packet that is sent to another physical address changes nothing.
-abbrev pub Gives : (addressed : Bool) → Setting → NodeState → SaidValue → (line answer note : List ℕ) → NodeState → Type 0
+abbrev pub Gives : (addressed : Bool) → Setting → NodeState → SaidValue → (line answer note : List ℕ) → NodeState
+    → Type 0
 Gives addressed set s said.Nothing line answer note next = IsSilent s answer note next
 Gives addressed set s said.NoBus line answer note next = IsNoted s (codes "no bus") line answer note next
 Gives addressed set s said.NoAddress line answer note next = IsNoted s (codes "no address") line answer note next

@@ -1,6 +1,6 @@
 -- What becomes of a packet in a network of nodes that are emulated: where it goes, and all that is sent for it.
 use Rattle.std.{specs.Prelude.{◌≡◌, ◌≢◌, ◌⊎◌, ℕ, ◌+◌, ◌<◌, ◌≤◌, ◌==◌, if◌then◌else◌, List, [], ◌∷◌, length, map, take, Some, slice_get, slice_index}, specs.List.{flat_map}}
-use Rattle.mctp_transport.{specs.PacketValues.{PacketValue, Spelled}}
+use Rattle.mctp_transport.specs.PacketValues.{PacketValue, Spelled}
 use Rattle.plan_values.specs.declared.plan.Plan.{Plan}
 use Rattle.emulated_node.{specs.Nodes.{NodeState, Setting}, specs.ReceivedValues.{ReceivedValue, Sent, Held, Dropped}, specs.Receiving.{Receives}, specs.Unread.{IsNoPacketFor}, specs.Ways.{way_of}, specs.declared.way.Way.{Way}, specs.declared.handled.Handled.{Handled}, specs.declared.handled.SentPacket.{SentPacket}}
 use Rattle.emulated_node.specs.declared.handled.Handled.TheVariants as handled

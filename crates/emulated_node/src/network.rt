@@ -228,5 +228,9 @@ fn hops_of(asked: Eid, destination: Eid, hops: u8) -> u8
     requires { hops < 255 }
     ensures { result ≡ hops_of asked.value destination.value hops }
 {
-    if destination.value == asked.value { hops + 1 } else { 0 }
+    if destination.value == asked.value {
+        hops + 1
+    } else {
+        0
+    }
 }

@@ -1,4 +1,4 @@
-use Rattle.std.proofs.Common.{subst, sym}
+use Rattle.std.proofs.Common.{subst}
 use Rattle.emulated_node.specs.Standing.{HasNodeState, setting_of}
 use Rattle.bus_commands.{specs.PacketLines.{Says, said_value}, specs.declared.line.Said.{Said}, proofs.TurnLaws.{says_bytes}}
 use Rattle.bus_commands.proofs.turn.give_line.Goals as goal

@@ -1,4 +1,4 @@
-use Rattle.std.proofs.Common.{ap, sym, subst, ◌∙◌}
+use Rattle.std.proofs.Common.{ap, subst, ◌∙◌}
 use Rattle.emulated_node.{specs.ReceivedValues.{received_value}, specs.Standing.{HasNodeState, setting_of}}
 use Rattle.mctp_transport.{specs.PacketValues.{Spelled}, specs.Packets.{packet_value_of}}
 use Rattle.plan_values.specs.declared.plan.Plan.{Plan}
