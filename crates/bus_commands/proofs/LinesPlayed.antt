@@ -114,30 +114,30 @@ played_none Stands Takes s i o e stands = record {
   whole = plays_none Takes s i o e (Consumes-nil i.bytes) (Appends-nil o.bytes) (Appends-nil e.bytes);
 }
 
-module _ {S : Type 0} (Stands Stands' : S → Type 0) (Takes Takes' : S → List ℕ → List ℕ → List ℕ → S → Type 0) (same : Takes' ≡ Takes) (s : S) (count : ℕ) (i j k o p q e f g : Account)
-    (before : HasPlayed Stands Takes s count (between i j) (between o p) (between e f)) where
+module _ {N S : Type 0} (Stands Stands' : S → Type 0) (Taking : N → S → List ℕ → List ℕ → List ℕ → S → Type 0) (nature nature' : N) (same : nature' ≡ nature) (s : S) (count : ℕ) (i j k o p q e f g : Account)
+    (before : HasPlayed Stands (Taking nature) s count (between i j) (between o p) (between e f)) where
   abbrev Plays : Result Bool Stop → Type 0
-  Plays ended = (x : S) → Stands x → PlaysLine Stands' Takes' x ended (between j k) (between p q) (between f g)
+  Plays ended = (x : S) → Stands x → PlaysLine Stands' (Taking nature') x ended (between j k) (between p q) (between f g)
 
-  played : (ended due : Result Bool Stop) → ended ≡ due → Plays ended → PlaysLine Stands' Takes before.last due (between j k) (between p q) (between f g)
+  played : (ended due : Result Bool Stop) → ended ≡ due → Plays ended → PlaysLine Stands' (Taking nature) before.last due (between j k) (between p q) (between f g)
   played ended due is line =
-      subst (λ x. PlaysLine Stands' x before.last due (between j k) (between p q) (between f g)) same (subst Plays is line before.last before.stands)
+      subst (λ x. PlaysLine Stands' (Taking x) before.last due (between j k) (between p q) (between f g)) same (subst Plays is line before.last before.stands)
 
-  pub played_more : (ended : Result Bool Stop) → ended ≡ Ok false → Plays ended → HasPlayed Stands' Takes s (count + 1) (between i k) (between o q) (between e g)
+  pub played_more : (ended : Result Bool Stop) → ended ≡ Ok false → Plays ended → HasPlayed Stands' (Taking nature) s (count + 1) (between i k) (between o q) (between e g)
   played_more ended is line =
       let given = played ended (Ok false) is line in record {
         turns = before.turns ++ given.turn ∷ [];
         last = given.next;
-        whole = plays_more Stands' Takes s before.last before.turns i j k o p q e f g before.whole given;
+        whole = plays_more Stands' (Taking nature) s before.last before.turns i j k o p q e f g before.whole given;
         stands = given.stands;
         many = length_push before.turns given.turn ∙ ap (λ n. n + 1) before.many;
       }
 
-  pub played_all : (ended : Result Bool Stop) → ended ≡ Ok true → Plays ended → PlaysAll Takes s (between i k) (between o q) (between e g)
-  played_all ended is line = plays_all Stands' Takes s before.last before.turns i j k o p q e f g before.whole (played ended (Ok true) is line)
+  pub played_all : (ended : Result Bool Stop) → ended ≡ Ok true → Plays ended → PlaysAll (Taking nature) s (between i k) (between o q) (between e g)
+  played_all ended is line = plays_all Stands' (Taking nature) s before.last before.turns i j k o p q e f g before.whole (played ended (Ok true) is line)
 
-  pub played_part : (why : Stop) → Plays (Err why) → BreaksOff Takes s why (between i k) (between o q) (between e g)
-  played_part why line = plays_part Stands' Takes s before.last before.turns i j k o p q e f g before.whole why (played (Err why) (Err why) refl line)
+  pub played_part : (why : Stop) → Plays (Err why) → BreaksOff (Taking nature) s why (between i k) (between o q) (between e g)
+  played_part why line = plays_part Stands' (Taking nature) s before.last before.turns i j k o p q e f g before.whole why (played (Err why) (Err why) refl line)
 
 -- what standard error has failed
 pub keeps_after : (why : Stop) (e f g : Account) → f.failures ≡ e.failures → KeepsRoom {T = Bool} (Err why) (between f g) → KeepsRoom {T = Bool} (Err why) (between e g)

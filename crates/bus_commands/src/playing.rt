@@ -44,7 +44,7 @@ pub fn play_lines<P: Player, I: Source, O: Sink, E: Sink>(
     requires output { HasRoom (O.account output.old) }
     requires errors { HasRoom (E.account errors.old) }
     ensures plays { (s : P.State) → P.stands player.old s
-        → PlaysLines (P.takes player.old) s result (stream I.account packets.old packets.new) (stream O.account output.old output.new)
+        → PlaysLines (P.takes (P.nature player.old)) s result (stream I.account packets.old packets.new) (stream O.account output.old output.new)
         (stream E.account errors.old errors.new) }
     ensures noted { KeepsRoom result (stream E.account errors.old errors.new) }
 {
@@ -68,9 +68,9 @@ fn play_line<P: Player, I: Source, O: Sink, E: Sink>(
     requires packets { HasRoom (I.account packets.old) }
     requires output { HasRoom (O.account output.old) }
     requires errors { HasRoom (E.account errors.old) }
-    ensures same { P.takes player.new ≡ P.takes player.old }
+    ensures same { P.nature player.new ≡ P.nature player.old }
     ensures plays { (s : P.State) → P.stands player.old s
-        → PlaysLine (P.stands player.new) (P.takes player.old) s result (stream I.account packets.old packets.new)
+        → PlaysLine (P.stands player.new) (P.takes (P.nature player.old)) s result (stream I.account packets.old packets.new)
         (stream O.account output.old output.new) (stream E.account errors.old errors.new) }
     ensures read { OnOk result ((I.account packets.new).failures ≡ (I.account packets.old).failures) }
     ensures written { OnOk result ((O.account output.new).failures ≡ (O.account output.old).failures) }
