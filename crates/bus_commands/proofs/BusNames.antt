@@ -2,7 +2,7 @@
 use Rattle.std.{proofs.Common.{◌≡◌, ◌≢◌, ℕ, ◌<◌, Bool, true, false, List, [], length, Option, None, Some, Result, Ok, Err, IfOk, option_map, slice_get, string_bytes, refl, subst}, proofs.lemmas.Option.{slice_get_within}}
 use Rattle.plan_values.{specs.declared.nodes.Bus.{Bus}, specs.declared.plan.Plan.{Plan}}
 use Rattle.bus_captures.specs.Lines.{behind_word, uncommented, word}
-use Rattle.bus_commands.{specs.PacketLines.{IsReadBehind, NamesBus, Says, said_value}, specs.declared.line.Said.{Said}}
+use Rattle.bus_commands.{specs.PacketLines.{IsReadAt, IsReadBehind, IsReadOver, NamesBus, NamesNode, Says, said_value}, specs.declared.line.Said.{Said}}
 use Rattle.net_tables.specs.Names.{name_of_bus}
 use Rattle.bus_commands.specs.declared.line.Said.TheVariants as said
 
@@ -33,3 +33,19 @@ says_all addressed plan n line w rest bus (Ok read) is behind some names over =
     says_over addressed plan n line bus read (subst (λ x. x ≢ []) is some) (subst (λ x. NamesBus plan n x bus) is names)
     (subst (λ x. IsReadBehind addressed plan n bus x (said_value read)) behind over)
 says_all addressed plan n line w rest bus (Err e) is behind some names over = tt
+
+-- what is read behind an address of the node's is what the text says
+read_at : (plan : Plan) (n over : ℕ) (text : List ℕ) (read : Said) → NamesNode plan n over (word text) → IsReadOver over (behind_word text) (said_value read)
+    → IsReadAt plan n over text (said_value read)
+read_at plan n over text said.Nothing names read = absurd read
+read_at plan n over text said.NoBus names read = absurd read
+read_at plan n over text said.NoAddress names read = absurd read
+read_at plan n over text said.Elsewhere names read = absurd read
+read_at plan n over text said.NoPacket names read = (names, read)
+read_at plan n over text (said.Packet b bytes) names read = (names, read)
+
+pub read_at_all : {E : Type 0} (plan : Plan) (n over : ℕ) (text rest : List ℕ) (read : Result Said E) → rest ≡ behind_word text → NamesNode plan n over (word text)
+    → IfOk read (λ r. IsReadOver over rest (said_value r)) → IfOk read (λ r. IsReadAt plan n over text (said_value r))
+read_at_all plan n over text rest (Ok read) behind names over_rest =
+    read_at plan n over text read names (subst (λ x. IsReadOver over x (said_value read)) behind over_rest)
+read_at_all plan n over text rest (Err e) behind names over_rest = tt

@@ -116,15 +116,7 @@ fn answer_on<I: Source, O: Sink, E: Sink>(
     };
     match check(alloc, plan, certificate) {
         Ok(checked) => {
-            emulate(
-                alloc,
-                &checked,
-                node,
-                emulation,
-                packets,
-                output,
-                errors,
-            )?;
+            emulate(alloc, &checked, node, emulation, packets, output, errors)?;
             Ok(Status::Yes)
         }
         Err(error) => {

@@ -49,13 +49,7 @@ pub fn end_mark(has_ends: bool, line: &[u8]) -> &'static str
 {
     match line {
         [] => "",
-        [_, ..] => {
-            if has_ends {
-                ".\n"
-            } else {
-                ""
-            }
-        }
+        [_, ..] => { if has_ends { ".\n" } else { "" } }
     }
 }
 

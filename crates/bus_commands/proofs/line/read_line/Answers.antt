@@ -11,8 +11,8 @@ returns-then-is_addressed c =
     (c.split_word.ensures.word ∙ ap word c.uncommented.ensures) (c.split_word.ensures.behind ∙ ap behind_word c.uncommented.ensures) some
     c.in-Some.ensures c.read_addressed.ensures)
 
-pub returns-in-Some : goal.returns-in-Some
-returns-in-Some c =
+pub returns-else-is_addressed : goal.returns-else-is_addressed
+returns-else-is_addressed c =
     let some : c.split_word.result.0.now ≢ [] = search rules in
     subst (λ a. IfOk c.read_packet.result (λ r. Says a c.args.plan.now c.args.node c.args.line.now (said_value r))) (sym c.if-is_addressed.false)
     (says_all false c.args.plan.now c.args.node c.args.line.now c.split_word.result.0.now c.split_word.result.1.now c.in-Some.bus c.read_packet.result
