@@ -52,22 +52,22 @@ module _ (e : Emulation) (plan : Plan) (cert : Certificate) (n : ℕ) (named : I
 -- the node was given the lines, to their end or not
 module _ (e : Emulation) (plan : Plan) (cert : Certificate) (n : ℕ) (named : IsFirstNamed plan e.node.now n) (accepted : Accepts plan cert)
     (checked : Plan × Certificate) (same : checked ≡ (plan, cert)) (inputs outputs said : Stream) where
-  pub emulates_part : (T : Type 0) (why : Stop) → AnswersNode {T = T} e.is_configured checked.0 checked.1 n (Err why) inputs outputs said
+  pub emulates_part : (T : Type 0) (why : Stop) → AnswersNode {T = T} e checked.0 checked.1 n (Err why) inputs outputs said
       → AnswersOn e plan cert (Err why) inputs outputs said
   emulates_part T why answers = inl (record {
     node = n;
     named = named;
     accepted = accepted;
-    answers = subst (λ (p : Plan × Certificate). AnswersNode {T = T} e.is_configured p.0 p.1 n (Err why) inputs outputs said) same answers;
+    answers = subst (λ (p : Plan × Certificate). AnswersNode {T = T} e p.0 p.1 n (Err why) inputs outputs said) same answers;
   })
 
-  pub emulates_all : (T : Type 0) (done : T) → AnswersNode {T = T} e.is_configured checked.0 checked.1 n (Ok done) inputs outputs said
+  pub emulates_all : (T : Type 0) (done : T) → AnswersNode {T = T} e checked.0 checked.1 n (Ok done) inputs outputs said
       → AnswersOn e plan cert (Ok status.Yes) inputs outputs said
   emulates_all T done answers = record {
     node = n;
     named = named;
     accepted = accepted;
-    answers = subst (λ (p : Plan × Certificate). AnswersNode {T = T} e.is_configured p.0 p.1 n (Ok done) inputs outputs said) same answers;
+    answers = subst (λ (p : Plan × Certificate). AnswersNode {T = T} e p.0 p.1 n (Ok done) inputs outputs said) same answers;
   }
 
 -- there is no memory for the line

@@ -1,9 +1,8 @@
 -- Lines that were played, and one more.
 use Rattle.std.{proofs.Common.{◌≡◌, ℕ, ◌+◌, ◌-◌, ◌^◌, length, Bool, true, false, List, [], ◌∷◌, ◌++◌, Result, Ok, Err, inl, inr, refl, ap, ◌∙◌, subst, append_assoc}, specs.Prelude.{⊤}, specs.List.{flat_map}, proofs.lemmas.List.{flat_map_more, length_push}, proofs.lemmas.List.Elements.{All-nil, All-push}, proofs.KnownBytes.{Appends-nil, Appends-trans, Consumes-nil, Consumes-trans}, specs.Io.KnownBytes.{Appends, Consumes}}
 use Rattle.command_answers.{specs.Answers.{Stream}, specs.declared.refused.Refused.{Refused}}
-use Rattle.emulated_node.specs.Nodes.{NodeState, Setting}
 use Rattle.net_plan.specs.Stream.{Account}
-use Rattle.bus_commands.{specs.Lines.{GaveLine, HasNoEnd}, specs.Playing.{LineTurn, TakesTurns, lines_of, IsGivenLine, BreaksAt, KeepsRoom, PlaysLine, Writes, PlaysWhole, PlaysAll, BreaksOff}, specs.Turns.{Takes}, specs.declared.playing.Stop.{Stop}}
+use Rattle.bus_commands.{specs.Lines.{GaveLine, HasNoEnd}, specs.Playing.{LineTurn, TakesTurns, lines_of, IsGivenLine, BreaksAt, KeepsRoom, PlaysLine, Writes, PlaysWhole, PlaysAll, BreaksOff}, specs.declared.playing.Stop.{Stop}}
 use Rattle.command_answers.specs.declared.refused.Input.TheVariants as input
 use Rattle.command_answers.specs.declared.refused.Refused.TheVariants as refused
 use Rattle.net_plan.specs.declared.error.PlanError.TheVariants as error
@@ -13,10 +12,10 @@ abbrev pub between : Account → Account → Stream
 between before after = record { before = before; after = after }
 
 -- one turn more
-pub takes_more : (set : Setting) (s last next : NodeState) (turns : List LineTurn) (t : LineTurn) → TakesTurns set s turns last
-    → Takes set last t.line t.answer t.note next → TakesTurns set s (turns ++ t ∷ []) next
-takes_more set s last next [] t is takes = (next, subst (λ x. Takes set x t.line t.answer t.note next) is takes, refl)
-takes_more set s last next (u ∷ turns) t (mid, first, rest) takes = (mid, first, takes_more set mid last next turns t rest takes)
+pub takes_more : {S : Type 0} (Takes : S → List ℕ → List ℕ → List ℕ → S → Type 0) (s last next : S) (turns : List LineTurn) (t : LineTurn) → TakesTurns Takes s turns last
+    → Takes last t.line t.answer t.note next → TakesTurns Takes s (turns ++ t ∷ []) next
+takes_more Takes s last next [] t is takes = (next, subst (λ x. Takes x t.line t.answer t.note next) is takes, refl)
+takes_more Takes s last next (u ∷ turns) t (mid, first, rest) takes = (mid, first, takes_more Takes mid last next turns t rest takes)
 
 -- what stands in front of all turns' texts, and one more
 joined_more : (f : LineTurn → List ℕ) (turns : List LineTurn) (t : LineTurn) → flat_map f turns ++ f t ≡ flat_map f (turns ++ t ∷ [])
@@ -28,18 +27,18 @@ more_appended f turns t a b c first second =
     subst (Appends a.bytes c.bytes) (joined_more f turns t) (Appends-trans a.bytes b.bytes c.bytes (flat_map f turns) (f t) first second)
 
 -- nothing was played yet
-pub plays_none : (set : Setting) (s : NodeState) (i o e : Account) → Consumes i.bytes i.bytes [] → Appends o.bytes o.bytes [] → Appends e.bytes e.bytes []
-    → PlaysWhole set s s [] (between i i) (between o o) (between e e)
-plays_none set s i o e read answered noted =
+pub plays_none : {S : Type 0} (Takes : S → List ℕ → List ℕ → List ℕ → S → Type 0) (s : S) (i o e : Account) → Consumes i.bytes i.bytes [] → Appends o.bytes o.bytes [] → Appends e.bytes e.bytes []
+    → PlaysWhole Takes s s [] (between i i) (between o o) (between e e)
+plays_none Takes s i o e read answered noted =
     record { takes = refl; lines = All-nil (λ t. HasNoEnd t.line); read = read; answered = answered; noted = noted }
 
-module _ (Stands : NodeState → Type 0) (set : Setting) (s last : NodeState) (turns : List LineTurn) (i j k o p q e f g : Account)
-    (whole : PlaysWhole set s last turns (between i j) (between o p) (between e f)) where
+module _ {S : Type 0} (Stands : S → Type 0) (Takes : S → List ℕ → List ℕ → List ℕ → S → Type 0) (s last : S) (turns : List LineTurn) (i j k o p q e f g : Account)
+    (whole : PlaysWhole Takes s last turns (between i j) (between o p) (between e f)) where
   -- a line more, with its end
-  pub plays_more : (line : IsGivenLine Stands set last false (Ok false) (between j k) (between p q) (between f g))
-      → PlaysWhole set s line.next (turns ++ line.turn ∷ []) (between i k) (between o q) (between e g)
+  pub plays_more : (line : IsGivenLine Stands Takes last false (Ok false) (between j k) (between p q) (between f g))
+      → PlaysWhole Takes s line.next (turns ++ line.turn ∷ []) (between i k) (between o q) (between e g)
   plays_more line = record {
-    takes = takes_more set s last line.next turns line.turn whole.takes line.takes;
+    takes = takes_more Takes s last line.next turns line.turn whole.takes line.takes;
     lines = All-push (λ t. HasNoEnd t.line) turns line.turn whole.lines line.given.0;
     read = subst (Consumes i.bytes k.bytes) (joined_more (λ t. t.line ++ 10 ∷ []) turns line.turn)
         (Consumes-trans i.bytes j.bytes k.bytes (lines_of turns) (line.turn.line ++ 10 ∷ []) whole.read line.given.1);
@@ -48,13 +47,13 @@ module _ (Stands : NodeState → Type 0) (set : Setting) (s last : NodeState) (t
   }
 
   -- the last line
-  pub plays_all : IsGivenLine Stands set last true (Ok true) (between j k) (between p q) (between f g)
-      → PlaysAll set s (between i k) (between o q) (between e g)
+  pub plays_all : IsGivenLine Stands Takes last true (Ok true) (between j k) (between p q) (between f g)
+      → PlaysAll Takes s (between i k) (between o q) (between e g)
   plays_all line = record {
     text = lines_of turns ++ line.turn.line;
     turns = turns ++ line.turn ∷ [];
     last = line.next;
-    takes = takes_more set s last line.next turns line.turn whole.takes line.takes;
+    takes = takes_more Takes s last line.next turns line.turn whole.takes line.takes;
     lines = All-push (λ t. HasNoEnd t.line) turns line.turn whole.lines line.given.0;
     joined = append_assoc (lines_of turns) line.turn.line (10 ∷ []) ∙ joined_more (λ t. t.line ++ 10 ∷ []) turns line.turn;
     read = Consumes-trans i.bytes j.bytes k.bytes (lines_of turns) line.turn.line whole.read line.given.1.0;
@@ -64,13 +63,13 @@ module _ (Stands : NodeState → Type 0) (set : Setting) (s last : NodeState) (t
   }
 
   -- whatever it stands for then
-  given_also : (due : Result Bool Stop) (end : Bool) (inputs outputs said : Stream) → IsGivenLine Stands set last end due inputs outputs said
-      → IsGivenLine (λ next. ⊤) set last end due inputs outputs said
+  given_also : (due : Result Bool Stop) (end : Bool) (inputs outputs said : Stream) → IsGivenLine Stands Takes last end due inputs outputs said
+      → IsGivenLine (λ next. ⊤) Takes last end due inputs outputs said
   given_also due end inputs outputs said line =
       record { turn = line.turn; next = line.next; given = line.given; takes = line.takes; stands = tt; writes = line.writes }
 
-  breaks_also : (why : Stop) (inputs outputs said : Stream) → BreaksAt Stands set last why inputs outputs said
-      → BreaksAt (λ next. ⊤) set last why inputs outputs said
+  breaks_also : (why : Stop) (inputs outputs said : Stream) → BreaksAt Stands Takes last why inputs outputs said
+      → BreaksAt (λ next. ⊤) Takes last why inputs outputs said
   breaks_also (stop.Refused refused.Usage) inputs outputs said breaks = absurd breaks
   breaks_also (stop.Refused (refused.Unreadable input.Plan cause)) inputs outputs said breaks = absurd breaks
   breaks_also (stop.Refused (refused.Unreadable input.Certificate cause)) inputs outputs said breaks = absurd breaks
@@ -85,8 +84,8 @@ module _ (Stands : NodeState → Type 0) (set : Setting) (s last : NodeState) (t
   breaks_also stop.Unsaid inputs outputs said (end, line) = (end, given_also (Err stop.Unsaid) end inputs outputs said line)
 
   -- it breaks off at the next line
-  pub plays_part : (why : Stop) → BreaksAt Stands set last why (between j k) (between p q) (between f g)
-      → BreaksOff set s why (between i k) (between o q) (between e g)
+  pub plays_part : (why : Stop) → BreaksAt Stands Takes last why (between j k) (between p q) (between f g)
+      → BreaksOff Takes s why (between i k) (between o q) (between e g)
   plays_part why breaks = record {
     turns = turns;
     between = last;
@@ -98,47 +97,47 @@ module _ (Stands : NodeState → Type 0) (set : Setting) (s last : NodeState) (t
   }
 
 -- so many lines were played whole, and the node stands for what they led to
-pub record HasPlayed (Stands : NodeState → Type 0) (set : Setting) (s : NodeState) (count : ℕ) (inputs outputs said : Stream) : Type 0 where
+pub record HasPlayed {S : Type 0} (Stands : S → Type 0) (Takes : S → List ℕ → List ℕ → List ℕ → S → Type 0) (s : S) (count : ℕ) (inputs outputs said : Stream) : Type 0 where
   pub turns : List LineTurn
-  pub last : NodeState
-  pub whole : PlaysWhole set s last turns inputs outputs said
+  pub last : S
+  pub whole : PlaysWhole Takes s last turns inputs outputs said
   pub stands : Stands last
   pub many : length turns ≡ count
 
-pub played_none : (Stands : NodeState → Type 0) (set : Setting) (s : NodeState) (i o e : Account) → Stands s
-    → HasPlayed Stands set s 0 (between i i) (between o o) (between e e)
-played_none Stands set s i o e stands = record {
+pub played_none : {S : Type 0} (Stands : S → Type 0) (Takes : S → List ℕ → List ℕ → List ℕ → S → Type 0) (s : S) (i o e : Account) → Stands s
+    → HasPlayed Stands Takes s 0 (between i i) (between o o) (between e e)
+played_none Stands Takes s i o e stands = record {
   turns = [];
   last = s;
   stands = stands;
   many = refl;
-  whole = plays_none set s i o e (Consumes-nil i.bytes) (Appends-nil o.bytes) (Appends-nil e.bytes);
+  whole = plays_none Takes s i o e (Consumes-nil i.bytes) (Appends-nil o.bytes) (Appends-nil e.bytes);
 }
 
-module _ (Stands Stands' : NodeState → Type 0) (set set' : Setting) (same : set' ≡ set) (s : NodeState) (count : ℕ) (i j k o p q e f g : Account)
-    (before : HasPlayed Stands set s count (between i j) (between o p) (between e f)) where
+module _ {N S : Type 0} (Stands Stands' : S → Type 0) (Taking : N → S → List ℕ → List ℕ → List ℕ → S → Type 0) (nature nature' : N) (same : nature' ≡ nature) (s : S) (count : ℕ) (i j k o p q e f g : Account)
+    (before : HasPlayed Stands (Taking nature) s count (between i j) (between o p) (between e f)) where
   abbrev Plays : Result Bool Stop → Type 0
-  Plays ended = (x : NodeState) → Stands x → PlaysLine Stands' set' x ended (between j k) (between p q) (between f g)
+  Plays ended = (x : S) → Stands x → PlaysLine Stands' (Taking nature') x ended (between j k) (between p q) (between f g)
 
-  played : (ended due : Result Bool Stop) → ended ≡ due → Plays ended → PlaysLine Stands' set before.last due (between j k) (between p q) (between f g)
+  played : (ended due : Result Bool Stop) → ended ≡ due → Plays ended → PlaysLine Stands' (Taking nature) before.last due (between j k) (between p q) (between f g)
   played ended due is line =
-      subst (λ x. PlaysLine Stands' x before.last due (between j k) (between p q) (between f g)) same (subst Plays is line before.last before.stands)
+      subst (λ x. PlaysLine Stands' (Taking x) before.last due (between j k) (between p q) (between f g)) same (subst Plays is line before.last before.stands)
 
-  pub played_more : (ended : Result Bool Stop) → ended ≡ Ok false → Plays ended → HasPlayed Stands' set s (count + 1) (between i k) (between o q) (between e g)
+  pub played_more : (ended : Result Bool Stop) → ended ≡ Ok false → Plays ended → HasPlayed Stands' (Taking nature) s (count + 1) (between i k) (between o q) (between e g)
   played_more ended is line =
       let given = played ended (Ok false) is line in record {
         turns = before.turns ++ given.turn ∷ [];
         last = given.next;
-        whole = plays_more Stands' set s before.last before.turns i j k o p q e f g before.whole given;
+        whole = plays_more Stands' (Taking nature) s before.last before.turns i j k o p q e f g before.whole given;
         stands = given.stands;
         many = length_push before.turns given.turn ∙ ap (λ n. n + 1) before.many;
       }
 
-  pub played_all : (ended : Result Bool Stop) → ended ≡ Ok true → Plays ended → PlaysAll set s (between i k) (between o q) (between e g)
-  played_all ended is line = plays_all Stands' set s before.last before.turns i j k o p q e f g before.whole (played ended (Ok true) is line)
+  pub played_all : (ended : Result Bool Stop) → ended ≡ Ok true → Plays ended → PlaysAll (Taking nature) s (between i k) (between o q) (between e g)
+  played_all ended is line = plays_all Stands' (Taking nature) s before.last before.turns i j k o p q e f g before.whole (played ended (Ok true) is line)
 
-  pub played_part : (why : Stop) → Plays (Err why) → BreaksOff set s why (between i k) (between o q) (between e g)
-  played_part why line = plays_part Stands' set s before.last before.turns i j k o p q e f g before.whole why (played (Err why) (Err why) refl line)
+  pub played_part : (why : Stop) → Plays (Err why) → BreaksOff (Taking nature) s why (between i k) (between o q) (between e g)
+  played_part why line = plays_part Stands' (Taking nature) s before.last before.turns i j k o p q e f g before.whole why (played (Err why) (Err why) refl line)
 
 -- what standard error has failed
 pub keeps_after : (why : Stop) (e f g : Account) → f.failures ≡ e.failures → KeepsRoom {T = Bool} (Err why) (between f g) → KeepsRoom {T = Bool} (Err why) (between e g)
@@ -146,19 +145,19 @@ keeps_after (stop.Refused why) e f g same kept = kept ∙ same
 keeps_after stop.Unsaid e f g same kept = tt
 
 -- a line that the node was given, and what was written for it
-module _ (Stands : NodeState → Type 0) (set : Setting) (s next : NodeState) (last : Bool) (line text answer note : List ℕ) (inputs outputs said : Stream)
-    (given : GaveLine last inputs.before.bytes inputs.after.bytes text) (same : line ≡ text) (takes : Takes set s line answer note next) (stands : Stands next) where
-  pub given_line : (ended : Result Bool Stop) → Writes answer note ended outputs said → IsGivenLine Stands set s last ended inputs outputs said
+module _ {S : Type 0} (Stands : S → Type 0) (Takes : S → List ℕ → List ℕ → List ℕ → S → Type 0) (s next : S) (last : Bool) (line text answer note : List ℕ) (inputs outputs said : Stream)
+    (given : GaveLine last inputs.before.bytes inputs.after.bytes text) (same : line ≡ text) (takes : Takes s line answer note next) (stands : Stands next) where
+  pub given_line : (ended : Result Bool Stop) → Writes answer note ended outputs said → IsGivenLine Stands Takes s last ended inputs outputs said
   given_line ended writes = record {
     turn = record { line = text; answer = answer; note = note };
     next = next;
     given = given;
-    takes = subst (λ l. Takes set s l answer note next) same takes;
+    takes = subst (λ l. Takes s l answer note next) same takes;
     stands = stands;
     writes = writes;
   }
 
-  pub breaks_line : (T : Type 0) (why : Stop) → Writes {T = T} answer note (Err why) outputs said → BreaksAt Stands set s why inputs outputs said
+  pub breaks_line : (T : Type 0) (why : Stop) → Writes {T = T} answer note (Err why) outputs said → BreaksAt Stands Takes s why inputs outputs said
   breaks_line T (stop.Refused refused.Usage) writes = absurd writes
   breaks_line T (stop.Refused (refused.Unreadable input cause)) writes = absurd writes
   breaks_line T (stop.Refused refused.UnknownNode) writes = absurd writes
@@ -169,10 +168,10 @@ module _ (Stands : NodeState → Type 0) (set : Setting) (s next : NodeState) (l
   breaks_line T stop.Unsaid writes = (last, given_line (Err stop.Unsaid) writes)
 
 -- there were as many lines as are taken at most
-pub played_most : (Stands : NodeState → Type 0) (set : Setting) (s : NodeState) (i j o p e f : Account) (why : Refused)
-    → HasPlayed Stands set s (2 ^ 64 - 1) (between i j) (between o p) (between e f) → why ≡ refused.Unreadable input.Lines error.OverLimit
-    → BreaksOff set s (stop.Refused why) (between i j) (between o p) (between e f)
-played_most Stands set s i j o p e f why before is = record {
+pub played_most : {S : Type 0} (Stands : S → Type 0) (Takes : S → List ℕ → List ℕ → List ℕ → S → Type 0) (s : S) (i j o p e f : Account) (why : Refused)
+    → HasPlayed Stands Takes s (2 ^ 64 - 1) (between i j) (between o p) (between e f) → why ≡ refused.Unreadable input.Lines error.OverLimit
+    → BreaksOff Takes s (stop.Refused why) (between i j) (between o p) (between e f)
+played_most Stands Takes s i j o p e f why before is = record {
   turns = before.turns;
   between = before.last;
   read = j;

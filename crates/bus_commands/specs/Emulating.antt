@@ -1,11 +1,11 @@
 -- What the end of `emulate` says of what it read and wrote.
-use Rattle.std.{specs.Prelude.{◌≡◌, ◌≢◌, ◌⊎◌, ℕ, Bool, List, Result, Ok, Err, Some, ⊤}, specs.Io.KnownBytes.{Appends}}
+use Rattle.std.{specs.Prelude.{◌≡◌, ◌≢◌, ◌⊎◌, ℕ, List, Result, Ok, Err, Some, ⊤}, specs.Io.KnownBytes.{Appends}}
 use Rattle.command_answers.{specs.Answers.{AreGiven, AreUnread, BreaksOff, IsFaultText, Refuses, Stream}, specs.Naming.{IsFirstNamed}, specs.declared.refused.Refused.{Refused}, specs.declared.status.Status.{Status}}
 use Rattle.emulated_node.specs.Nodes.{NodeState, Setting}
 use Rattle.net_plan.specs.Stream.{Account}
 use Rattle.plan_values.{specs.declared.certificate.Certificate.{Certificate}, specs.declared.plan.Plan.{Plan}}
 use Rattle.net_rules.{specs.Names.{name_of}, specs.Rules.{Accepts}}
-use Rattle.bus_commands.{specs.Playing.{IsUnwritten, PlaysLines}, specs.Starting.{IsStart}, specs.declared.playing.Stop.{Stop}}
+use Rattle.bus_commands.{specs.Playing.{IsUnwritten, PlaysLines}, specs.Starting.{IsStart}, specs.Turns.{Takes}, specs.declared.playing.Stop.{Stop}}
 use Rattle.command_questions.specs.declared.emulation.Emulation.{Emulation}
 use Rattle.command_answers.specs.declared.refused.Refused.TheVariants as refused
 use Rattle.command_answers.specs.declared.status.Status.TheVariants as status
@@ -22,11 +22,11 @@ IsLacking (Err (stop.Refused refused.NoMemory)) = ⊤
 IsLacking (Err _) = ⊥
 
 -- The planned node n is given the lines from its start on; or memory lacks for it.
-abbrev pub AnswersNode : {T : Type 0} → Bool → Plan → Certificate → ℕ → Result T Stop
+abbrev pub AnswersNode : {T : Type 0} → Emulation → Plan → Certificate → ℕ → Result T Stop
     → (inputs outputs said : Stream) → Type 0
-AnswersNode is_configured plan cert n ended inputs outputs said =
-    ((set : Setting) × (s : NodeState) × IsStart is_configured plan cert n set s
-    × PlaysLines set s ended inputs outputs said)
+AnswersNode emulation plan cert n ended inputs outputs said =
+    ((set : Setting) × (s : NodeState) × IsStart emulation.is_configured plan cert n set s
+    × PlaysLines (Takes emulation.form set) s ended inputs outputs said)
     ⊎ (IsLacking ended × IsUntouched inputs outputs said)
 
 -- n is the first node of the name, every rule holds of the plan and its certificate, and n is given the lines
@@ -35,7 +35,7 @@ pub record Emulates {T : Type 0} (emulation : Emulation) (plan : Plan) (cert : C
   pub node : ℕ
   pub named : IsFirstNamed plan emulation.node.now node
   pub accepted : Accepts plan cert
-  pub answers : AnswersNode emulation.is_configured plan cert node ended inputs outputs said
+  pub answers : AnswersNode emulation plan cert node ended inputs outputs said
 
 -- The plan has a node of the name, and the line of the first fault was written.
 pub record TellsFault (emulation : Emulation) (plan : Plan) (cert : Certificate)

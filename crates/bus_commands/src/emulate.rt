@@ -4,6 +4,7 @@ ghost use Rattle.command_answers.{specs.Answers.{stream, IsWithoutPlan, AreWitho
 ghost use Rattle.net_plan.specs.Stream.{HasRoom};
 ghost use Rattle.bus_commands.{specs.Emulating.{AnswersEmulation, AnswersNode, AnswersOn, EndsEmulation}, specs.Playing.{KeepsRoom}};
 
+use crate::player::NodePlayer;
 use crate::playing::{Stop, play_lines};
 use crate::start::start;
 use command_answers::{Refused, Status, fault_answer, first_named, give, read_inputs, refuse};
@@ -16,8 +17,9 @@ use std::alloc::Global;
 /// Emulates a node of a plan where the certificate fits the plan, or tells the fault there.
 ///
 /// `packets` gives lines: the name of a bus, a blank, and in hex a packet that comes to the node over that bus. What
-/// the node sends is written on `output` as such lines, for each line before the next one is read. On `errors` a line
-/// that begins with `#` says of what nothing comes, and why. Where a file can't be read, or then where the plan has no
+/// the node sends is written on `output` as such lines, for each line before the next one is read. Where the question
+/// asks for it, the physical address to which a packet is sent stands behind the bus, in hex, or a line `.` behind what
+/// is sent for each line that isn't empty. On `errors` a line that begins with `#` says of what nothing comes, and why. Where a file can't be read, or then where the plan has no
 /// node of the name, says so on `errors`, and reads no packets.
 pub fn run_emulate<P: Source, C: Source, I: Source, O: Sink, E: Sink>(
     alloc: Global,
@@ -114,15 +116,7 @@ fn answer_on<I: Source, O: Sink, E: Sink>(
     };
     match check(alloc, plan, certificate) {
         Ok(checked) => {
-            emulate(
-                alloc,
-                &checked,
-                node,
-                emulation.is_configured,
-                packets,
-                output,
-                errors,
-            )?;
+            emulate(alloc, &checked, node, emulation, packets, output, errors)?;
             Ok(Status::Yes)
         }
         Err(error) => {
@@ -138,7 +132,7 @@ fn emulate<I: Source, O: Sink, E: Sink>(
     alloc: Global,
     checked: &Checked,
     node: usize,
-    is_configured: bool,
+    emulation: &Emulation,
     packets: &mut I,
     output: &mut O,
     errors: &mut E,
@@ -147,20 +141,19 @@ fn emulate<I: Source, O: Sink, E: Sink>(
     requires packets { HasRoom (I.account packets.old) }
     requires output { HasRoom (O.account output.old) }
     requires errors { HasRoom (E.account errors.old) }
-    ensures plays { AnswersNode is_configured checked.now.0 checked.now.1 node result (stream I.account packets.old packets.new)
+    ensures plays { AnswersNode emulation.now checked.now.0 checked.now.1 node result (stream I.account packets.old packets.new)
         (stream O.account output.old output.new) (stream E.account errors.old errors.new) }
     ensures noted { KeepsRoom result (stream E.account errors.old errors.new) }
 {
-    match start(alloc, checked, node, is_configured) {
-        Ok(mut emulated) => play_lines(
-            alloc,
-            checked.plan(),
-            node,
-            &mut emulated,
-            packets,
-            output,
-            errors,
-        ),
+    match start(alloc, checked, node, emulation.is_configured) {
+        Ok(emulated) => {
+            let mut player = NodePlayer {
+                alloc,
+                form: emulation.form,
+                emulated,
+            };
+            play_lines(alloc, &mut player, packets, output, errors)
+        }
         // no memory: `start` has no other error.
         Err(_) => Err(Stop::Refused(Refused::NoMemory)),
     }

@@ -8,10 +8,11 @@ mod emulate;
 mod hops;
 mod line;
 mod lines;
+mod player;
 mod playing;
 mod start;
 mod turn;
 
 pub use capture::run_capture;
-pub use command_questions::Emulation;
+pub use command_questions::{Emulation, LineForm};
 pub use emulate::run_emulate;

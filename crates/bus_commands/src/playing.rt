@@ -1,17 +1,14 @@
-//! Lines that a node is given, one after another, and what is written for each.
+//! Lines that are taken one after another, and what is written for each.
 ghost use Rattle.std.specs.Prelude.{◌≡◌, OnOk, string_bytes};
 ghost use Rattle.command_answers.specs.Answers.{stream};
-ghost use Rattle.emulated_node.{specs.Nodes.{NodeState}, specs.Standing.{HasNodeState, setting_of}};
 ghost use Rattle.net_plan.specs.Stream.{HasRoom};
 ghost use Rattle.bus_commands.specs.Playing.{KeepsRoom, PlaysLine, PlaysLines, Writes};
 
 use crate::lines::next_line;
-use crate::turn::{Turn, take_line};
+use crate::player::Player;
+use crate::turn::Turn;
 use command_answers::{Input, Refused};
-use emulated_node::Emulated;
 use net_plan::{PlanError, Sink, Source, write_whole};
-use pdr_repository::Terminus;
-use plan_values::Plan;
 use std::alloc::Global;
 
 /// Why no more lines are taken.
@@ -34,29 +31,25 @@ impl From<Refused> for Stop {
     }
 }
 
-/// Gives a node of a plan the lines of a source to its end. What is written for a line is written before the next one
+/// Gives a player the lines of a source to its end. What is written for a line is written before the next one
 /// is read.
-pub fn play_lines<T: Terminus, I: Source, O: Sink, E: Sink>(
+pub fn play_lines<P: Player, I: Source, O: Sink, E: Sink>(
     alloc: Global,
-    plan: &Plan,
-    node: usize,
-    emulated: &mut Emulated<T>,
+    player: &mut P,
     packets: &mut I,
     output: &mut O,
     errors: &mut E,
 ) -> Result<(), Stop>
-    requires plan { (setting_of emulated.old).plan ≡ plan.now }
-    requires node { (setting_of emulated.old).node ≡ node }
     requires packets { HasRoom (I.account packets.old) }
     requires output { HasRoom (O.account output.old) }
     requires errors { HasRoom (E.account errors.old) }
-    ensures plays { (s : NodeState) → HasNodeState T.tid T.records emulated.old s
-        → PlaysLines (setting_of emulated.old) s result (stream I.account packets.old packets.new) (stream O.account output.old output.new)
+    ensures plays { (s : P.State) → P.stands player.old s
+        → PlaysLines (P.takes (P.nature player.old)) s result (stream I.account packets.old packets.new) (stream O.account output.old output.new)
         (stream E.account errors.old errors.new) }
     ensures noted { KeepsRoom result (stream E.account errors.old errors.new) }
 {
     for _ in 0..u64::MAX {
-        let is_last = play_line(alloc, plan, node, emulated, packets, output, errors)?;
+        let is_last = play_line(alloc, player, packets, output, errors)?;
         if is_last {
             return Ok(());
         }
@@ -64,24 +57,20 @@ pub fn play_lines<T: Terminus, I: Source, O: Sink, E: Sink>(
     Err(Stop::Refused(Refused::at_input(Input::Lines, PlanError::OverLimit)))
 }
 
-/// Gives a node the next line of a source, and says whether it was the last one.
-fn play_line<T: Terminus, I: Source, O: Sink, E: Sink>(
+/// Gives a player the next line of a source, and says whether it was the last one.
+fn play_line<P: Player, I: Source, O: Sink, E: Sink>(
     alloc: Global,
-    plan: &Plan,
-    node: usize,
-    emulated: &mut Emulated<T>,
+    player: &mut P,
     packets: &mut I,
     output: &mut O,
     errors: &mut E,
 ) -> Result<bool, Stop>
-    requires plan { (setting_of emulated.old).plan ≡ plan.now }
-    requires node { (setting_of emulated.old).node ≡ node }
     requires packets { HasRoom (I.account packets.old) }
     requires output { HasRoom (O.account output.old) }
     requires errors { HasRoom (E.account errors.old) }
-    ensures setting { setting_of emulated.new ≡ setting_of emulated.old }
-    ensures plays { (s : NodeState) → HasNodeState T.tid T.records emulated.old s
-        → PlaysLine (HasNodeState T.tid T.records emulated.new) (setting_of emulated.old) s result (stream I.account packets.old packets.new)
+    ensures same { P.nature player.new ≡ P.nature player.old }
+    ensures plays { (s : P.State) → P.stands player.old s
+        → PlaysLine (P.stands player.new) (P.takes (P.nature player.old)) s result (stream I.account packets.old packets.new)
         (stream O.account output.old output.new) (stream E.account errors.old errors.new) }
     ensures read { OnOk result ((I.account packets.new).failures ≡ (I.account packets.old).failures) }
     ensures written { OnOk result ((O.account output.new).failures ≡ (O.account output.old).failures) }
@@ -94,12 +83,12 @@ fn play_line<T: Terminus, I: Source, O: Sink, E: Sink>(
             return Err(Stop::Refused(refused));
         }
     };
-    match take_line(alloc, plan, node, emulated, &line.text) {
+    match player.take(&line.text) {
         Ok(turn) => {
             write_turn(&turn, output, errors)?;
             Ok(line.is_last)
         }
-        // no memory: `take_line` has no other error.
+        // no memory: `take` has no other error.
         Err(_) => Err(Stop::Refused(Refused::NoMemory)),
     }
 }

@@ -3,8 +3,8 @@ use clap::error::ErrorKind;
 use clap::{Arg, ArgAction, ArgMatches};
 use command_answers::{Refused, Status, eid_of_word};
 use command_questions::{
-    CertifiedJson, DrawnRows, Emulation, Export, ExportKind, Flights, Form, MakeFiles, PartSize,
-    PlanJson, PlanQuestion, Question, ShownKind, WalkScript, WordQuestion,
+    CertifiedJson, DrawnRows, Emulation, Export, ExportKind, Flights, Form, LineForm, MakeFiles,
+    PartSize, PlanJson, PlanQuestion, Question, ShownKind, WalkScript, WordQuestion,
 };
 use plan_exports::Link;
 use program_texts::{GUIDE, guide_to, schema_of, text_of};
@@ -303,8 +303,10 @@ const JSON: &str = "json";
 const SARIF: &str = "sarif";
 
 /// The options that never have a value.
-static FLAGS: [(&str, &str); 8] = [
+static FLAGS: [(&str, &str); 10] = [
+    ("emulate", "addresses"),
     ("emulate", "configured"),
+    ("emulate", "end"),
     ("explain", JSON),
     ("faults", JSON),
     ("faults", SARIF),
@@ -650,6 +652,10 @@ fn emulating<'a>(arguments: &ArgMatches<'a>) -> Option<Subcommand<'a>> {
         emulation: Emulation {
             node: arguments.get_str("node")?,
             is_configured: arguments.get_flag("configured"),
+            form: LineForm {
+                is_addressed: arguments.get_flag("addresses"),
+                has_ends: arguments.get_flag("end"),
+            },
         },
         plan,
         certificate,

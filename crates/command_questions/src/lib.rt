@@ -17,7 +17,7 @@ mod words;
 
 pub use certified::{CertifiedJson, Question};
 pub use drawn_rows::DrawnRows;
-pub use emulation::Emulation;
+pub use emulation::{Emulation, LineForm};
 pub use exports::{Export, ExportKind};
 pub use flights::Flights;
 pub use form::Form;

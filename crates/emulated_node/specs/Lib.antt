@@ -6,3 +6,8 @@ pub mod Replying
 pub mod Heard
 pub mod Receiving
 pub mod Standing
+pub mod Ways
+pub mod Unread
+pub mod Networks
+pub mod Emulating
+pub mod Emulations

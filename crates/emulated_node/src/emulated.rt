@@ -7,9 +7,10 @@ use crate::hearing::hear_over;
 use crate::received::{Reason, Received};
 use crate::replying::reply;
 use crate::sending::packet_bytes;
+use crate::way::{Way, row_way, way_or_back};
 use mctp_control::{Device, RouteEntry};
 use mctp_routing::{Decision, DeviceKind, Hop, RangeTable};
-use mctp_transport::{Assembler, Heard, PacketView, idle_assemblers};
+use mctp_transport::{Assembler, Eid, Heard, PacketView, idle_assemblers};
 use net_tables::lookup::bus_at;
 use pdr_repository::Terminus;
 use plan_values::Plan;
@@ -40,7 +41,7 @@ impl<'a, T: Terminus> Emulated<'a, T> {
     ghost use Rattle.std.specs.Prelude.{IfOk, option_map};
     ghost use Rattle.mctp_control.{specs.Devices.{device_value}, specs.EntryLists.{values_of}};
     ghost use Rattle.mctp_transport.specs.Packets.{packet_value_of};
-    ghost use Rattle.emulated_node.{specs.Nodes.{NodeState}, specs.ReceivedValues.{received_value}, specs.Receiving.{IsForNode, IsSentOn, Receives}, specs.Standing.{HasNodeState, setting_of, at_start}, specs.Termini.{terminus_value}};
+    ghost use Rattle.emulated_node.{specs.Nodes.{NodeState}, specs.ReceivedValues.{received_value}, specs.Receiving.{IsForNode, IsSentOn, Receives}, specs.Standing.{HasNodeState, setting_of, at_start}, specs.Termini.{terminus_value}, specs.Ways.{way_of}};
 
     /// A node to which no packet has come yet, with its routing table, the entries that tell it, its device and its
     /// terminus.
@@ -91,6 +92,29 @@ impl<'a, T: Terminus> Emulated<'a, T> {
             }
             Decision::Drop(why) => Ok(Received::Dropped(Reason::ForwardFault(why))),
         }
+    }
+
+    /// The plan of the node.
+    pub fn plan(&self) -> &'a Plan
+        ensures { result.now ≡ (setting_of self.now).plan }
+    {
+        self.plan
+    }
+
+    /// The index of the node in the plan's list.
+    pub fn node(&self) -> usize
+        ensures { result ≡ (setting_of self.now).node }
+    {
+        self.node
+    }
+
+    /// Where a packet to `destination` goes that the node sends for one to `asked`, which came over the bus.
+    pub fn way(&self, over: usize, asked: Eid, destination: Eid) -> Way
+        ensures { let set = setting_of self.now in
+            result ≡ way_of set.plan set.node set.rows over asked.value destination.value }
+    {
+        let way = row_way(self.plan, self.node, self.table.rows(), destination);
+        way_or_back(over, asked, way)
     }
 
     /// Sends a packet on.

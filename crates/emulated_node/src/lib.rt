@@ -3,11 +3,17 @@
 
 mod deciding;
 mod emulated;
+mod handled;
 mod hearing;
+mod network;
 mod received;
 mod replying;
 mod responding;
 mod sending;
+mod way;
 
 pub use emulated::Emulated;
+pub use handled::{Handled, SentPacket};
+pub use network::{EmulatedNetwork, Spread, destination_of};
 pub use received::{Reason, Received};
+pub use way::{Way, is_at};

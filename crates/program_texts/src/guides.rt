@@ -40,7 +40,7 @@ show record HEX              what the bytes of a platform descriptor record are
 decode CAPTURE [PLAN]        what was captured of a bus: each packet, and what its message says
 audit PLAN CERT CAPTURE [--bus BUS]
                              what captured devices said, laid beside the plan
-emulate PLAN CERT NODE [--configured]
+emulate PLAN CERT NODE [--configured] [--addresses] [--end]
                              a planned node that answers packets, line by line
 capture PLAN CERT EVENTS     what comes of events in the planned network, as a capture file
 report PLAN [CERT]           a page about the plan for a review, in HTML
@@ -700,7 +700,7 @@ tell a difference.
   audit differs 1: 2 of 4 nodes, 10 packets, 0 refused
 "#;
 
-const OF_EMULATE: &str = r#"mctpplan emulate PLAN CERT NODE [--configured]
+const OF_EMULATE: &str = r#"mctpplan emulate PLAN CERT NODE [--configured] [--addresses] [--end]
 
 Reads a line a packet from standard input, the name of a bus and the packet in hex, and prints what
 the node sends for it, in lines of the same form, before it reads the next one. The node answers
@@ -708,6 +708,11 @@ control messages with its planned routing table and requests for records with it
 and a bridge sends on what is for others by its rows. With --configured it has its endpoint ID and
 its pool from the start; otherwise they are given to it, as assign does. On standard error a line
 that begins with # says of a line that is passed over, or of a packet that is dropped, why.
+
+With --addresses the physical address to which a packet is sent stands behind the bus, in hex. A
+packet to an address that isn't the node's changes nothing. What the node sends goes to the next
+node of its row for the destination. With --end a line . stands behind what is sent for each line
+that isn't empty.
 
 Status 0: standard input has ended.
 Status 1: a fault of the plan or the certificate.
@@ -717,6 +722,11 @@ the lines before it are answered.
   $ echo "b1 011110c8008002" | \
         mctpplan emulate examples/riser/plan.json examples/riser/certificate.json nic --configured
   b1 011011c000000200110000
+  $ printf 'b1 30 011110c8008002\nb1 32 011210c8008002\n' | \
+        mctpplan emulate examples/riser/plan.json examples/riser/certificate.json nic --configured --addresses --end
+  b1 22 011011c000000200110000
+  .
+  .
 "#;
 
 const OF_CAPTURE: &str = r#"mctpplan capture PLAN CERT EVENTS

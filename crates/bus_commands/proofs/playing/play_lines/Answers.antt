@@ -1,12 +1,11 @@
 use Rattle.std.proofs.Common.{rules, ◌≡◌, ◌∙◌, Ok, Err, refl, ap, subst, arith, ◌^◌, ◌-◌}
-use Rattle.emulated_node.specs.Standing.{HasNodeState, setting_of}
 use Rattle.bus_commands.proofs.LinesPlayed.{HasPlayed, between, played_none, played_more, played_all, played_part, played_most, keeps_after}
 use Rattle.bus_commands.proofs.playing.play_lines.Goals as goal
 
 pub loop-init : goal.loop-init
 loop-init g c = (
   refl,
-  λ s stands. played_none (HasNodeState g.T.Terminus.tid g.T.Terminus.records c.args.emulated.now) (setting_of c.args.emulated.now) s
+  λ s stands. played_none (g.P.Player.stands c.args.player.now) (g.P.Player.takes (g.P.Player.nature c.args.player.now)) s
       (g.I.Source.account c.args.packets.now) (g.O.Sink.account c.args.output.now) (g.E.Sink.account c.args.errors.now) stands,
   refl,
   refl,
@@ -17,9 +16,9 @@ pub loop-preserved : goal.loop-preserved
 loop-preserved g c =
     let l = c.loop in
     let went = c.in_ok-is_last.ensures in
-    let Stands = HasNodeState g.T.Terminus.tid g.T.Terminus.records in (
-      went.setting ∙ l.invariant.0,
-      λ s stands. played_more (Stands l.emulated) (Stands c.play_line.new.emulated) (setting_of c.args.emulated.now) (setting_of l.emulated) l.invariant.0 s l.counter
+    let Stands = g.P.Player.stands in (
+      went.same ∙ l.invariant.0,
+      λ s stands. played_more (Stands l.player) (Stands c.play_line.new.player) g.P.Player.takes (g.P.Player.nature c.args.player.now) (g.P.Player.nature l.player) l.invariant.0 s l.counter
           (g.I.Source.account c.args.packets.now) (g.I.Source.account l.packets) (g.I.Source.account c.play_line.new.packets)
           (g.O.Sink.account c.args.output.now) (g.O.Sink.account l.output) (g.O.Sink.account c.play_line.new.output)
           (g.E.Sink.account c.args.errors.now) (g.E.Sink.account l.errors) (g.E.Sink.account c.play_line.new.errors)
@@ -33,8 +32,8 @@ pub returns-then-is_last-clause-plays : goal.returns-then-is_last-clause-plays
 returns-then-is_last-clause-plays g c =
     let l = c.loop in
     let went = c.in_ok-is_last.ensures in
-    let Stands = HasNodeState g.T.Terminus.tid g.T.Terminus.records in
-    λ s stands. played_all (Stands l.emulated) (Stands c.play_line.new.emulated) (setting_of c.args.emulated.now) (setting_of l.emulated) l.invariant.0 s l.counter
+    let Stands = g.P.Player.stands in
+    λ s stands. played_all (Stands l.player) (Stands c.play_line.new.player) g.P.Player.takes (g.P.Player.nature c.args.player.now) (g.P.Player.nature l.player) l.invariant.0 s l.counter
     (g.I.Source.account c.args.packets.now) (g.I.Source.account l.packets) (g.I.Source.account c.play_line.new.packets)
     (g.O.Sink.account c.args.output.now) (g.O.Sink.account l.output) (g.O.Sink.account c.play_line.new.output)
     (g.E.Sink.account c.args.errors.now) (g.E.Sink.account l.errors) (g.E.Sink.account c.play_line.new.errors)
@@ -48,8 +47,8 @@ returns-in_err-is_last-clause-plays g c =
     let l = c.loop in
     let failed = c.in_err-is_last in
     let ended : c.from_residual.result ≡ Err failed.field-0.0 = search rules in
-    let Stands = HasNodeState g.T.Terminus.tid g.T.Terminus.records in
-    rw ended (λ s stands. played_part (Stands l.emulated) (Stands c.play_line.new.emulated) (setting_of c.args.emulated.now) (setting_of l.emulated) l.invariant.0 s l.counter
+    let Stands = g.P.Player.stands in
+    rw ended (λ s stands. played_part (Stands l.player) (Stands c.play_line.new.player) g.P.Player.takes (g.P.Player.nature c.args.player.now) (g.P.Player.nature l.player) l.invariant.0 s l.counter
     (g.I.Source.account c.args.packets.now) (g.I.Source.account l.packets) (g.I.Source.account c.play_line.new.packets)
     (g.O.Sink.account c.args.output.now) (g.O.Sink.account l.output) (g.O.Sink.account c.play_line.new.output)
     (g.E.Sink.account c.args.errors.now) (g.E.Sink.account l.errors) (g.E.Sink.account c.play_line.new.errors)
@@ -64,12 +63,12 @@ returns-in_err-is_last-clause-noted g c =
 pub returns-clause-plays : goal.returns-clause-plays
 returns-clause-plays g c =
     let l = c.loop in
-    let Stands = HasNodeState g.T.Terminus.tid g.T.Terminus.records in
+    let Stands = g.P.Player.stands in
     let many : l.counter ≡ 2 ^ 64 - 1 = omega (arith, c.loop-test.false, l.auto.counter-end) in
-    λ s stands. played_most (Stands l.emulated) (setting_of c.args.emulated.now) s
+    λ s stands. played_most (Stands l.player) (g.P.Player.takes (g.P.Player.nature c.args.player.now)) s
     (g.I.Source.account c.args.packets.now) (g.I.Source.account l.packets) (g.O.Sink.account c.args.output.now) (g.O.Sink.account l.output)
     (g.E.Sink.account c.args.errors.now) (g.E.Sink.account l.errors) c.at_input.result
-    (subst (λ n. HasPlayed (Stands l.emulated) (setting_of c.args.emulated.now) s n (between (g.I.Source.account c.args.packets.now) (g.I.Source.account l.packets))
+    (subst (λ n. HasPlayed (Stands l.player) (g.P.Player.takes (g.P.Player.nature c.args.player.now)) s n (between (g.I.Source.account c.args.packets.now) (g.I.Source.account l.packets))
     (between (g.O.Sink.account c.args.output.now) (g.O.Sink.account l.output)) (between (g.E.Sink.account c.args.errors.now) (g.E.Sink.account l.errors))) many (l.invariant.1 s stands))
     c.at_input.ensures
 
