@@ -18,7 +18,14 @@ pub fn findings_of_plan(alloc: Global, name: &str, given: &PlanText) -> Result<S
 {
     let findings = lint(alloc, &given.plan)?;
     let noter = FindingNoter { plan: &given.plan };
-    let results = notes_of(alloc, Form::Json, name, given.text.as_slice(), &noter, &findings)?;
+    let results = notes_of(
+        alloc,
+        Form::Json,
+        name,
+        given.text.as_slice(),
+        &noter,
+        &findings,
+    )?;
     Ok(report(alloc, Form::Json, "lint", status_of(&findings), results)?)
 }
 
