@@ -1,6 +1,6 @@
 -- The last item that passes.
-use Rattle.std.{proofs.Common.{◌≡◌, ℕ, ◌<◌, ◌≤◌, ◌+◌, ◌-◌, Bool, true, false, List, [], ◌∷◌, ◌++◌, refl, ap, sym, ◌∙◌, subst, arith, length, map, take, get_or}, specs.Prelude.{Option, None, Some, if◌then◌else◌, option_to_list}, specs.Option.{option_or}}
-use Rattle.audited_captures.{specs.Words.{word_value}, specs.declared.words.Word.{Word}, specs.Exchanges.{last_that, ExchangeValue, exchange_of, AreExchanges, More}, proofs.WordLaws.{mapped_more}}
+use Rattle.std.{proofs.Common.{◌≡◌, ℕ, ◌<◌, ◌≤◌, ◌+◌, ◌-◌, Bool, true, false, List, [], ◌∷◌, ◌++◌, inl, inr, refl, ap, sym, ◌∙◌, subst, arith, length, map, take, get_or}, specs.Prelude.{Option, None, Some, if◌then◌else◌, option_to_list}, specs.Option.{option_or}, proofs.lemmas.Option.{same_Some}}
+use Rattle.audited_captures.{specs.AsPlanned.{IsAmong}, specs.Words.{word_value}, specs.declared.words.Word.{Word}, specs.Exchanges.{last_that, ExchangeValue, exchange_of, AreExchanges, More}, proofs.WordLaws.{mapped_more}}
 
 or_assoc : {A : Type 0} (a b c : Option A) → option_or (option_or a b) c ≡ option_or a (option_or b c)
 or_assoc None b c = refl
@@ -35,6 +35,34 @@ pub last_fails : {A B : Type 0} (f : A → B) (test : B → Bool) (items : List 
     → test (f item) ≡ false → last_that test (map f (take at items)) ≡ last_that test (map f (take (at - 1) items))
 last_fails f test items at item some within is fails =
     last_before f test items at item some within is ∙ ap (λ b. option_or (if b then Some (f item) else None) (last_that test (map f (take (at - 1) items)))) fails
+
+-- what is found is among the items, and passes
+pub last_among : {A : Type 0} (test : A → Bool) (xs : List A) (x : A) → last_that test xs ≡ Some x → IsAmong x xs × (test x ≡ true)
+last_among test [] x is = absurd (cc)
+last_among {A} test (y ∷ ys) x is = by (last_that test ys) refl is
+  where
+    here : (b : Bool) → test y ≡ b → (if b then Some y else None) ≡ Some x → IsAmong x (y ∷ ys) × (test x ≡ true)
+    here true passes so = (let same = same_Some y x so in (inl same, ap test (sym same) ∙ passes))
+    here false fails so = absurd (cc)
+
+    by : (o : Option A) → last_that test ys ≡ o → option_or o (if test y then Some y else None) ≡ Some x → IsAmong x (y ∷ ys) × (test x ≡ true)
+    by None none so = here (test y) refl so
+    by (Some z) found so =
+        let later = last_among test ys z found in
+        let same = same_Some z x so in
+        (inr (subst (λ (u : A). IsAmong u ys) same later.0), ap test (sym same) ∙ later.1)
+
+-- where an item passes, one is found
+pub last_passing : {A : Type 0} (test : A → Bool) (xs : List A) (x : A) → IsAmong x xs → test x ≡ true → last_that test xs ≡ None → ⊥
+last_passing test [] x among passes is = among
+last_passing {A} test (y ∷ ys) x among passes is = by (last_that test ys) refl is among
+  where
+    by : (o : Option A) → last_that test ys ≡ o → option_or o (if test y then Some y else None) ≡ None → IsAmong x (y ∷ ys) → ⊥
+    by (Some z) found so there = cc
+    by None none so (inr later) = last_passing test ys x later passes none
+    by None none so (inl same) =
+        let first : (if test y then Some y else None) ≡ Some y = ap (λ (b : Bool). if b then Some y else None) (ap test same ∙ passes) in
+        let bad : Some y ≡ None = sym first ∙ so in cc
 
 -- the next word of a list
 pub next_exchange : (items : List Word) (i : ℕ) (item : Word) (old new : List ExchangeValue) → i < length items → item ≡ get_or items i item

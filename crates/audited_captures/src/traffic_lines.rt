@@ -120,7 +120,7 @@ fn packets_text(
 }
 
 /// An endpoint ID by the node that holds it, or by its number.
-fn name_of(alloc: Global, plan: &Plan, eid: Eid) -> Result<String, AllocError>
+pub fn name_of(alloc: Global, plan: &Plan, eid: Eid) -> Result<String, AllocError>
     ensures { IfOk result (λ text. IsNameOf plan.now eid.value (string_bytes text)) }
 {
     match holder(plan, eid) {
