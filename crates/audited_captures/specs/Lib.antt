@@ -21,6 +21,7 @@ pub mod RefusalSteps
 pub mod Sums
 pub mod PacketSteps
 pub mod Counts
+pub mod Names
 pub mod Traffic
 pub mod Judging
 pub mod TrafficLines

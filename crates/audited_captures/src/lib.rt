@@ -9,6 +9,7 @@ mod failures;
 mod identities;
 mod laws;
 mod lines;
+mod names;
 mod packets;
 mod places;
 mod readings;

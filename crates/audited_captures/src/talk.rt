@@ -5,7 +5,7 @@ ghost use Rattle.audited_captures.{specs.Lines.{line_value}, specs.Sayings.{sayi
 
 use crate::exchanges::{Likeness, last_concerned, last_like};
 use crate::lines::{Finding, Line};
-use crate::traffic_lines::name_of;
+use crate::names::name_of;
 use crate::words::{Word, misowned};
 use heard_captures::Message;
 use mctp_transport::Eid;
