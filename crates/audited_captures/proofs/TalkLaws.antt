@@ -2,8 +2,7 @@
 use Rattle.std.{proofs.Common.{◌≡◌, ◌⊎◌, ℕ, ◌<◌, ◌+◌, ◌==◌, ◌&&◌, Bool, true, false, not, List, [], ◌∷◌, ◌++◌, length, arith, refl, ap, sym, ◌∙◌, subst, inl, inr, map, take, get_or, append_assoc}, specs.Prelude.{Option, Some, None, if◌then◌else◌}}
 use Rattle.plan_values.specs.declared.plan.Plan.{Plan}
 use Rattle.heard_captures.{specs.Messages.{MessageValue, message_value}, specs.declared.messages.Message.{Message}}
-use Rattle.audited_captures.{specs.AsPlanned.{IsAmong}, specs.Audits.{difference_count, has_compared}, specs.Exchanges.{concerns, is_alike, last_that}, specs.Lines.{LineValue}, specs.Talk.{Saying, AskedAgain, AnsweredAgain, Unasked, asked_saying, answered_saying, saying_by, saying_of, AreLinesBy, AreTalkLines, Empty, More, HasEarlier, AreAllAsked, AreOwnerLinesOf, AreOwnerLines, Also, AreAllOwned}, specs.Words.{WordValue, word_value, is_question, IsNotMisowned}, specs.declared.words.Word.{Word}, proofs.ExchangeLaws.{last_among, last_passing}, proofs.LineLaws.{Quiet, quiet_both, all_quiet, none_compared}, proofs.MatchLaws.{AllDiffer, all_both, zero_left, zero_right, zero_both}, proofs.PacketLaws.{among_left, among_right, among_split}, proofs.WordLaws.{mapped_more}}
-use Rattle.audited_captures.specs.Talk as talk
+use Rattle.audited_captures.{specs.AsPlanned.{IsAmong}, specs.Audits.{difference_count, has_compared}, specs.Exchanges.{concerns, is_alike, last_that}, specs.Lines.{LineValue}, specs.Talk.{Saying, AskedAgain, AnsweredAgain, Unasked, asked_saying, answered_saying, saying_by, saying_of, AreLinesBy, AreTalkLines, Empty, More, HasEarlier, AreAllAsked, AreOwnerLinesOf, AreOwnerLines, Nothing, Also, AreAllOwned}, specs.Words.{WordValue, word_value, is_question, IsNotMisowned}, specs.declared.words.Word.{Word}, proofs.ExchangeLaws.{last_among, last_passing}, proofs.LineLaws.{Quiet, quiet_both, all_quiet, none_compared}, proofs.MatchLaws.{AllDiffer, all_both, zero_left, zero_right, zero_both}, proofs.PacketLaws.{among_left, among_right, among_split}, proofs.WordLaws.{mapped_more}}
 
 -- ---- one word
 
@@ -142,7 +141,7 @@ module _ (plan : Plan) where
   one_differs m ls (inr (w, is, (text, said, told))) = subst AllDiffer (sym told) refl
 
   pub all_owned : {ms : List MessageValue} {ls : List LineValue} → AreOwnerLines plan ms ls → difference_count ls ≡ 0 → AreAllOwned ms
-  all_owned talk.None zero m among = absurd among
+  all_owned Nothing zero m among = absurd among
   all_owned (Also ms ls n more are of_one) zero m among = elim (among_split m ms (n ∷ []) among) [
     | inl before ↦ all_owned are (zero_left ls more zero) m before
     | inr last ↦ elim last [
@@ -152,11 +151,11 @@ module _ (plan : Plan) where
   ]
 
   pub none_misowned : {ms : List MessageValue} {ls : List LineValue} → AreOwnerLines plan ms ls → AreAllOwned ms → difference_count ls ≡ 0
-  none_misowned talk.None owned = refl
+  none_misowned Nothing owned = refl
   none_misowned (Also ms ls n more are of_one) owned =
       zero_both ls more (none_misowned are (λ m among. owned m (among_left m ms (n ∷ []) among)))
       (owned_zero n more of_one (owned n (among_right n ms (n ∷ []) (inl refl))))
 
   pub owners_differ : {ms : List MessageValue} {ls : List LineValue} → AreOwnerLines plan ms ls → AllDiffer ls
-  owners_differ talk.None = refl
+  owners_differ Nothing = refl
   owners_differ (Also ms ls n more are of_one) = all_both ls more (owners_differ are) (one_differs n more of_one)

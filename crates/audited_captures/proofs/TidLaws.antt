@@ -49,13 +49,14 @@ is_failure : (t : Answer) (c : ℕ) (cs : List ℕ) → tid_failure t ≡ c ∷ 
 is_failure (Ok tid) c cs is = absurd (cc)
 is_failure (Err code) c cs is = tt
 
+failure_in : (t : Answer) (ts : List Answer) (c : ℕ) (cs ds : List ℕ) → tid_failure t ≡ ds → ((later : flat_map tid_failure ts ≡ c ∷ cs) → (u : Answer) × IsAmong u ts × IsFailure u)
+    → ds ++ flat_map tid_failure ts ≡ c ∷ cs → (u : Answer) × IsAmong u (t ∷ ts) × IsFailure u
+failure_in t ts c cs [] none later so = (let (u, among, bad) = later so in (u, inr among, bad))
+failure_in t ts c cs (d ∷ ds) some later so = (t, inl refl, is_failure t d ds some)
+
 some_failure : (ts : List Answer) (c : ℕ) (cs : List ℕ) → flat_map tid_failure ts ≡ c ∷ cs → (t : Answer) × IsAmong t ts × IsFailure t
 some_failure [] c cs is = absurd (cc)
-some_failure (t ∷ ts) c cs is = by (tid_failure t) refl is
-  where
-    by : (ds : List ℕ) → tid_failure t ≡ ds → ds ++ flat_map tid_failure ts ≡ c ∷ cs → (u : Answer) × IsAmong u (t ∷ ts) × IsFailure u
-    by [] none so = (let later = some_failure ts c cs so in (later.0, inr later.1, later.2))
-    by (d ∷ ds) some so = (t, inl refl, is_failure t d ds some)
+some_failure (t ∷ ts) c cs is = failure_in t ts c cs (tid_failure t) refl (λ later. some_failure ts c cs later) is
 
 failures_some : (ts : List Answer) (t : Answer) → IsAmong t ts → IsFailure t → (c : ℕ) × (cs : List ℕ) × (flat_map tid_failure ts ≡ c ∷ cs)
 failures_some ts t among bad = by (flat_map tid_failure ts) refl

@@ -1,5 +1,5 @@
 -- One message more.
-use Rattle.std.{proofs.Common.{◌≡◌, ℕ, ◌<◌, ◌+◌, List, [], ◌∷◌, ◌++◌, length, ap, sym, ◌∙◌, subst, get_or, map, take, drop, inl, inr, Bool, not, add-one, suc, zero, ◌≤◌, arith, refl}, specs.Prelude.{Option, Some, None, MatchOption}, proofs.Math.Seq.{drop-cons}, proofs.lemmas.List.{take_more, map-append}}
+use Rattle.std.{proofs.Common.{◌≡◌, ◌⊎◌, ℕ, ◌<◌, ◌+◌, List, [], ◌∷◌, ◌++◌, length, ap, sym, ◌∙◌, subst, get_or, map, take, drop, inl, inr, Bool, not, add-one, suc, zero, ◌≤◌, arith, refl}, specs.Prelude.{Option, Some, None, MatchOption}, proofs.Math.Seq.{drop-cons}, proofs.lemmas.List.{take_more, map-append}}
 use Rattle.heard_captures.{specs.Messages.{MessageValue, message_value}, specs.declared.messages.Message.{Message}}
 use Rattle.audited_captures.{specs.Words.{WordValue, word_value, IsSaid, IsWord, IsNoWord, IsMisowned, IsNotMisowned, AddsWord, AreWords, Other, More}, specs.declared.words.Word.{Word}}
 

@@ -1,5 +1,5 @@
 -- Requests and answers that don't go together as they should.
-use Rattle.std.{specs.Prelude.{◌≡◌, ℕ, ◌==◌, ◌&&◌, Bool, true, false, List, [], ◌∷◌, ◌++◌, codes, Option, None, Some, IsTrue, if◌then◌else◌}, specs.Fmt.{decimal}}
+use Rattle.std.{specs.Prelude.{◌≡◌, ◌⊎◌, ℕ, ◌==◌, ◌&&◌, Bool, true, false, List, [], ◌∷◌, ◌++◌, codes, Option, None, Some, IsTrue, if◌then◌else◌}, specs.Fmt.{decimal}}
 use Rattle.plan_values.specs.declared.plan.Plan.{Plan}
 use Rattle.heard_captures.specs.Messages.{MessageValue}
 use Rattle.audited_captures.{specs.AsPlanned.{IsAmong}, specs.Exchanges.{concerns, is_alike, last_that}, specs.Lines.{LineValue}, specs.Names.{IsNameOf}, specs.Words.{WordValue, is_question, IsMisowned, IsNotMisowned}, specs.declared.lines.Finding.{Finding}, specs.declared.lines.Finding.TheVariants.{Silent, Differs}}
@@ -106,7 +106,7 @@ AreOwnerLinesOf plan m lines =
 
 -- the lines of all such messages, in their order
 pub data AreOwnerLines (plan : Plan) : List MessageValue → List LineValue → Type 0 where
-  None : AreOwnerLines plan [] []
+  Nothing : AreOwnerLines plan [] []
   Also : (ms : List MessageValue) (lines : List LineValue) (m : MessageValue) (more : List LineValue)
       → AreOwnerLines plan ms lines → AreOwnerLinesOf plan m more
       → AreOwnerLines plan (ms ++ m ∷ []) (lines ++ more)

@@ -2,7 +2,7 @@
 use Rattle.std.{specs.Prelude.{◌≡◌, ◌≢◌, ◌⊎◌, ℕ, ◌==◌, ◌||◌, Bool, not, true, false, List, [], ◌∷◌, ◌++◌, codes, Option, None, Some, if◌then◌else◌}, specs.List.{list_any}}
 use Rattle.mctp_control.{specs.RouteEntries.{EntryValue}, specs.Responses.{AnswerValue}}
 use Rattle.plan_values.{specs.NodeValues.{name_bytes}, specs.declared.nodes.Kind.{Kind}, specs.declared.nodes.Node.{Node}, specs.declared.terminus.PlannedTerminus.{PlannedTerminus}}
-use Rattle.audited_captures.{specs.Exchanges.{ExchangeValue}, specs.Identities.{answers_of, tells_eid, tells_pool, size_of}, specs.Lines.{LineValue, difference}, specs.Readings.{ReadingValue, Read, Refused, Unended, parts_of, readings}, specs.Walking.{Walked, Whole, Open, Stopped}}
+use Rattle.audited_captures.{specs.Exchanges.{ExchangeValue}, specs.Identities.{answers_of, tells_eid, tells_pool, size_of}, specs.Lines.{LineValue, difference}, specs.Readings.{PartValue, ReadingValue, Read, Refused, Unended, begun_with, parts_of, readings}, specs.Walking.{Walked, Whole, Open, Stopped}}
 use Rattle.plan_values.specs.declared.nodes.Kind.TheVariants as kind
 
 abbrev pub is_bridge : Kind → Bool
@@ -18,6 +18,11 @@ abbrev pub is_read : ReadingValue → Bool
 is_read (Read entries) = true
 is_read Refused = false
 is_read Unended = false
+
+-- the readings that begin with the first of these parts
+abbrev pub readings_begun : List PartValue → List ReadingValue
+readings_begun [] = []
+readings_begun (p ∷ ps) = begun_with p ps
 
 -- a walk came to its end
 abbrev pub is_whole : Walked → Bool

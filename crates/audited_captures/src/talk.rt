@@ -29,7 +29,9 @@ pub fn talk_lines(alloc: Global, plan: &Plan, words: &[Word]) -> Result<Vec<Line
 {
     let mut lines = Vec::new(alloc);
     for i in 0..words.len() {
-        let mut more = lines_of(alloc, plan, &words[i], saying_of(&words[..i], &words[i]))?;
+        let word = &words[i];
+        let saying = saying_of(&words[..i], word);
+        let mut more = lines_of(alloc, plan, word, saying)?;
         lines.append(&mut more)?;
     }
     Ok(lines)

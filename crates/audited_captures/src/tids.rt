@@ -27,7 +27,7 @@ pub fn tids_of(alloc: Global, words: &[Word], eid: Eid) -> Result<Vec<TidAnswer>
 }
 
 fn add(tids: &mut Vec<TidAnswer>, tid: Option<TidAnswer>) -> Result<(), AllocError>
-    ensures { OnOk result (tid_values tids.new.items ≡ tid_values tids.old.items ++ option_to_list (option_map (outcome_value (λ tid. tid.value)) tid.entry)) }
+    ensures { OnOk result (tid_values tids.new.items ≡ tid_values tids.old.items ++ option_to_list (option_map (outcome_value (λ tid. tid.value)) tid)) }
 {
     match tid {
         Some(tid) => Ok(tids.push(tid)?),

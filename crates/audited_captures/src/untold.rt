@@ -1,7 +1,7 @@
 //! What nodes didn't tell of what the plan has of them.
 ghost use Rattle.std.{specs.Prelude.{◌≡◌, ◌++◌, ◌==◌, ◌||◌, IfOk, OnOk, map, string_bytes}, specs.List.{list_any}};
 ghost use Rattle.plan_values.specs.NodeValues.{name_bytes};
-ghost use Rattle.audited_captures.{specs.Answers.{answer_values}, specs.Exchanges.{exchange_value}, specs.Identities.{size_of, tells_eid, tells_pool}, specs.Lines.{line_value}, specs.Readings.{part_value, readings}, specs.Turns.{reading_value}, specs.Untold.{is_bridge, is_read, is_some, is_whole, tells_records, tells_routes, untold_if, untold_lines, untold_text}, specs.Walks.{walk_value}};
+ghost use Rattle.audited_captures.{specs.Answers.{answer_values}, specs.Exchanges.{exchange_value}, specs.Identities.{size_of, tells_eid, tells_pool}, specs.Lines.{line_value}, specs.Readings.{part_value, readings}, specs.Turns.{reading_value}, specs.Untold.{is_bridge, is_read, is_some, is_whole, readings_begun, tells_records, tells_routes, untold_if, untold_lines, untold_text}, specs.Walks.{walk_value}};
 
 use crate::exchanges::Exchange;
 use crate::identities::{answers_of, size_of, tells_eid, tells_pool};
@@ -90,13 +90,21 @@ fn some_is_read(alloc: Global, parts: &[Part]) -> Result<bool, AllocError>
     ensures { IfOk result (λ is. is ≡ list_any is_read (readings (map part_value parts.now))) }
 {
     for i in 0..parts.len() {
-        let first = &parts[i];
-        if first.handle == 0 && is_read(&read_from_0(alloc, first.requester, from_place(parts, i))?)
-        {
+        if begins_read(alloc, from_place(parts, i))? {
             return Ok(true);
         }
     }
     Ok(false)
+}
+
+/// Whether the first of these parts begins a reading that comes to its end.
+fn begins_read(alloc: Global, parts: &[Part]) -> Result<bool, AllocError>
+    ensures { IfOk result (λ is. is ≡ list_any is_read (readings_begun (map part_value parts.now))) }
+{
+    match parts.first() {
+        Some(first) if first.handle == 0 => Ok(is_read(&read_from_0(alloc, first.requester, parts)?)),
+        Some(_) | None => Ok(false),
+    }
 }
 
 fn is_read(reading: &Reading) -> bool
