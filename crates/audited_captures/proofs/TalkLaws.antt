@@ -6,7 +6,7 @@ use Rattle.audited_captures.{specs.AsPlanned.{IsAmong}, specs.Audits.{difference
 
 -- ---- one word
 
-unasked : Option Saying → Bool
+abbrev pub unasked : Option Saying → Bool
 unasked None = false
 unasked (Some AskedAgain) = false
 unasked (Some AnsweredAgain) = false
@@ -78,7 +78,7 @@ module _ (plan : Plan) where
 
   pub talk_quiet : {ws : List WordValue} {ls : List LineValue} → AreTalkLines plan ws ls → Quiet ls
   talk_quiet Empty zero is = none_compared is
-  talk_quiet (More ws ls w more are of_one) = quiet_both ls more (talk_quiet are) (quiet_by w (saying_of ws w) more of_one)
+  talk_quiet (More ws ls w more are of_one) zero is = quiet_both ls more (talk_quiet are) (quiet_by w (saying_of ws w) more of_one) zero is
 
 -- a list with one item more, cut at an item
 cut_last : {A : Type 0} (xs before after : List A) (v w : A) → xs ++ v ∷ [] ≡ before ++ w ∷ after → ((xs ≡ before) × (v ≡ w)) ⊎ ((rest : List A) × (xs ≡ before ++ w ∷ rest))

@@ -2,7 +2,7 @@
 use Rattle.std.{proofs.Common.{◌≡◌, ◌==◌, ℕ, ◌<◌, Bool, true, List, [], ◌∷◌, ◌++◌, refl, ap, sym, ◌∙◌, subst, inl, inr, arith, Some}, specs.Prelude.{Option, slice_get}, proofs.lemmas.Bool.{cases_lt, eqb-true, eq-eqb}, proofs.lemmas.Option.{same_Some, slice_get_within}}
 use Rattle.pdr_repository.specs.Records.{Entry}
 use Rattle.plan_values.{specs.declared.nodes.Node.{Node}, specs.declared.plan.Plan.{Plan}, specs.declared.certificate.Certificate.{Certificate}}
-use Rattle.audited_captures.{specs.Asked.{unanswered}, specs.Audits.{AreAudited, AreOthers, Heard, NodeFacts, AreFacts, AreLines, Empty, More, AreNodeLines, difference_count, has_compared}, specs.Lines.{LineValue}, specs.Matching.{SaysAsPlanned, TellsAll, IsCompared, ArePlanned, AuditMatches, MatchesAudit}, specs.Refusals.{refused_lines}, specs.declared.refusals.Refusal.{Refusal}, specs.Strangers.{HasNoStrangers}, specs.declared.sums.Sum.{Sum}, specs.Talk.{AreAllAsked, AreAllOwned}, specs.Untold.{wanted_lines}, proofs.Booleans.{both, both_left, both_right}, proofs.ComparedLaws.{nodes_compare}, proofs.LineLaws.{Quiet, all_quiet, compares_left, compares_right, compares_either, none_compared, quiet_both}, proofs.MatchLaws.{AllDiffer, all_both, zero_left, zero_right, zero_both}, proofs.NodeLaws.{nodes_match}, proofs.StrangerLaws.{no_strangers, no_stranger_told, strangers_differ}, proofs.TalkLaws.{all_asked, all_owned, none_misowned, none_unasked, owners_differ, talk_quiet}, proofs.TrafficLaws.{traffic_matches, traffic_differs}, proofs.UntoldLaws.{all_told, tells_all, untold_all, wanted_all, wanted_is, wanted_of}}
+use Rattle.audited_captures.{specs.Asked.{unanswered}, specs.Audits.{AreAudited, AreOthers, Heard, NodeFacts, AreFacts, AreLines, Empty, More, AreNodeLines, difference_count, has_compared}, specs.Lines.{LineValue}, specs.Matching.{SaysAsPlanned, TellsAll, IsCompared, ArePlanned, AuditMatches, MatchesAudit}, specs.Refusals.{refused_lines}, specs.declared.refusals.Refusal.{Refusal}, specs.Strangers.{HasNoStrangers}, specs.declared.sums.Sum.{Sum}, specs.Talk.{AreAllAsked, AreAllOwned}, specs.Untold.{wanted_lines}, proofs.Booleans.{both, both_left, both_right}, proofs.ComparedLaws.{nodes_compare}, proofs.LineLaws.{Quiet, all_quiet, compares_left, compares_right, compares_either, none_compared, quiet_both}, proofs.MatchLaws.{AllDiffer, all_both, zero_left, zero_right, zero_both}, proofs.NodeLaws.{nodes_match}, proofs.StrangerLaws.{no_strangers, no_stranger_told, strangers_differ}, proofs.TalkLaws.{all_asked, all_owned, none_misowned, none_unasked, owners_differ, talk_quiet}, proofs.TrafficLaws.{traffic_matches, traffic_differs}, proofs.UntoldLaws.{nothing_untold, tells_all, untold_all, wanted_all, wanted_is, wanted_of}}
 use Rattle.heard_captures.specs.Messages.{MessageValue}
 use Rattle.bus_captures.specs.Values as captured
 
@@ -42,7 +42,7 @@ none_untold : (plan : Plan) (rs : List (List Entry)) (h : Heard) {count : ℕ} {
 none_untold plan rs h Empty tells = refl
 none_untold plan rs h (More m lines untold more wants compared are one) tells =
     zero_both untold wants (none_untold plan rs h are tells)
-    (ap difference_count one.wants ∙ all_told one.node h.exchanges one.facts (tells m one.node one.facts one.at one.are))
+    (ap difference_count one.wants ∙ nothing_untold one.node h.exchanges one.facts (tells m one.node one.facts one.at one.are))
 
 untold_differ : (plan : Plan) (rs : List (List Entry)) (h : Heard) {count : ℕ} {lines untold : List LineValue} {compared : ℕ} → AreLines plan rs h count lines untold compared → AllDiffer untold
 untold_differ plan rs h Empty = refl

@@ -90,7 +90,8 @@ fn some_is_read(alloc: Global, parts: &[Part]) -> Result<bool, AllocError>
     ensures { IfOk result (λ is. is ≡ list_any is_read (readings (map part_value parts.now))) }
 {
     for i in 0..parts.len() {
-        if begins_read(alloc, from_place(parts, i))? {
+        let is_read = begins_read(alloc, from_place(parts, i))?;
+        if is_read {
             return Ok(true);
         }
     }
