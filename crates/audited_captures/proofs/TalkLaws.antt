@@ -1,8 +1,8 @@
 -- Requests and answers that don't go together.
-use Rattle.std.{proofs.Common.{◌≡◌, ◌⊎◌, ℕ, ◌<◌, ◌+◌, ◌==◌, ◌&&◌, Bool, true, false, not, List, [], ◌∷◌, ◌++◌, length, arith, refl, ap, sym, ◌∙◌, subst, inl, inr, map, take, get_or, append_assoc}, specs.Prelude.{Option, Some, None, if◌then◌else◌}}
+use Rattle.std.{proofs.Common.{◌≡◌, ◌⊎◌, ℕ, ◌<◌, ◌+◌, ◌==◌, ◌&&◌, Bool, true, false, not, List, [], ◌∷◌, ◌++◌, length, arith, refl, ap, sym, ◌∙◌, subst, inl, inr, map, take, get_or, append_assoc}, specs.Prelude.{Option, Some, None, Result, Ok, Err, IfOk, codes, if◌then◌else◌}}
 use Rattle.plan_values.specs.declared.plan.Plan.{Plan}
 use Rattle.heard_captures.{specs.Messages.{MessageValue, message_value}, specs.declared.messages.Message.{Message}}
-use Rattle.audited_captures.{specs.AsPlanned.{IsAmong}, specs.Audits.{difference_count, has_compared}, specs.Exchanges.{concerns, is_alike, last_that}, specs.Lines.{LineValue}, specs.Talk.{Saying, AskedAgain, AnsweredAgain, Unasked, asked_saying, answered_saying, saying_by, saying_of, AreLinesBy, AreTalkLines, Empty, More, HasEarlier, AreAllAsked, AreOwnerLinesOf, AreOwnerLines, Nothing, Also, AreAllOwned}, specs.Words.{WordValue, word_value, is_question, IsNotMisowned}, specs.declared.words.Word.{Word}, proofs.ExchangeLaws.{last_among, last_passing}, proofs.LineLaws.{Quiet, quiet_both, all_quiet, none_compared}, proofs.MatchLaws.{AllDiffer, all_both, zero_left, zero_right, zero_both}, proofs.PacketLaws.{among_left, among_right, among_split}, proofs.WordLaws.{mapped_more}}
+use Rattle.audited_captures.{specs.AsPlanned.{IsAmong}, specs.Audits.{difference_count, has_compared}, specs.Exchanges.{concerns, is_alike, last_that}, specs.Lines.{LineValue}, specs.Names.{IsNameOf}, specs.Talk.{IsSaidText, kind_words, receiver, sender, tagged_words, Saying, AskedAgain, AnsweredAgain, Unasked, asked_saying, answered_saying, saying_by, saying_of, AreLinesBy, AreTalkLines, Empty, More, HasEarlier, AreAllAsked, AreOwnerLinesOf, AreOwnerLines, Nothing, Also, AreAllOwned}, specs.Words.{WordValue, word_value, is_question, IsNotMisowned}, specs.declared.words.Word.{Word}, proofs.ExchangeLaws.{last_among, last_passing}, proofs.LineLaws.{Quiet, quiet_both, all_quiet, none_compared}, proofs.MatchLaws.{AllDiffer, all_both, zero_left, zero_right, zero_both}, proofs.PacketLaws.{among_left, among_right, among_split}, proofs.WordLaws.{mapped_more}}
 
 -- ---- one word
 
@@ -159,3 +159,17 @@ module _ (plan : Plan) where
   pub owners_differ : {ms : List MessageValue} {ls : List LineValue} → AreOwnerLines plan ms ls → AllDiffer ls
   owners_differ Nothing = refl
   owners_differ (Also ms ls n more are of_one) = all_both ls more (owners_differ are) (one_differs n more of_one)
+
+-- the text of a word's line, from its parts
+pub said_so : {T E : Type 0} (bytes_of : T → List ℕ) (plan : Plan) (w : WordValue) (why from to tagged kind : List ℕ) (result : Result T E) → IsNameOf plan (sender w) from
+    → IsNameOf plan (receiver w) to → tagged ≡ tagged_words to w → kind ≡ kind_words (is_question w.body)
+    → IfOk result (λ t. bytes_of t ≡ kind ++ (codes " from " ++ (from ++ (codes " to " ++ (tagged ++ (codes ": " ++ why)))))) → IfOk result (λ t. IsSaidText plan w why (bytes_of t))
+said_so bytes_of plan w why from to tagged kind (Ok t) from_named to_named is_tagged is_kind is = record {
+  from = from;
+  to = to;
+  from_named = from_named;
+  to_named = to_named;
+  told = is ∙ ap (λ k. k ++ (codes " from " ++ (from ++ (codes " to " ++ (tagged ++ (codes ": " ++ why)))))) is_kind
+      ∙ ap (λ words. kind_words (is_question w.body) ++ (codes " from " ++ (from ++ (codes " to " ++ (words ++ (codes ": " ++ why)))))) is_tagged;
+}
+said_so bytes_of plan w why from to tagged kind (Err e) from_named to_named is_tagged is_kind is = tt

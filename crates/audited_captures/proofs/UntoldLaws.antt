@@ -138,8 +138,8 @@ module _ (node : Node) (xs : List ExchangeValue) (f : NodeFacts) where
       by : (b : Bool) → (size == 0) ≡ b → tells_its_pool node xs ≡ true
       by true none = ap (λ c. c || list_any tells_pool answers) none
       by false some = (
-        let (a, among, is) = gives (λ empty. (let one : (size == 0) ≡ true = eq-eqb size 0 empty in cc)) in
-        or_right (size == 0) (list_any tells_pool answers) (any_of tells_pool answers a among is))
+          let (a, among, is) = gives (λ empty. (let one : (size == 0) ≡ true = eq-eqb size 0 empty in cc)) in
+          or_right (size == 0) (list_any tells_pool answers) (any_of tells_pool answers a among is))
 
   records_of : (IsTrue (is_some node.terminus) → (found : List (List ℕ)) × IsAmong (Whole found) f.walks) → tells_records node f.walks ≡ true
   records_of gives = then_so (is_some node.terminus) (list_any is_whole f.walks) (λ terminus. (let (found, among) = gives terminus in any_of is_whole f.walks (Whole found) among refl))

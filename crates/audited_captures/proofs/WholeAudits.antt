@@ -58,8 +58,16 @@ some_node : (plan : Plan) (rs : List (List Entry)) (h : Heard) {count : ℕ} {li
 some_node plan rs h Empty is = absurd (none_compared is)
 some_node plan rs h (More m lines untold more wants compared are one) is = elim (compares_either lines more is) [
   | inl before ↦ some_node plan rs h are before
-  | inr last ↦ (m, one.node, one.at, (one.facts, one.are,
-      (nodes_compare one.node h.exchanges one.facts (unanswered one.node.eid.value h.words h.exchanges one.facts.parts one.facts.tids)).0 (ap has_compared (sym one.tell) ∙ last)))
+  | inr last ↦ (
+    m,
+    one.node,
+    one.at,
+    (
+      one.facts,
+      one.are,
+      (nodes_compare one.node h.exchanges one.facts (unanswered one.node.eid.value h.words h.exchanges one.facts.parts one.facts.tids)).0 (ap has_compared (sym one.tell) ∙ last),
+    ),
+  )
 ]
 
 node_compared : (plan : Plan) (rs : List (List Entry)) (h : Heard) {count : ℕ} {lines untold : List LineValue} {compared : ℕ} → AreLines plan rs h count lines untold compared → (n : ℕ) (node : Node) → n < count

@@ -5,8 +5,8 @@ ghost use Rattle.audited_captures.{specs.Asked.{is_asked, requests_to, unanswere
 use crate::exchanges::Exchange;
 use crate::identities::{answers_of, is_device};
 use crate::record_parts::RecordPart;
-use crate::words::{Body, Word};
 use crate::tids::TidAnswer;
+use crate::words::{Body, Word};
 use mctp_transport::Eid;
 use std::alloc::{AllocError, Global};
 

@@ -49,10 +49,7 @@ fn saying_of<'w, 'm>(before: &'w [Word<'m>], word: &Word<'m>) -> Option<Saying<'
     }
 }
 
-fn asked_saying<'w, 'm>(
-    word: &Word<'m>,
-    earlier: Option<&'w Word<'m>>,
-) -> Option<Saying<'w, 'm>>
+fn asked_saying<'w, 'm>(word: &Word<'m>, earlier: Option<&'w Word<'m>>) -> Option<Saying<'w, 'm>>
     ensures { option_map saying_value result ≡ asked_saying (word_value word.now) (option_map (λ w. word_value w.now) earlier.entry) }
 {
     let earlier = earlier?;

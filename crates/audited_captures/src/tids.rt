@@ -121,12 +121,7 @@ fn add_told(
     add_difference(lines, text)
 }
 
-fn tid_text(
-    alloc: Global,
-    name: &str,
-    planned: Option<u8>,
-    tid: u8,
-) -> Result<String, AllocError>
+fn tid_text(alloc: Global, name: &str, planned: Option<u8>, tid: u8) -> Result<String, AllocError>
     ensures { IfOk result (λ text. string_bytes text ≡ name.now ++ (codes " tid " ++ (decimal tid ++ (codes " planned " ++ tid_words planned)))) }
 {
     let planned = tid_words(alloc, planned)?;

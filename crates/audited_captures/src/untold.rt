@@ -28,8 +28,20 @@ pub fn untold_lines(
     let mut lines = Vec::new(alloc);
     add_untold(alloc, &mut lines, node, "eid", some_tells_eid(&answers))?;
     add_untold(alloc, &mut lines, node, "routes", routes)?;
-    add_untold(alloc, &mut lines, node, "pool", tells_its_pool(node, &answers))?;
-    add_untold(alloc, &mut lines, node, "records", tells_records(node, walks))?;
+    add_untold(
+        alloc,
+        &mut lines,
+        node,
+        "pool",
+        tells_its_pool(node, &answers),
+    )?;
+    add_untold(
+        alloc,
+        &mut lines,
+        node,
+        "records",
+        tells_records(node, walks),
+    )?;
     Ok(lines)
 }
 
@@ -103,7 +115,11 @@ fn begins_read(alloc: Global, parts: &[Part]) -> Result<bool, AllocError>
     ensures { IfOk result (λ is. is ≡ list_any is_read (readings_begun (map part_value parts.now))) }
 {
     match parts.first() {
-        Some(first) if first.handle == 0 => Ok(is_read(&read_from_0(alloc, first.requester, parts)?)),
+        Some(first) if first.handle == 0 => Ok(is_read(&read_from_0(
+            alloc,
+            first.requester,
+            parts,
+        )?)),
         Some(_) | None => Ok(false),
     }
 }

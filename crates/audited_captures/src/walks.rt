@@ -56,11 +56,7 @@ fn begins(part: &RecordPart) -> bool
 }
 
 /// The walk that a part begins.
-fn walk_from(
-    alloc: Global,
-    first: &RecordPart,
-    parts: &[RecordPart],
-) -> Result<Walk, AllocError>
+fn walk_from(alloc: Global, first: &RecordPart, parts: &[RecordPart]) -> Result<Walk, AllocError>
     ensures { IfOk result (λ w. IsWalk (record_part_value first.now) (map record_part_value parts.now) (walk_value w)) }
 {
     let mut walker = fresh_walk(alloc, first.request.request_count)?;
