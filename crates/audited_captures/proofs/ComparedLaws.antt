@@ -1,9 +1,9 @@
 -- A line of a node tells of a comparison exactly where one was made.
-use Rattle.std.{proofs.Common.{◌≡◌, ◌≢◌, ◌⊎◌, ℕ, suc, ◌==◌, ◌||◌, Bool, true, false, List, [], ◌∷◌, ◌++◌, length, refl, ap, sym, ◌∙◌, subst, inl, inr, arith}, specs.Prelude.{IsTrue, codes, if◌then◌else◌}, specs.Fmt.{decimal}, specs.List.{flat_map, list_any, filter}, proofs.lemmas.Bool.{cases_Bool, eqb-true, eq-eqb}, proofs.lemmas.List.Sums.{length-filter, count_by-le-length}}
+use Rattle.std.{proofs.Common.{◌≡◌, ◌≢◌, ℕ, ◌==◌, ◌||◌, Bool, true, false, List, [], ◌∷◌, ◌++◌, length, refl, ap, sym, ◌∙◌, subst, inl, inr}, specs.Prelude.{IsTrue, codes, if◌then◌else◌}, specs.Fmt.{decimal}, specs.List.{flat_map, list_any}, proofs.lemmas.Bool.{cases_Bool, eqb-true, eq-eqb}}
 use Rattle.mctp_control.{specs.RouteEntries.{EntryValue}, specs.Responses.{AnswerValue}}
 use Rattle.pdr_repository.specs.Records.{Entry}
 use Rattle.plan_values.{specs.NodeValues.{name_bytes}, specs.declared.nodes.Node.{Node}}
-use Rattle.audited_captures.{specs.AsPlanned.{IsAmong}, specs.Audits.{NodeFacts, has_compared, said_lines, lines_or_quiet, told_lines_of}, specs.Exchanges.{ExchangeValue}, specs.Failures.{fails, failures_of, failures_in, failed_lines}, specs.Identities.{identity_lines, tells_eid, span_words, pool_lines_of, tells_pool, told_lines, eid_lines, pool_lines, answers_of, first_of, size_of, kind_number}, specs.Lines.{LineValue, note, differences_or, differs, compares, is_comparison, is_difference}, specs.declared.lines.Finding.{Finding}, specs.declared.lines.Finding.TheVariants.{Silent, AsPlanned, Differs}, specs.RecordLines.{missing_lines, unlike_records, are_planned, records_match, order_line, open_line, stopped_line, walk_lines, walks_lines}, specs.Walking.{Walked, Whole, Open, Stopped}, specs.Matching.{IsCompared, ByTable, ByPart, ByAnswer, ByRefusal, ByTid, ByWalk, NodesCompareWhereHeard}, specs.Readings.{PartValue, ReadingValue, Read, Refused, Unended, parts_of, readings}, specs.Tids.{planned_tid, tid_lines}, specs.Routes.{match_line, unlike_lines, reading_lines, readings_lines, routes_lines}, proofs.Booleans.{not_both, either, or_right}, proofs.LineLaws.{compares_left, compares_right, compares_either, none_compared, or_compared, told_some, told_compared}, proofs.MatchLaws.{all_flat, unlike_all, identity_all, pool_all, records_all}, proofs.TidLaws.{compared_tids, tids_compared}, proofs.PlannedReadings.{any_is, any_of}, proofs.FailureLaws.{some_fails, a_failure, failed_compared, compared_failed, refused_part}}
+use Rattle.audited_captures.{specs.AsPlanned.{IsAmong}, specs.Audits.{NodeFacts, has_compared, said_lines, lines_or_quiet, told_lines_of}, specs.Exchanges.{ExchangeValue}, specs.Failures.{fails, failures_of, failures_in, failed_lines}, specs.Identities.{identity_lines, tells_eid, span_words, pool_lines_of, tells_pool, told_lines, eid_lines, pool_lines, answers_of, first_of, size_of, kind_number}, specs.Lines.{LineValue, note, differences_or}, specs.RecordLines.{missing_lines, unlike_records, are_planned, records_match, order_line, open_line, stopped_line, walk_lines, walks_lines}, specs.Walking.{Walked, Whole, Open, Stopped}, specs.Matching.{IsCompared, ByTable, ByPart, ByAnswer, ByRefusal, ByTid, ByWalk, NodesCompareWhereHeard}, specs.Readings.{PartValue, ReadingValue, Read, Refused, Unended, parts_of, readings}, specs.Tids.{planned_tid, tid_lines}, specs.Routes.{match_line, unlike_lines, reading_lines, readings_lines, routes_lines}, proofs.Booleans.{not_both, either, or_right}, proofs.LineLaws.{compares_left, compares_right, compares_either, none_compared, or_compared, told_some, told_compared}, proofs.MatchLaws.{all_flat, unlike_all, identity_all, pool_all, records_all}, proofs.TidLaws.{compared_tids, tids_compared}, proofs.PlannedReadings.{any_is, any_of}, proofs.FailureLaws.{some_fails, a_failure, failed_compared, compared_failed, refused_part}}
 use Rattle.audited_captures.specs.declared.failures.Topic.TheVariants as topic
 
 module _ {A : Type 0} (f : A → List LineValue) where

@@ -1,8 +1,7 @@
 -- No line of a node tells a difference exactly where all that it said is planned.
 use Rattle.std.{proofs.Common.{◌≡◌, ◌⊎◌, ℕ, ◌+◌, ◌==◌, ◌&&◌, ◌||◌, not, Bool, true, false, List, [], ◌∷◌, ◌++◌, length, refl, ap, sym, ◌∙◌, subst, inl, inr, arith}, specs.Prelude.{Option, Some, None, IsTrue, find, codes, if◌then◌else◌}, specs.Fmt.{decimal}, specs.List.{flat_map, list_any, filter}, proofs.Math.Nat.{suc-ne-zero}, proofs.lemmas.Bool.{cases_Bool, eqb-true, eq-eqb}, proofs.lemmas.List.{nil_from_length, length-append}, proofs.lemmas.List.Elements.{filter-append}}
 use Rattle.mctp_control.{specs.RouteEntries.{EntryValue}, specs.Responses.{AnswerValue, EidSet, EidTold, PoolTold, EntriesTold, Failed}}
-use Rattle.plan_values.{specs.NodeValues.{name_bytes}, specs.declared.nodes.Node.{Node}}
-use Rattle.audited_captures.{specs.AsPlanned.{IsAmong}, specs.Audits.{NodeFacts, difference_count, said_lines, lines_or_quiet, lines_of_node}, specs.Exchanges.{ExchangeValue}, specs.Failures.{fails, failures_of, failures_in, failed_lines}, specs.Identities.{kind_word, eid_line, kind_line, identity_lines, tells_eid, span_words, same_span, pool_lines_of, tells_pool, told_lines, eid_lines, pool_lines, answers_of, first_of, size_of, kind_number}, specs.Lines.{LineValue, difference, note, differences_or, differs}, specs.RecordLines.{unlike_from, line_if_unlike_at, line_of_found, found_lines, is_found, missing_lines, unlike_records, are_planned, records_match, order_line, open_line, stopped_line, walk_lines, walks_lines}, specs.Walking.{Walked, Whole, Open, Stopped}, specs.Matching.{IsReadAsPlanned, IsWalkedAsPlanned, HasPlannedEid, HasPlannedPool, SomeTellsEid, SomeTellsPool, SaysAsPlanned, NodesMatchWhereAsPlanned}, specs.Readings.{PartValue, ReadingValue, Read, Refused, Unended, parts_of, readings}, specs.Routes.{unlike, line_if_unlike, line_beside, planned_lines, extra_line, lines_if_extra, extra_lines, unlike_lines, match_line, reading_lines, readings_lines, routes_lines, has_range, same_range}, proofs.RecordLaws.{planned_is, planned_of}, proofs.Booleans.{both, both_left, both_right, not_both, either, or_right}, proofs.PlannedReadings.{nil_left, nil_right, no_line, flat_nil, flat_none, any_is, any_of, as_planned, no_lines}, proofs.FailureLaws.{none_fails, no_failures, remark_zero, failed_zero, zero_failed, refused_part}}
+use Rattle.audited_captures.{specs.AsPlanned.{IsAmong}, specs.Audits.{difference_count}, specs.Failures.{fails, failures_of, failures_in, failed_lines}, specs.Identities.{kind_word, eid_line, kind_line, identity_lines, tells_eid, span_words, same_span, pool_lines_of, tells_pool, told_lines, eid_lines, pool_lines}, specs.Lines.{LineValue, difference, note, differences_or, differs}, specs.RecordLines.{unlike_from, line_if_unlike_at, line_of_found, found_lines, is_found, missing_lines, unlike_records, are_planned, records_match, order_line, open_line, stopped_line, walk_lines}, specs.Walking.{Walked, Whole, Open, Stopped}, specs.Matching.{IsReadAsPlanned, IsWalkedAsPlanned, HasPlannedEid, HasPlannedPool, SomeTellsEid, SomeTellsPool}, specs.Readings.{PartValue, ReadingValue, Read, Refused, Unended, readings}, specs.Routes.{unlike, line_if_unlike, line_beside, planned_lines, extra_line, lines_if_extra, extra_lines, unlike_lines, match_line, reading_lines, readings_lines, routes_lines, has_range, same_range}, proofs.RecordLaws.{planned_is, planned_of}, proofs.Booleans.{both, both_left, both_right, not_both, either, or_right}, proofs.PlannedReadings.{nil_left, nil_right, no_line, flat_nil, flat_none, any_is, any_of, as_planned, no_lines}, proofs.FailureLaws.{none_fails, no_failures, remark_zero, failed_zero, zero_failed, refused_part}}
 use Rattle.pdr_repository.specs.Records.{Entry, handle_in}
 use Rattle.audited_captures.specs.declared.failures.Topic.TheVariants as topic
 

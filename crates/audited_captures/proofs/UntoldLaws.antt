@@ -1,8 +1,8 @@
 -- What nodes didn't tell.
-use Rattle.std.{proofs.Common.{◌≡◌, ◌≢◌, ◌⊎◌, ℕ, zero, suc, add-one, ◌+◌, ◌<◌, ◌==◌, ◌||◌, not, Bool, true, false, List, [], ◌∷◌, ◌++◌, refl, ap, sym, ◌∙◌, subst, inl, inr, arith, drop, length, map}, specs.Prelude.{IsTrue, codes, if◌then◌else◌}, specs.List.{list_any}, proofs.lemmas.Bool.{eqb-true, eq-eqb}}
+use Rattle.std.{proofs.Common.{◌≡◌, ◌≢◌, ℕ, zero, suc, add-one, ◌+◌, ◌<◌, ◌==◌, ◌||◌, not, Bool, true, false, List, [], ◌∷◌, ◌++◌, refl, ap, sym, ◌∙◌, subst, inl, inr, arith, drop, length, map}, specs.Prelude.{IsTrue, codes}, specs.List.{list_any}, proofs.lemmas.Bool.{eqb-true, eq-eqb}}
 use Rattle.mctp_control.{specs.RouteEntries.{EntryValue}, specs.Responses.{AnswerValue}}
 use Rattle.plan_values.{specs.NodeValues.{name_bytes}, specs.declared.nodes.Node.{Node}}
-use Rattle.audited_captures.{specs.AsPlanned.{IsAmong}, specs.Audits.{NodeFacts, difference_count}, specs.Exchanges.{ExchangeValue}, specs.Identities.{answers_of, tells_eid, tells_pool, size_of}, specs.Lines.{LineValue}, specs.Matching.{SomeTellsEid, SomeTellsPool, TellsAll}, specs.Readings.{ReadingValue, Read, Refused, Unended, begun_with, part_value, parts_of, readings}, specs.declared.readings.Part.{Part}, specs.Untold.{is_bridge, is_read, is_some, is_whole, readings_begun, tells_its_pool, tells_records, tells_routes, untold_if, untold_lines, untold_text, wanted_lines}, specs.Walking.{Walked, Whole, Open, Stopped}, proofs.Booleans.{either, or_right}, proofs.MatchLaws.{AllDiffer, all_both, one_if, zero_left, zero_right, zero_both}, proofs.PlannedReadings.{any_is, any_of}}
+use Rattle.audited_captures.{specs.AsPlanned.{IsAmong}, specs.Audits.{NodeFacts, difference_count}, specs.Exchanges.{ExchangeValue}, specs.Identities.{answers_of, tells_eid, tells_pool, size_of}, specs.Lines.{LineValue}, specs.Matching.{SomeTellsPool, TellsAll}, specs.Readings.{ReadingValue, Read, Refused, Unended, begun_with, part_value, parts_of, readings}, specs.declared.readings.Part.{Part}, specs.Untold.{is_bridge, is_read, is_some, is_whole, readings_begun, tells_its_pool, tells_records, tells_routes, untold_if, untold_lines, untold_text, wanted_lines}, specs.Walking.{Walked, Whole, Open, Stopped}, proofs.Booleans.{either, or_right}, proofs.MatchLaws.{AllDiffer, all_both, one_if, zero_left, zero_right, zero_both}, proofs.PlannedReadings.{any_is, any_of}}
 
 -- ---- one line
 

@@ -1,5 +1,5 @@
 -- One part of a walk more, and one walk more.
-use Rattle.std.{proofs.Common.{◌≡◌, ℕ, ◌<◌, ◌+◌, List, [], ◌∷◌, ◌++◌, length, refl, sym, ◌∙◌, ap, subst, map, drop, get_or, true, false, append_assoc}, specs.Prelude.{Result, Ok, Err, IfOk, None, Some}, proofs.lemmas.Option.{same_Some}, proofs.lemmas.List.{append-nil}}
+use Rattle.std.{proofs.Common.{◌≡◌, ℕ, ◌<◌, ◌+◌, List, [], ◌∷◌, ◌++◌, length, sym, ◌∙◌, ap, subst, map, drop, get_or, true, false, append_assoc}, specs.Prelude.{Result, Ok, Err, IfOk, None, Some}, proofs.lemmas.Option.{same_Some}, proofs.lemmas.List.{append-nil}}
 use Rattle.pdr_repository.{specs.Walkers.{WalkState}, specs.declared.walk_fault.WalkFault.{WalkFault}}
 use Rattle.audited_captures.{specs.RecordParts.{RecordPartValue, record_part_value}, specs.declared.record_parts.RecordPart.{RecordPart}, specs.Walking.{Walked, Whole, Open, Stopped, Walks, Other, Left, GoesOn, Ends, Stops, AreWalks, Empty, Within, Begins, begins, walked_value, fresh_walk, asking}, specs.Walks.{IsWalk}, specs.WalkTurns.{IsNext, TakesAnswer, TakesPart, ending_of}, specs.declared.walking.Ending.{Ending}, specs.declared.walking.Turn.{Turn}, proofs.WordLaws.{left_mapped}}
 use Rattle.audited_captures.specs.declared.walking.Ending.TheVariants as ending

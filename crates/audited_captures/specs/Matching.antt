@@ -1,8 +1,8 @@
 -- What it means that devices said what is planned.
 use Rattle.std.specs.Prelude.{◌≡◌, ◌≢◌, ◌⊎◌, ◌↔◌, ◌||◌, ℕ, ⊤, Bool, IsTrue, true, List, Option, None, Some, Result, Ok, Err, slice_get}
 use Rattle.mctp_control.{specs.RouteEntries.{EntryValue}, specs.Responses.{AnswerValue, EidSet, EidTold, PoolTold, EntriesTold, Failed}}
-use Rattle.plan_values.{specs.NodeValues.{name_bytes}, specs.declared.certificate.Certificate.{Certificate}, specs.declared.nodes.Node.{Node}, specs.declared.plan.Plan.{Plan}}
-use Rattle.audited_captures.{specs.AsPlanned.{IsAmong, AreAsPlanned}, specs.Audits.{AreAudited, NodeFacts, AreFacts, difference_count, has_compared, is_match, lines_of_node, told_lines_of}, specs.Exchanges.{ExchangeValue}, specs.Identities.{answers_of, tells_eid, tells_pool, first_of, size_of, kind_number}, specs.Lines.{LineValue}, specs.Packets.{NumberedPacket}, specs.Strangers.{HasNoStrangers}, specs.declared.sums.Sum.{Sum}, specs.Traffic.{IsPlanned}, specs.TrafficLines.{IsTraffic}, specs.Walking.{Walked, Whole, Open, Stopped}, specs.Failures.{fails}, specs.Talk.{AreAllAsked, AreAllOwned}, specs.Tids.{tells_tid, planned_tid, is_none}, specs.Untold.{is_bridge, is_some}, specs.Readings.{PartValue, ReadingValue, Read, Refused, Unended, parts_of, readings}}
+use Rattle.plan_values.{specs.declared.certificate.Certificate.{Certificate}, specs.declared.nodes.Node.{Node}, specs.declared.plan.Plan.{Plan}}
+use Rattle.audited_captures.{specs.AsPlanned.{IsAmong, AreAsPlanned}, specs.Audits.{AreAudited, NodeFacts, AreFacts, difference_count, has_compared, is_match, lines_of_node, told_lines_of}, specs.Exchanges.{ExchangeValue}, specs.Identities.{answers_of, tells_eid, tells_pool, first_of, size_of, kind_number}, specs.Lines.{LineValue}, specs.Packets.{NumberedPacket}, specs.Strangers.{HasNoStrangers}, specs.declared.sums.Sum.{Sum}, specs.Traffic.{IsPlanned}, specs.TrafficLines.{IsTraffic}, specs.Walking.{Walked, Whole, Open, Stopped}, specs.Failures.{fails}, specs.Talk.{AreAllAsked, AreAllOwned}, specs.Tids.{tells_tid, planned_tid}, specs.Untold.{is_bridge, is_some}, specs.Readings.{PartValue, ReadingValue, Read, Refused, Unended, parts_of, readings}}
 use Rattle.pdr_repository.specs.Records.{Entry, bytes_by_place}
 use Rattle.bus_captures.specs.Values as captured
 use Rattle.audited_captures.specs.declared.failures.Topic.TheVariants as topic

@@ -1,6 +1,5 @@
 -- What nodes didn't tell of what the plan has of them.
-use Rattle.std.{specs.Prelude.{◌≡◌, ◌≢◌, ◌⊎◌, ℕ, ◌==◌, ◌||◌, Bool, not, true, false, List, [], ◌∷◌, ◌++◌, codes, Option, None, Some, if◌then◌else◌}, specs.List.{list_any}}
-use Rattle.mctp_control.{specs.RouteEntries.{EntryValue}, specs.Responses.{AnswerValue}}
+use Rattle.std.{specs.Prelude.{ℕ, ◌==◌, ◌||◌, Bool, not, true, false, List, [], ◌∷◌, ◌++◌, codes, Option, None, Some, if◌then◌else◌}, specs.List.{list_any}}
 use Rattle.plan_values.{specs.NodeValues.{name_bytes}, specs.declared.nodes.Kind.{Kind}, specs.declared.nodes.Node.{Node}, specs.declared.terminus.PlannedTerminus.{PlannedTerminus}}
 use Rattle.audited_captures.{specs.Exchanges.{ExchangeValue}, specs.Identities.{answers_of, tells_eid, tells_pool, size_of}, specs.Lines.{LineValue, difference}, specs.Readings.{PartValue, ReadingValue, Read, Refused, Unended, begun_with, parts_of, readings}, specs.Walking.{Walked, Whole, Open, Stopped}}
 use Rattle.plan_values.specs.declared.nodes.Kind.TheVariants as kind

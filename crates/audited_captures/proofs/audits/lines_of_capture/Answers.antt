@@ -1,7 +1,7 @@
 use Rattle.std.proofs.Common.{rules, map}
 use Rattle.bus_captures.specs.Values.{entry_value}
 use Rattle.heard_captures.specs.Messages.{message_value}
-use Rattle.audited_captures.{specs.Audits.{heard_of}, specs.Exchanges.{exchange_value}, specs.Lines.{line_value}, specs.Repositories.{repository_values}, specs.Words.{word_value}, proofs.AuditLaws.{beside_so}}
+use Rattle.audited_captures.{specs.Audits.{heard_of}, specs.Exchanges.{exchange_value}, specs.Repositories.{repository_values}, specs.Words.{word_value}, proofs.AuditLaws.{beside_so}}
 use Rattle.audited_captures.proofs.audits.lines_of_capture.Goals as goal
 
 pub returns : goal.returns

@@ -1,5 +1,5 @@
 use Rattle.std.{proofs.Common.{rules, ◌≡◌, ◌∙◌, ◌++◌, List, ℕ, ap, subst, string_bytes}, specs.Prelude.{IfOk, codes}}
-use Rattle.audited_captures.{specs.Names.{IsNameOf}, specs.Talk.{kind_words, tagged_words}, specs.Words.{is_question, word_value}, proofs.TalkLaws.{said_so}}
+use Rattle.audited_captures.{specs.Names.{IsNameOf}, specs.Talk.{tagged_words}, specs.Words.{word_value}, proofs.TalkLaws.{said_so}}
 use Rattle.audited_captures.proofs.talk.said_text.Goals as goal
 
 pub returns : goal.returns
