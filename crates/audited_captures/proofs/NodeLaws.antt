@@ -1,5 +1,5 @@
 -- No line of a node tells a difference exactly where all that it said is planned.
-use Rattle.std.{proofs.Common.{◌≡◌, ℕ, List, [], ◌∷◌, ◌++◌, refl, sym, ◌∙◌}}
+use Rattle.std.proofs.Common.{◌≡◌, ℕ, List, [], ◌∷◌, ◌++◌, refl, sym, ◌∙◌}
 use Rattle.mctp_control.specs.Responses.{AnswerValue}
 use Rattle.plan_values.{specs.NodeValues.{name_bytes}, specs.declared.nodes.Node.{Node}}
 use Rattle.audited_captures.{specs.Audits.{NodeFacts, difference_count, said_lines, lines_or_quiet, lines_of_node, told_lines_of}, specs.Exchanges.{ExchangeValue}, specs.Identities.{eid_lines, pool_lines, answers_of, first_of, size_of, kind_number}, specs.Lines.{LineValue}, specs.RecordLines.{walk_lines, walks_lines}, specs.Matching.{SaysAsPlanned, NodesMatchWhereAsPlanned}, specs.Readings.{PartValue, parts_of}, specs.Routes.{routes_lines}, specs.Tids.{planned_tid, tid_lines}, proofs.MatchLaws.{zero_left, zero_right, zero_both, zero_each, zero_all, tables_are, routes_are, routes_of, eid_told_are, eids_are, eids_of, pool_told_are, pools_are, pools_of, walk_is, walk_of}, proofs.TidLaws.{tids_are, tid_told_are, tids_of}}
