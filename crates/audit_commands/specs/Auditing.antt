@@ -26,8 +26,10 @@ pub record TellsCapture (plan : Plan) (cert : Certificate) (bus : Option ℕ) (c
 -- It does in a run that ends so: yes where all was read and it is a match, a fault where all was read and something
 -- differs or nothing was compared, and unreadable where not all was read.
 abbrev pub AuditsCapture : Plan → Certificate → Option ℕ → (complete : Bool) → List ℕ → Status → List ℕ → Type 0
-AuditsCapture plan cert bus complete bytes status.Yes text = TellsCapture plan cert bus complete bytes end.Whole true text
-AuditsCapture plan cert bus complete bytes status.Fault text = TellsCapture plan cert bus complete bytes end.Whole false text
+AuditsCapture plan cert bus complete bytes status.Yes text =
+    TellsCapture plan cert bus complete bytes end.Whole true text
+AuditsCapture plan cert bus complete bytes status.Fault text =
+    TellsCapture plan cert bus complete bytes end.Whole false text
 AuditsCapture plan cert bus complete bytes status.Unreadable text =
     (how : End) × (matches : Bool) × (how ≢ end.Whole) × TellsCapture plan cert bus complete bytes how matches text
 AuditsCapture plan cert bus complete bytes status.NoMemory text = ⊥

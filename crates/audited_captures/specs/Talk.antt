@@ -4,8 +4,8 @@ use Rattle.plan_values.specs.declared.plan.Plan.{Plan}
 use Rattle.heard_captures.specs.Messages.{MessageValue}
 use Rattle.audited_captures.{specs.AsPlanned.{IsAmong}, specs.Exchanges.{concerns, is_alike, last_that}, specs.Lines.{LineValue}, specs.Names.{IsNameOf}, specs.Words.{WordValue, is_question, IsMisowned, IsNotMisowned}, specs.declared.lines.Finding.{Finding}, specs.declared.lines.Finding.TheVariants.{Silent, Differs}}
 
--- what is told of a word: it asks once more what wasn't answered, it answers once more, or it answers what nobody asked;
--- with the last request of this command before it, if there was one
+-- what is told of a word: it asks once more what wasn't answered, it answers once more, or it answers what nobody
+-- asked, with the last request of this command before it, if there was one
 pub data Saying : Type 0 where
   AskedAgain : Saying
   AnsweredAgain : Saying

@@ -35,8 +35,8 @@ untold_text name what = name ++ (codes " " ++ (what ++ codes " not told"))
 abbrev pub untold_if : (told : Bool) → List ℕ → List LineValue
 untold_if told text = if told then [] else difference text ∷ []
 
--- a node tells its endpoint ID, a bridge its routing table to the end, what has a planned pool tells one, and what has a
--- planned terminus its records to the last
+-- a node tells its endpoint ID, a bridge its routing table to the end, what has a planned pool tells one, and what has
+-- a planned terminus its records to the last
 abbrev pub tells_routes : Node → List ExchangeValue → Bool
 tells_routes node xs = not (is_bridge node.kind) || list_any is_read (readings (parts_of node.eid.value xs))
 
