@@ -1,12 +1,11 @@
 //! `faults`: every fault of a plan, or of a plan and its certificate.
 ghost use Rattle.std.specs.Prelude.{◌≡◌, IfOk, None, Some};
 ghost use Rattle.serde_json.specs.View.{view};
-ghost use Rattle.json_commands.{specs.Faults.{AreFaultsSaid, AreNotesSaid, IsFaultsSaid}, specs.Lists.{IsListTold}, specs.Obstacles.{IsObstacleAlone}};
+ghost use Rattle.json_commands.{specs.Faults.{AreFaultsSaid, AreNotesSaid, IsFaultsSaid}, specs.Lists.{IsListTold}, specs.Obstacles.{IsFaultNote, IsObstacleAlone}};
 ghost use Rattle.command_answers.specs.declared.status.Status.TheVariants as status;
 
 use crate::lists::empty_list;
-use crate::noted::notes_of;
-use crate::obstacles::{FaultNoter, ObstacleNoter};
+use crate::obstacles::{fault_notes, obstacle_notes};
 use crate::reports::report;
 use crate::said::Said;
 use command_answers::{PlanText, Status};
@@ -60,9 +59,28 @@ fn faults_said(
     ensures { IfOk result (λ said. (said.status ≡ status.Fault)
         × AreNotesSaid form name.now given.now.text.items given.now.plan faults.now (view said.value)) }
 {
-    let noter = FaultNoter { plan: &given.plan };
-    let results = notes_of(alloc, form, name, given.text.as_slice(), &noter, faults)?;
+    let results = fault_results(alloc, form, name, given, faults)?;
     Ok(report(alloc, form, "faults", Status::Fault, results)?)
+}
+
+/// The notes of faults of a plan.
+fn fault_results(
+    alloc: Global,
+    form: Form,
+    name: &str,
+    given: &PlanText,
+    faults: &[PlanFault],
+) -> Result<Value, AllocError>
+    ensures { IfOk result (λ value. IsListTold (IsFaultNote form name.now given.now.text.items given.now.plan) faults.now (view value)) }
+{
+    fault_notes(
+        alloc,
+        form,
+        name,
+        given.text.as_slice(),
+        &given.plan,
+        faults,
+    )
 }
 
 /// The one note of what rules certificates of a plan out.
@@ -75,7 +93,6 @@ pub fn obstacle_results(
 ) -> Result<Value, AllocError>
     ensures { IfOk result (λ value. IsObstacleAlone form name.now given.now.text.items given.now.plan obstacle.now (view value)) }
 {
-    let noter = ObstacleNoter { plan: &given.plan };
     let alone = slice::from_ref(obstacle);
-    notes_of(alloc, form, name, given.text.as_slice(), &noter, alone)
+    obstacle_notes(alloc, form, name, given.text.as_slice(), &given.plan, alone)
 }

@@ -4,12 +4,13 @@ ghost use Rattle.json.specs.Value.{value_view};
 ghost use Rattle.net_plan.specs.Finding.{step_value};
 ghost use Rattle.net_pointers.specs.Offsets.{IsTextOf};
 ghost use Rattle.serde_json.specs.View.{view};
-ghost use Rattle.json_commands.{specs.Findings.{IsFindingNote, address_pointer, code_of, eids_of, entry_of, finding_pointer, nodes_of, other_pointer, port_pointer, subject_of}, specs.Notes.{AreNodesTold, subject_value}, specs.Places.{IsPlaceListTold}};
+ghost use Rattle.json_commands.{specs.Lists.{IsListTold}, specs.Findings.{IsFindingNote, address_pointer, code_of, eids_of, entry_of, finding_pointer, nodes_of, other_pointer, port_pointer, subject_of}, specs.Notes.{AreNodesTold, subject_value}, specs.Places.{IsPlaceListTold}};
 
-use crate::noted::Noted;
+use crate::noted::{Noted, notes_of};
 use crate::notes::{Subject, nodes_value, note_value};
 use crate::obstacles::{bus_pointer, places_of};
 use crate::places::{Placing, place_of};
+use command_questions::Form;
 use fault_texts::{part_pointer, record_pointer, row_pointer};
 use mctp_transport::Eid;
 use net_plan::PointerStep;
@@ -19,10 +20,24 @@ use question_texts::lint_lines;
 use serde_json::Value;
 use std::alloc::{AllocError, Global};
 
+/// The notes of findings, in their order.
+pub fn finding_notes(
+    alloc: Global,
+    form: Form,
+    name: &str,
+    text: &[u8],
+    plan: &Plan,
+    findings: &[Finding],
+) -> Result<Value, AllocError>
+    ensures { IfOk result (λ value. IsListTold (IsFindingNote form name.now text.now plan.now) findings.now (view value)) }
+{
+    notes_of(alloc, form, name, text, &FindingNoter { plan }, findings)
+}
+
 /// Makes the notes of findings.
 #[derive(Clone, Copy)]
-pub struct FindingNoter<'a> {
-    pub plan: &'a Plan,
+struct FindingNoter<'a> {
+    plan: &'a Plan,
 }
 
 impl<'a> Noted for FindingNoter<'a> {

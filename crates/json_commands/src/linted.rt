@@ -1,15 +1,16 @@
 //! `lint`: what is lawful in a plan and still looks wrong.
 ghost use Rattle.std.specs.Prelude.{◌≡◌, IfOk};
 ghost use Rattle.serde_json.specs.View.{view};
-ghost use Rattle.json_commands.specs.Findings.{IsLintSaid, status_of};
+ghost use Rattle.command_questions.specs.declared.form.Form.TheVariants.{Json};
+ghost use Rattle.json_commands.{specs.Findings.{IsFindingNote, IsLintSaid, status_of}, specs.Lists.{IsListTold}};
 
-use crate::findings::FindingNoter;
-use crate::noted::notes_of;
+use crate::findings::finding_notes;
 use crate::reports::report;
 use crate::said::Said;
 use command_answers::{PlanText, Status};
 use command_questions::Form;
 use net_questions::{Finding, lint};
+use serde_json::Value;
 use std::alloc::{AllocError, Global};
 
 /// All that looks wrong in a plan. The name is that of the plan's file.
@@ -17,6 +18,7 @@ pub fn findings_of_plan(alloc: Global, name: &str, given: &PlanText) -> Result<S
     ensures { IfOk result (λ said. IsLintSaid name.now given.now.text.items given.now.plan said.status (view said.value)) }
 {
     let findings = lint(alloc, &given.plan)?;
+<<<<<<< HEAD
     let noter = FindingNoter { plan: &given.plan };
     let results = notes_of(
         alloc,
@@ -26,6 +28,9 @@ pub fn findings_of_plan(alloc: Global, name: &str, given: &PlanText) -> Result<S
         &noter,
         &findings,
     )?;
+=======
+    let results = finding_results(alloc, name, given, &findings)?;
+>>>>>>> f2e007b1fc1ced4512a83296212d3e888847f8c2
     Ok(report(alloc, Form::Json, "lint", status_of(&findings), results)?)
 }
 
@@ -38,4 +43,23 @@ fn status_of(findings: &[Finding]) -> Status
     } else {
         Status::Fault
     }
+}
+
+/// The notes of findings of a plan.
+fn finding_results(
+    alloc: Global,
+    name: &str,
+    given: &PlanText,
+    findings: &[Finding],
+) -> Result<Value, AllocError>
+    ensures { IfOk result (λ value. IsListTold (IsFindingNote Json name.now given.now.text.items given.now.plan) findings.now (view value)) }
+{
+    finding_notes(
+        alloc,
+        Form::Json,
+        name,
+        given.text.as_slice(),
+        &given.plan,
+        findings,
+    )
 }

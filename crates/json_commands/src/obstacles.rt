@@ -5,10 +5,11 @@ ghost use Rattle.net_plan.specs.Finding.{step_value};
 ghost use Rattle.net_pointers.specs.Offsets.{IsTextOf};
 ghost use Rattle.plan_texts.specs.Lines.{as_line};
 ghost use Rattle.serde_json.specs.View.{view};
-ghost use Rattle.json_commands.{specs.Obstacles.{AreRelated, IsCausePlaced, IsFaultNote, IsHopPlaced, IsObstacleNote, IsRunNote, bus_pointer, cause_pointer, eids_of, entry_of, first_fault, hop_pointer, kind_of, nodes_of, rule_of, run_subject, subject_of}, specs.Notes.{AreNodesTold, IsNote, subject_value}, specs.Places.{IsPlaceListTold}};
+ghost use Rattle.explanation_texts.specs.Explanations.{around};
+ghost use Rattle.json_commands.{specs.Lists.{IsListTold}, specs.Obstacles.{AreRelated, IsCausePlaced, IsFaultNote, IsHopPlaced, IsObstacleNote, IsRunNote, bus_pointer, cause_pointer, eids_of, entry_of, first_fault, hop_pointer, kind_of, nodes_of, rule_of, run_subject, subject_of}, specs.Notes.{AreNodesTold, IsNote, subject_value}, specs.Places.{IsPlaceListTold}};
 
 use crate::lists::{empty_list, list_of_one};
-use crate::noted::{Noted, notes_at};
+use crate::noted::{Noted, notes_at, notes_of};
 use crate::notes::{Subject, nodes_value, note_value};
 use crate::places::{Placing, place_of};
 use command_questions::Form;
@@ -26,10 +27,38 @@ use plan_values::Plan;
 use serde_json::Value;
 use std::alloc::{AllocError, Global};
 
+/// The notes of faults of a plan, in their order.
+pub fn fault_notes(
+    alloc: Global,
+    form: Form,
+    name: &str,
+    text: &[u8],
+    plan: &Plan,
+    faults: &[PlanFault],
+) -> Result<Value, AllocError>
+    ensures { IfOk result (λ value. IsListTold (IsFaultNote form name.now text.now plan.now) faults.now (view value)) }
+{
+    notes_of(alloc, form, name, text, &FaultNoter { plan }, faults)
+}
+
+/// The notes of what rules certificates of a plan out.
+pub fn obstacle_notes(
+    alloc: Global,
+    form: Form,
+    name: &str,
+    text: &[u8],
+    plan: &Plan,
+    obstacles: &[CertifyError],
+) -> Result<Value, AllocError>
+    ensures { IfOk result (λ value. IsListTold (λ told. IsObstacleNote form name.now text.now plan.now told 0) obstacles.now (view value)) }
+{
+    notes_of(alloc, form, name, text, &ObstacleNoter { plan }, obstacles)
+}
+
 /// Makes the notes of faults of a plan.
 #[derive(Clone, Copy)]
-pub struct FaultNoter<'a> {
-    pub plan: &'a Plan,
+struct FaultNoter<'a> {
+    plan: &'a Plan,
 }
 
 impl<'a> Noted for FaultNoter<'a> {
@@ -54,8 +83,8 @@ impl<'a> Noted for FaultNoter<'a> {
 
 /// Makes the note of what rules certificates of a plan out.
 #[derive(Clone, Copy)]
-pub struct ObstacleNoter<'a> {
-    pub plan: &'a Plan,
+struct ObstacleNoter<'a> {
+    plan: &'a Plan,
 }
 
 impl<'a> Noted for ObstacleNoter<'a> {
@@ -205,15 +234,9 @@ fn related_to(
 {
     match obstacle {
         CertifyError::Fault(fault) => cause_places(alloc, placing, plan, fault),
-        CertifyError::OwnerLoop(nodes) => {
-            notes_at(alloc, placing, &HopNoter { plan, eid: None }, around(nodes))
-        }
+        CertifyError::OwnerLoop(nodes) => hop_places(alloc, placing, plan, None, around(nodes)),
         CertifyError::Loop(eid, nodes) => {
-            let noter = HopNoter {
-                plan,
-                eid: Some(*eid),
-            };
-            notes_at(alloc, placing, &noter, around(nodes))
+            hop_places(alloc, placing, plan, Some(*eid), around(nodes))
         }
         CertifyError::BadChain(..) => Ok(empty_list(alloc)),
         CertifyError::OutOfMemory => Err(AllocError),
@@ -302,6 +325,20 @@ pub fn bus_pointer(alloc: Global, bus: usize) -> Result<Vec<PointerStep>, AllocE
 }
 
 // ---- loops
+
+/// Where the hops of a loop stand, one for each node: its row for the endpoint ID, or its owner where none is given.
+fn hop_places(
+    alloc: Global,
+    placing: &Placing<'_, '_, '_>,
+    plan: &Plan,
+    eid: Option<Eid>,
+    nodes: &[usize],
+) -> Result<Value, AllocError>
+    requires { IsTextOf placing.now.index.now (value_view placing.now.tree.now) }
+    ensures { IfOk result (λ value. IsListTold (IsHopPlaced placing.now.form placing.now.name.now placing.now.index.now plan.now eid) nodes.now (view value)) }
+{
+    notes_at(alloc, placing, &HopNoter { plan, eid }, nodes)
+}
 
 /// Tells where nodes send what is for an endpoint ID, or where their owners stand.
 #[derive(Clone, Copy)]

@@ -1,7 +1,6 @@
-use Rattle.std.proofs.Common.{◌∙◌, List, ℕ, ap, sym, subst}
+use Rattle.std.proofs.Common.{◌≡◌, ◌∙◌, ◌++◌, List, ℕ, ap, string_bytes}
 use Rattle.serde_json.{specs.Data.{Data}, specs.View.{view}}
-use Rattle.explanation_texts.{specs.CertificateSubjects.{certificate_subjects}, specs.Pieces.{Tells}}
-use Rattle.json_commands.{specs.Explained.{explained_data}, specs.Notes.{lines_data}}
+use Rattle.json_commands.{specs.Explained.{explained_data, remedy_of}, specs.Lists.{empty_data}, specs.Notes.{lines_data}}
 use Rattle.command_answers.specs.declared.status.Status.TheVariants as status
 use Rattle.json_commands.proofs.explained.certificate_told.Goals as goal
 
@@ -12,19 +11,22 @@ returns c =
     let results = view c.in_ok-results.results in
     let alone = view c.in_ok-alone.alone.value in
     let more = c.in_ok-more.more in
-    let lines = c.deref.result.now in
-    let Given : List ℕ → Type 0 = λ l. Tells plan (certificate_subjects plan c.args.certificate.now c.args.fault.now) l in (
+    let given = string_bytes c.in_ok-told.told in
+    let ended = c.in_ok-alone.alone.status in
+    let same : c.deref.result.now ≡ given ++ remedy_of ended = c.deref.ensures ∙ (c.in_ok-lines.ensures.ok ∙ ap (λ (r : List ℕ). given ++ r) c.remedy_of-remedy.ensures) in (
       told.ensures.0,
       (
         results,
         alone,
-        lines,
+        given,
         more,
-        c.in_ok-alone.alone.status,
+        ended,
         c.in_ok-results.ensures,
-        subst Given (sym c.deref.ensures) c.in_ok-lines.ensures,
+        c.in_ok-told.ensures,
         c.in_ok-more.ensures,
         c.in_ok-alone.ensures,
-        told.ensures.1 ∙ ap (λ (e : Data). explained_data status.Fault results (lines_data lines) e more alone) c.empty_list-edits.ensures,
+        told.ensures.1
+            ∙ (ap (λ (e : Data). explained_data status.Fault results (lines_data c.deref.result.now) e more alone) c.empty_list-edits.ensures
+            ∙ ap (λ (l : List ℕ). explained_data status.Fault results (lines_data l) empty_data more alone) same),
       ),
     )
