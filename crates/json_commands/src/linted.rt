@@ -18,19 +18,7 @@ pub fn findings_of_plan(alloc: Global, name: &str, given: &PlanText) -> Result<S
     ensures { IfOk result (λ said. IsLintSaid name.now given.now.text.items given.now.plan said.status (view said.value)) }
 {
     let findings = lint(alloc, &given.plan)?;
-<<<<<<< HEAD
-    let noter = FindingNoter { plan: &given.plan };
-    let results = notes_of(
-        alloc,
-        Form::Json,
-        name,
-        given.text.as_slice(),
-        &noter,
-        &findings,
-    )?;
-=======
     let results = finding_results(alloc, name, given, &findings)?;
->>>>>>> f2e007b1fc1ced4512a83296212d3e888847f8c2
     Ok(report(alloc, Form::Json, "lint", status_of(&findings), results)?)
 }
 
