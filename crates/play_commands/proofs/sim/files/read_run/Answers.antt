@@ -4,7 +4,7 @@ use Rattle.play_commands.proofs.sim.files.read_run.Goals as goal
 pub returns-in_err-plan-clause-unread : goal.returns-in_err-plan-clause-unread
 returns-in_err-plan-clause-unread g c =
     let failed = c.in_err-plan in
-    let ended : c.from_residual-in_err-plan.result ≡ Err failed.field-0.0 = search rules in
+    let ended : c.from_residual.result ≡ Err failed.field-0.0 = search rules in
     rw ended (inl failed.ensures.unread)
 
 pub returns-in_err-events-clause-unread : goal.returns-in_err-events-clause-unread

@@ -4,7 +4,7 @@ use Rattle.play_commands.proofs.sim.moves.read_move_files.Goals as goal
 pub returns-in_err-before-clause-unread : goal.returns-in_err-before-clause-unread
 returns-in_err-before-clause-unread g c =
     let failed = c.in_err-before in
-    let ended : c.from_residual-in_err-before.result ≡ Err failed.field-0.0 = search rules in
+    let ended : c.from_residual.result ≡ Err failed.field-0.0 = search rules in
     rw ended (inl failed.ensures.unread)
 
 pub returns-in_err-events-clause-unread : goal.returns-in_err-events-clause-unread
