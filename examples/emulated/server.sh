@@ -34,5 +34,6 @@ done
 
 kill "${pids[@]}"
 wait 2> /dev/null
-cat "$room/notes"
+# (a node that isn't on the bus of a packet notes that, and needs no telling here)
+grep -v '^# no bus: ' "$room/notes"
 rm -r "$room"
