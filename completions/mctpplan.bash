@@ -107,7 +107,7 @@ _mctpplan() {
     elif [[ $command == emulate && $current == -* ]]; then
         mapfile -t COMPREPLY < <(compgen -W '--configured' -- "$current")
     elif [[ $command == audit && $current == -* ]]; then
-        mapfile -t COMPREPLY < <(compgen -W '--bus' -- "$current")
+        mapfile -t COMPREPLY < <(compgen -W '--bus --complete' -- "$current")
     elif [[ $command == decode && $place -eq 2 || $command == audit && $place -eq 4 ]]; then
         compopt -o filenames 2>/dev/null
         mapfile -t COMPREPLY < <(compgen -f -- "$current")

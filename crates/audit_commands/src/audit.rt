@@ -19,12 +19,13 @@ use std::alloc::Global;
 
 /// Says on `output` what the devices of a capture said and which of its packets aren't planned, laid beside a plan, or
 /// tells the fault of the plan and its certificate. The capture was taken on the bus of the name, where one is given;
-/// where the plan has no bus of the name, says so on `output`, and reads no capture. A capture that can't be read to
-/// its end is told as far as it can. Where the plan or the certificate can't be read, says so on `errors`, and reads
+/// where the plan has no bus of the name, says so on `output`, and reads no capture. If it is to be complete, it tells also
+/// what nodes didn't say of what the plan has of them. A capture that can't be read to its end is told as far as it can. Where the plan or the certificate can't be read, says so on `errors`, and reads
 /// nothing more.
 pub fn run_audit<P: Source, C: Source, T: Source, O: Sink, E: Sink>(
     alloc: Global,
     bus: Option<&str>,
+    is_complete: bool,
     plan: &mut P,
     certificate: &mut C,
     capture: &mut T,
@@ -39,7 +40,7 @@ pub fn run_audit<P: Source, C: Source, T: Source, O: Sink, E: Sink>(
     ensures concludes { let plans = stream P.account plan.old plan.new in
         let certificates = stream C.account certificate.old certificate.new in
         let captures = stream T.account capture.old capture.new in
-        ConcludesOnBoth (AuditsSo (option_map (λ name. name.now) bus.entry) plans certificates captures) (λ why. AreUnread why plans certificates) result
+        ConcludesOnBoth (AuditsSo (option_map (λ name. name.now) bus.entry) is_complete plans certificates captures) (λ why. AreUnread why plans certificates) result
         (stream O.account output.old output.new) (stream E.account errors.old errors.new)
         (output.new ≡ output.old) (errors.new ≡ errors.old) }
     ensures in_order { IsWithoutPlan (stream P.account plan.old plan.new)
@@ -49,7 +50,7 @@ pub fn run_audit<P: Source, C: Source, T: Source, O: Sink, E: Sink>(
 {
     match read_inputs(alloc, plan, certificate) {
         Ok((plan, certificate)) => {
-            let answered = answer_at_bus(alloc, bus, &plan, &certificate, capture);
+            let answered = answer_at_bus(alloc, bus, is_complete, &plan, &certificate, capture);
             tell(alloc, answered, output, errors)
         }
         Err(refused) => refuse(alloc, refused, errors),
@@ -60,17 +61,18 @@ pub fn run_audit<P: Source, C: Source, T: Source, O: Sink, E: Sink>(
 fn answer_at_bus<T: Source>(
     alloc: Global,
     bus: Option<&str>,
+    is_complete: bool,
     plan: &Plan,
     certificate: &Certificate,
     capture: &mut T,
 ) -> Result<Answer, Refused>
     requires { HasRoom (T.account capture.old) }
     ensures answers { let captures = stream T.account capture.old capture.new in
-        IfOk result (λ answer. AuditsAt plan.now certificate.now (option_map (λ name. name.now) bus.entry) captures answer.status (cow_str_bytes answer.text)) }
+        IfOk result (λ answer. AuditsAt plan.now certificate.now (option_map (λ name. name.now) bus.entry) is_complete captures answer.status (cow_str_bytes answer.text)) }
     ensures refused { IfErr result (λ why. why ≡ refused.NoMemory) }
 {
     match bus_of(plan, bus) {
-        Ok(bus) => answer_capture(alloc, bus, plan, certificate, capture),
+        Ok(bus) => answer_capture(alloc, bus, is_complete, plan, certificate, capture),
         Err(_) => unknown_bus(alloc),
     }
 }
@@ -89,17 +91,18 @@ fn unknown_bus(alloc: Global) -> Result<Answer, Refused>
 fn answer_capture<T: Source>(
     alloc: Global,
     bus: Option<usize>,
+    is_complete: bool,
     plan: &Plan,
     certificate: &Certificate,
     capture: &mut T,
 ) -> Result<Answer, Refused>
     requires { HasRoom (T.account capture.old) }
     ensures answers { let captures = stream T.account capture.old capture.new in
-        IfOk result (λ answer. AuditsOf plan.now certificate.now bus captures answer.status (cow_str_bytes answer.text)) }
+        IfOk result (λ answer. AuditsOf plan.now certificate.now bus is_complete captures answer.status (cow_str_bytes answer.text)) }
     ensures refused { IfErr result (λ why. why ≡ refused.NoMemory) }
 {
     match read_within(alloc, capture, TEXT_LIMIT) {
-        Ok(bytes) => answer_bytes(alloc, bus, plan, certificate, &bytes),
+        Ok(bytes) => answer_bytes(alloc, bus, is_complete, plan, certificate, &bytes),
         Err(fault) => not_given(alloc, fault),
     }
 }
@@ -108,16 +111,17 @@ fn answer_capture<T: Source>(
 fn answer_bytes(
     alloc: Global,
     bus: Option<usize>,
+    is_complete: bool,
     plan: &Plan,
     certificate: &Certificate,
     bytes: &[u8],
 ) -> Result<Answer, Refused>
     ensures answers { IfOk result
-        (λ answer. AuditsOn plan.now certificate.now bus bytes.now answer.status (cow_str_bytes answer.text)) }
+        (λ answer. AuditsOn plan.now certificate.now bus is_complete bytes.now answer.status (cow_str_bytes answer.text)) }
     ensures refused { IfErr result (λ why. why ≡ refused.NoMemory) }
 {
     match check(alloc, plan, certificate) {
-        Ok(checked) => answer_checked(alloc, bus, &checked, bytes),
+        Ok(checked) => answer_checked(alloc, bus, is_complete, &checked, bytes),
         Err(error) => fault_answer(alloc, plan, &error),
     }
 }
@@ -126,16 +130,17 @@ fn answer_bytes(
 fn answer_checked(
     alloc: Global,
     bus: Option<usize>,
+    is_complete: bool,
     checked: &Checked,
     bytes: &[u8],
 ) -> Result<Answer, Refused>
     ensures answers { IfOk result
-        (λ answer. AuditsCapture checked.now.0 checked.now.1 bus bytes.now answer.status (cow_str_bytes answer.text)) }
+        (λ answer. AuditsCapture checked.now.0 checked.now.1 bus is_complete bytes.now answer.status (cow_str_bytes answer.text)) }
     ensures refused { IfErr result (λ why. why ≡ refused.NoMemory) }
 {
     let capture = read_capture(alloc, bytes)?;
     let repositories = repositories_of(alloc, checked)?;
-    let audit = audited(alloc, checked, &repositories, bus, &capture)?;
+    let audit = audited(alloc, checked, &repositories, bus, is_complete, &capture)?;
     let text = audit_text(alloc, &audit, capture.end)?;
     Ok(answer_at(capture.end, &audit.lines, text))
 }

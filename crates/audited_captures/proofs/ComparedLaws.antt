@@ -1,58 +1,10 @@
 -- A line of a node tells of a comparison exactly where one was made.
-use Rattle.std.{proofs.Common.{◌≡◌, ◌≢◌, ◌⊎◌, ℕ, suc, ◌==◌, ◌||◌, Bool, true, false, List, [], ◌∷◌, ◌++◌, length, refl, ap, sym, ◌∙◌, subst, inl, inr, arith}, specs.Prelude.{IsTrue, codes, if◌then◌else◌}, specs.Fmt.{decimal}, specs.List.{flat_map, list_any, filter}, proofs.lemmas.Bool.{cases_Bool, eqb-true, eq-eqb}, proofs.lemmas.List.Sums.{length-filter, count_by-le-length}}
+use Rattle.std.{proofs.Common.{◌≡◌, ◌≢◌, ℕ, ◌==◌, ◌||◌, Bool, true, false, List, [], ◌∷◌, ◌++◌, length, refl, ap, sym, ◌∙◌, subst, inl, inr}, specs.Prelude.{IsTrue, codes, if◌then◌else◌}, specs.Fmt.{decimal}, specs.List.{flat_map, list_any}, proofs.lemmas.Bool.{cases_Bool, eqb-true, eq-eqb}}
 use Rattle.mctp_control.{specs.RouteEntries.{EntryValue}, specs.Responses.{AnswerValue}}
 use Rattle.pdr_repository.specs.Records.{Entry}
 use Rattle.plan_values.{specs.NodeValues.{name_bytes}, specs.declared.nodes.Node.{Node}}
-use Rattle.audited_captures.{specs.AsPlanned.{IsAmong}, specs.Audits.{NodeFacts, difference_count, has_compared, said_lines, lines_or_quiet}, specs.Exchanges.{ExchangeValue}, specs.Failures.{fails, failures_of, failures_in, failed_lines}, specs.Identities.{identity_lines, tells_eid, span_words, pool_lines_of, tells_pool, told_lines, eid_lines, pool_lines, answers_of, first_of, size_of, kind_number}, specs.Lines.{LineValue, note, differences_or, differs, compares, is_comparison, is_difference}, specs.declared.lines.Finding.{Finding}, specs.declared.lines.Finding.TheVariants.{Silent, AsPlanned, Differs}, specs.RecordLines.{missing_lines, unlike_records, are_planned, records_match, order_line, open_line, stopped_line, walk_lines, walks_lines}, specs.Walking.{Walked, Whole, Open, Stopped}, specs.Matching.{IsCompared, ByTable, ByPart, ByAnswer, ByRefusal, ByWalk, NodesCompareWhereHeard}, specs.Readings.{PartValue, ReadingValue, Read, Refused, Unended, parts_of, readings}, specs.Routes.{match_line, unlike_lines, reading_lines, readings_lines, routes_lines}, proofs.Booleans.{not_both, either, or_right}, proofs.MatchLaws.{AllDiffer, all_flat, unlike_all, identity_all, pool_all, records_all}, proofs.PlannedReadings.{any_is, any_of}, proofs.FailureLaws.{some_fails, a_failure, failed_compared, compared_failed, refused_part}}
+use Rattle.audited_captures.{specs.AsPlanned.{IsAmong}, specs.Audits.{NodeFacts, has_compared, said_lines, lines_or_quiet, told_lines_of}, specs.Exchanges.{ExchangeValue}, specs.Failures.{fails, failures_of, failures_in, failed_lines}, specs.Identities.{identity_lines, tells_eid, span_words, pool_lines_of, tells_pool, told_lines, eid_lines, pool_lines, answers_of, first_of, size_of, kind_number}, specs.Lines.{LineValue, note, differences_or}, specs.RecordLines.{missing_lines, unlike_records, are_planned, records_match, order_line, open_line, stopped_line, walk_lines, walks_lines}, specs.Walking.{Walked, Whole, Open, Stopped}, specs.Matching.{IsCompared, ByTable, ByPart, ByAnswer, ByRefusal, ByTid, ByWalk, NodesCompareWhereHeard}, specs.Readings.{PartValue, ReadingValue, Read, Refused, Unended, parts_of, readings}, specs.Tids.{planned_tid, tid_lines}, specs.Routes.{match_line, unlike_lines, reading_lines, readings_lines, routes_lines}, proofs.Booleans.{not_both, either, or_right}, proofs.LineLaws.{compares_left, compares_right, compares_either, none_compared, or_compared, told_some, told_compared}, proofs.MatchLaws.{all_flat, unlike_all, identity_all, pool_all, records_all}, proofs.TidLaws.{compared_tids, tids_compared}, proofs.PlannedReadings.{any_is, any_of}, proofs.FailureLaws.{some_fails, a_failure, failed_compared, compared_failed, refused_part}}
 use Rattle.audited_captures.specs.declared.failures.Topic.TheVariants as topic
-
--- ---- lines that compare
-
-pub compares_append : (a b : List LineValue) → has_compared (a ++ b) ≡ (has_compared a || has_compared b)
-compares_append [] b = refl
-compares_append (l ∷ ls) b = by (compares l) (compares_append ls b)
-  where
-    by : (c : Bool) → has_compared (ls ++ b) ≡ (has_compared ls || has_compared b) → (c || has_compared (ls ++ b)) ≡ ((c || has_compared ls) || has_compared b)
-    by true is = refl
-    by false is = is
-
-pub compares_left : (a b : List LineValue) → has_compared a ≡ true → has_compared (a ++ b) ≡ true
-compares_left a b is = compares_append a b ∙ ap (λ c. c || has_compared b) is
-
-pub compares_right : (a b : List LineValue) → has_compared b ≡ true → has_compared (a ++ b) ≡ true
-compares_right a b is = compares_append a b ∙ or_right (has_compared a) (has_compared b) is
-
-pub compares_either : (a b : List LineValue) → has_compared (a ++ b) ≡ true → (has_compared a ≡ true) ⊎ (has_compared b ≡ true)
-compares_either a b is = either (has_compared a) (has_compared b) (sym (compares_append a b) ∙ is)
-
-pub none_compared : has_compared [] ≡ true → ⊥
-none_compared is = cc
-
--- what differs was compared
-differs_compares : (l : LineValue) → differs l ≡ true → compares l ≡ true
-differs_compares l is = by l.finding is
-  where
-    by : (f : Finding) → is_difference f ≡ true → is_comparison f ≡ true
-    by Silent is = absurd (cc)
-    by AsPlanned is = refl
-    by Differs is = refl
-
-few : (ls : List LineValue) → difference_count ls ≡ suc (length ls) → ⊥
-few ls is = omega (arith, is, length-filter differs ls, count_by-le-length differs ls)
-
-first_differs : (l : LineValue) (ls : List LineValue) → AllDiffer (l ∷ ls) → differs l ≡ true
-first_differs l ls all = elim (cases_Bool (differs l)) [
-  | inl is ↦ is
-  | inr same ↦ absurd (few ls (sym (ap (λ (b : Bool). length (if b then l ∷ filter differs ls else filter differs ls)) same) ∙ all))
-]
-
--- lines that all differ, and there are some
-some_compared : (l : LineValue) (ls : List LineValue) → AllDiffer (l ∷ ls) → has_compared (l ∷ ls) ≡ true
-some_compared l ls all = ap (λ c. c || has_compared ls) (differs_compares l (first_differs l ls all))
-
-or_compared : (otherwise : LineValue) (ls : List LineValue) → compares otherwise ≡ true → AllDiffer ls → has_compared (differences_or otherwise ls) ≡ true
-or_compared otherwise [] is all = ap (λ c. c || false) is
-or_compared otherwise (l ∷ ls) is all = some_compared l ls all
 
 module _ {A : Type 0} (f : A → List LineValue) where
   flat_some : (xs : List A) → has_compared (flat_map f xs) ≡ true → (x : A) × IsAmong x xs
@@ -71,14 +23,6 @@ module _ (name : List ℕ) where
   reading_compared planned Unended sound = refl
   reading_compared planned Refused sound = absurd (sound refl)
   reading_compared planned (Read found) sound = or_compared (match_line name found) (unlike_lines name planned found) refl (unlike_all name planned found)
-
-  told_some : (told : Bool) (otherwise : LineValue) (ls : List LineValue) → has_compared (told_lines told otherwise ls) ≡ true → told ≡ true
-  told_some true otherwise ls is = refl
-  told_some false otherwise ls is = absurd (none_compared is)
-
-  told_compared : (told : Bool) (text : List ℕ) (ls : List LineValue) → told ≡ true → AllDiffer ls → has_compared (told_lines told (note text) ls) ≡ true
-  told_compared true text ls is all = or_compared (note text) ls refl all
-  told_compared false text ls is all = absurd (cc)
 
   walk_compared : (records : List Entry) (w : Walked) → has_compared (walk_lines name records w) ≡ true
   walk_compared records (Whole found) = by (are_planned records found)
@@ -112,8 +56,14 @@ module _ (node : Node) (xs : List ExchangeValue) (f : NodeFacts) where
   abbrev parts : List PartValue
   parts = parts_of node.eid.value xs
 
+  abbrev tids : List LineValue
+  tids = tid_lines name (planned_tid node) f.tids
+
+  abbrev walked : List LineValue
+  walked = walks_lines name f.records f.walks
+
   abbrev told : List LineValue
-  told = walks_lines name f.records f.walks
+  told = told_lines_of node f
 
   abbrev read : List LineValue
   read = readings_lines name f.planned (readings parts)
@@ -195,16 +145,19 @@ module _ (node : Node) (xs : List ExchangeValue) (f : NodeFacts) where
       ]
       | inr later ↦ elim (compares_either eids pools later) [
         | inl eid ↦ elim (compares_either eids_told (eids_failed (list_any tells_eid answers)) eid) [
-          | inl some ↦ by_eid (told_some name (list_any tells_eid answers) (note eid_text) eids_unlike some)
+          | inl some ↦ by_eid (told_some (list_any tells_eid answers) (note eid_text) eids_unlike some)
           | inr some ↦ by_refused_eid some
         ]
         | inr pool ↦ elim (compares_either pools_told (pools_failed pool_remark) pool) [
-          | inl some ↦ by_pool (told_some name (list_any tells_pool answers) (note pool_text) pools_unlike some)
+          | inl some ↦ by_pool (told_some (list_any tells_pool answers) (note pool_text) pools_unlike some)
           | inr some ↦ by_refused_pool some
         ]
       ]
     ]
-    | inr walked ↦ (let (w, among) = flat_some (walk_lines name f.records) f.walks walked in ByWalk w among)
+    | inr later ↦ elim (compares_either tids walked later) [
+      | inl tid ↦ (let (t, among, tells) = tids_compared name (planned_tid node) f.tids tid in ByTid t among tells)
+      | inr walk ↦ (let (w, among) = flat_some (walk_lines name f.records) f.walks walk in ByWalk w among)
+    ]
   ]
 
   control_compared : has_compared (routes ++ (eids ++ pools)) ≡ true → has_compared said ≡ true
@@ -233,11 +186,11 @@ module _ (node : Node) (xs : List ExchangeValue) (f : NodeFacts) where
 
   eid_compared : list_any tells_eid answers ≡ true → has_compared said ≡ true
   eid_compared tells = eids_compared (compares_left eids_told (eids_failed (list_any tells_eid answers))
-      (told_compared name (list_any tells_eid answers) eid_text eids_unlike tells (all_flat (identity_lines name node.eid.value (kind_number node.kind)) (identity_all name node.eid.value (kind_number node.kind)) answers)))
+      (told_compared (list_any tells_eid answers) eid_text eids_unlike tells (all_flat (identity_lines name node.eid.value (kind_number node.kind)) (identity_all name node.eid.value (kind_number node.kind)) answers)))
 
   pool_compared : list_any tells_pool answers ≡ true → has_compared said ≡ true
   pool_compared tells = pools_compared (compares_left pools_told (pools_failed pool_remark)
-      (told_compared name (list_any tells_pool answers) pool_text pools_unlike tells (all_flat (pool_lines_of name (first_of node.pool) size) (pool_all name (first_of node.pool) size) answers)))
+      (told_compared (list_any tells_pool answers) pool_text pools_unlike tells (all_flat (pool_lines_of name (first_of node.pool) size) (pool_all name (first_of node.pool) size) answers)))
 
   refused_eid_compared : (a : AnswerValue) → IsAmong a answers → IsTrue (fails topic.Eid a) → has_compared said ≡ true
   refused_eid_compared a among fails_it = elim (cases_Bool (list_any tells_eid answers)) [
@@ -267,11 +220,13 @@ module _ (node : Node) (xs : List ExchangeValue) (f : NodeFacts) where
   ]
   lines_compared (ByRefusal a among (inl eid)) = refused_eid_compared a among eid
   lines_compared (ByRefusal a among (inr pool)) = refused_pool_compared a among pool.0 pool.1
+  lines_compared (ByTid t among tells) =
+      compares_right (routes ++ (eids ++ pools)) told (compares_left tids walked (compared_tids name (planned_tid node) f.tids t among tells))
   lines_compared (ByWalk w among) =
-      compares_right (routes ++ (eids ++ pools)) told (flat_compared (walk_lines name f.records) f.walks w among (walk_compared name f.records w))
+      compares_right (routes ++ (eids ++ pools)) told (compares_right tids walked (flat_compared (walk_lines name f.records) f.walks w among (walk_compared name f.records w)))
 
 pub nodes_compare : NodesCompareWhereHeard
 nodes_compare node xs f unanswered = (
-  λ is. by_lines node xs f (sym (quiet_compared (name_bytes node.name) unanswered (said_lines node f.planned xs (walks_lines (name_bytes node.name) f.records f.walks))) ∙ is),
-  λ compared. quiet_compared (name_bytes node.name) unanswered (said_lines node f.planned xs (walks_lines (name_bytes node.name) f.records f.walks)) ∙ lines_compared node xs f compared,
+  λ is. by_lines node xs f (sym (quiet_compared (name_bytes node.name) unanswered (said_lines node f.planned xs (told_lines_of node f))) ∙ is),
+  λ compared. quiet_compared (name_bytes node.name) unanswered (said_lines node f.planned xs (told_lines_of node f)) ∙ lines_compared node xs f compared,
 )

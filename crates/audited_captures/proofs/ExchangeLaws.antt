@@ -1,6 +1,6 @@
 -- The last item that passes.
-use Rattle.std.{proofs.Common.{◌≡◌, ℕ, ◌<◌, ◌≤◌, ◌+◌, ◌-◌, Bool, true, false, List, [], ◌∷◌, ◌++◌, refl, ap, sym, ◌∙◌, subst, arith, length, map, take, get_or}, specs.Prelude.{Option, None, Some, if◌then◌else◌, option_to_list}, specs.Option.{option_or}}
-use Rattle.audited_captures.{specs.Words.{word_value}, specs.declared.words.Word.{Word}, specs.Exchanges.{last_that, ExchangeValue, exchange_of, AreExchanges, More}, proofs.WordLaws.{mapped_more}}
+use Rattle.std.{proofs.Common.{◌≡◌, ℕ, ◌<◌, ◌≤◌, ◌+◌, ◌-◌, Bool, true, false, List, [], ◌∷◌, ◌++◌, inl, inr, refl, ap, sym, ◌∙◌, subst, arith, length, map, take, get_or}, specs.Prelude.{Option, None, Some, if◌then◌else◌, option_to_list}, specs.Option.{option_or}, proofs.lemmas.Option.{same_Some}}
+use Rattle.audited_captures.{specs.AsPlanned.{IsAmong}, specs.Words.{word_value}, specs.declared.words.Word.{Word}, specs.Exchanges.{last_that, ExchangeValue, exchange_of, AreExchanges, More}, proofs.WordLaws.{mapped_more}}
 
 or_assoc : {A : Type 0} (a b c : Option A) → option_or (option_or a b) c ≡ option_or a (option_or b c)
 or_assoc None b c = refl
@@ -35,6 +35,40 @@ pub last_fails : {A B : Type 0} (f : A → B) (test : B → Bool) (items : List 
     → test (f item) ≡ false → last_that test (map f (take at items)) ≡ last_that test (map f (take (at - 1) items))
 last_fails f test items at item some within is fails =
     last_before f test items at item some within is ∙ ap (λ b. option_or (if b then Some (f item) else None) (last_that test (map f (take (at - 1) items)))) fails
+
+-- what is found is among the items, and passes
+abbrev Found : {A : Type 0} → (A → Bool) → List A → A → Type 0
+Found test xs x = IsAmong x xs × (test x ≡ true)
+
+found_first : {A : Type 0} (test : A → Bool) (ys : List A) (x y : A) (b : Bool) → test y ≡ b → (if b then Some y else None) ≡ Some x → Found test (y ∷ ys) x
+found_first test ys x y true passes so = (let same = same_Some y x so in (inl same, ap test (sym same) ∙ passes))
+found_first test ys x y false fails so = absurd (cc)
+
+found_later : {A : Type 0} (test : A → Bool) (ys : List A) (x y : A) (o : Option A) → ((z : A) → o ≡ Some z → Found test ys z) → option_or o (if test y then Some y else None) ≡ Some x
+    → Found test (y ∷ ys) x
+found_later test ys x y None later so = found_first test ys x y (test y) refl so
+found_later test ys x y (Some z) later so =
+    let same = same_Some z x so in
+    let there = later z refl in
+    (inr (subst (λ u. IsAmong u ys) same there.0), ap test (sym same) ∙ there.1)
+
+pub last_among : {A : Type 0} (test : A → Bool) (xs : List A) (x : A) → last_that test xs ≡ Some x → IsAmong x xs × (test x ≡ true)
+last_among test [] x is = absurd (cc)
+last_among test (y ∷ ys) x is = found_later test ys x y (last_that test ys) (λ z found. last_among test ys z found) is
+
+none_first : {A : Type 0} (test : A → Bool) (y : A) → test y ≡ true → (if test y then Some y else None) ≡ None → ⊥
+none_first test y passes so = (let first : (if test y then Some y else None) ≡ Some y = ap (λ (b : Bool). if b then Some y else None) passes in cc)
+
+none_later : {A : Type 0} (test : A → Bool) (ys : List A) (x y : A) (o : Option A) → (IsAmong x ys → o ≡ None → ⊥) → test x ≡ true → IsAmong x (y ∷ ys)
+    → option_or o (if test y then Some y else None) ≡ None → ⊥
+none_later test ys x y (Some z) later passes among so = cc
+none_later test ys x y None later passes (inr there) so = later there refl
+none_later test ys x y None later passes (inl same) so = none_first test y (ap test same ∙ passes) so
+
+-- where an item passes, one is found
+pub last_passing : {A : Type 0} (test : A → Bool) (xs : List A) (x : A) → IsAmong x xs → test x ≡ true → last_that test xs ≡ None → ⊥
+last_passing test [] x among passes is = among
+last_passing test (y ∷ ys) x among passes is = none_later test ys x y (last_that test ys) (λ there none. last_passing test ys x there passes none) passes among is
 
 -- the next word of a list
 pub next_exchange : (items : List Word) (i : ℕ) (item : Word) (old new : List ExchangeValue) → i < length items → item ≡ get_or items i item

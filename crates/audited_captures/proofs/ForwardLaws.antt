@@ -176,6 +176,6 @@ read_so plan n planned Refused apart are is = absurd is
 read_so plan n planned (Read found) apart are is = (found, refl, forwards plan n planned found apart are is)
 
 pub audits_forward : AuditsForward
-audits_forward plan cert bus entries lines sum accepted are none n node at r among =
-    let said = (as_planned_where_none_differs plan cert bus entries lines sum are none).0 n node at in
+audits_forward plan cert bus complete entries lines sum accepted are none n node at r among =
+    let said = (as_planned_where_none_differs plan cert bus complete entries lines sum are none).0 n node at in
     read_so plan n said.0.planned r (accepted_apart plan cert accepted) said.1.plans (said.2.tables r among)

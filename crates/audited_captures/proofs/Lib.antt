@@ -11,10 +11,15 @@ pub mod CheckedPlans
 pub mod PlannedReadings
 pub mod FailureLaws
 pub mod MatchLaws
+pub mod LineLaws
+pub mod TidLaws
+pub mod NodeLaws
 pub mod ComparedLaws
 pub mod PacketLaws
 pub mod RefusalLaws
 pub mod TrafficLaws
 pub mod StrangerLaws
+pub mod TalkLaws
+pub mod UntoldLaws
 pub mod WholeAudits
 pub mod ForwardLaws

@@ -1,8 +1,7 @@
 -- No line of a node tells a difference exactly where all that it said is planned.
 use Rattle.std.{proofs.Common.{◌≡◌, ◌⊎◌, ℕ, ◌+◌, ◌==◌, ◌&&◌, ◌||◌, not, Bool, true, false, List, [], ◌∷◌, ◌++◌, length, refl, ap, sym, ◌∙◌, subst, inl, inr, arith}, specs.Prelude.{Option, Some, None, IsTrue, find, codes, if◌then◌else◌}, specs.Fmt.{decimal}, specs.List.{flat_map, list_any, filter}, proofs.Math.Nat.{suc-ne-zero}, proofs.lemmas.Bool.{cases_Bool, eqb-true, eq-eqb}, proofs.lemmas.List.{nil_from_length, length-append}, proofs.lemmas.List.Elements.{filter-append}}
 use Rattle.mctp_control.{specs.RouteEntries.{EntryValue}, specs.Responses.{AnswerValue, EidSet, EidTold, PoolTold, EntriesTold, Failed}}
-use Rattle.plan_values.{specs.NodeValues.{name_bytes}, specs.declared.nodes.Node.{Node}}
-use Rattle.audited_captures.{specs.AsPlanned.{IsAmong}, specs.Audits.{NodeFacts, difference_count, said_lines, lines_or_quiet, lines_of_node}, specs.Exchanges.{ExchangeValue}, specs.Failures.{fails, failures_of, failures_in, failed_lines}, specs.Identities.{kind_word, eid_line, kind_line, identity_lines, tells_eid, span_words, same_span, pool_lines_of, tells_pool, told_lines, eid_lines, pool_lines, answers_of, first_of, size_of, kind_number}, specs.Lines.{LineValue, difference, note, differences_or, differs}, specs.RecordLines.{unlike_from, line_if_unlike_at, line_of_found, found_lines, is_found, missing_lines, unlike_records, are_planned, records_match, order_line, open_line, stopped_line, walk_lines, walks_lines}, specs.Walking.{Walked, Whole, Open, Stopped}, specs.Matching.{IsReadAsPlanned, IsWalkedAsPlanned, HasPlannedEid, HasPlannedPool, SomeTellsEid, SomeTellsPool, SaysAsPlanned, NodesMatchWhereAsPlanned}, specs.Readings.{PartValue, ReadingValue, Read, Refused, Unended, parts_of, readings}, specs.Routes.{unlike, line_if_unlike, line_beside, planned_lines, extra_line, lines_if_extra, extra_lines, unlike_lines, match_line, reading_lines, readings_lines, routes_lines, has_range, same_range}, proofs.RecordLaws.{planned_is, planned_of}, proofs.Booleans.{both, both_left, both_right, not_both, either, or_right}, proofs.PlannedReadings.{nil_left, nil_right, no_line, flat_nil, flat_none, any_is, any_of, as_planned, no_lines}, proofs.FailureLaws.{none_fails, no_failures, remark_zero, failed_zero, zero_failed, refused_part}}
+use Rattle.audited_captures.{specs.AsPlanned.{IsAmong}, specs.Audits.{difference_count}, specs.Failures.{fails, failures_of, failures_in, failed_lines}, specs.Identities.{kind_word, eid_line, kind_line, identity_lines, tells_eid, span_words, same_span, pool_lines_of, tells_pool, told_lines, eid_lines, pool_lines}, specs.Lines.{LineValue, difference, note, differences_or, differs}, specs.RecordLines.{unlike_from, line_if_unlike_at, line_of_found, found_lines, is_found, missing_lines, unlike_records, are_planned, records_match, order_line, open_line, stopped_line, walk_lines}, specs.Walking.{Walked, Whole, Open, Stopped}, specs.Matching.{IsReadAsPlanned, IsWalkedAsPlanned, HasPlannedEid, HasPlannedPool, SomeTellsEid, SomeTellsPool}, specs.Readings.{PartValue, ReadingValue, Read, Refused, Unended, readings}, specs.Routes.{unlike, line_if_unlike, line_beside, planned_lines, extra_line, lines_if_extra, extra_lines, unlike_lines, match_line, reading_lines, readings_lines, routes_lines, has_range, same_range}, proofs.RecordLaws.{planned_is, planned_of}, proofs.Booleans.{both, both_left, both_right, not_both, either, or_right}, proofs.PlannedReadings.{nil_left, nil_right, no_line, flat_nil, flat_none, any_is, any_of, as_planned, no_lines}, proofs.FailureLaws.{none_fails, no_failures, remark_zero, failed_zero, zero_failed, refused_part}}
 use Rattle.pdr_repository.specs.Records.{Entry, handle_in}
 use Rattle.audited_captures.specs.declared.failures.Topic.TheVariants as topic
 
@@ -30,17 +29,17 @@ all_both a b all_a all_b = omega (arith, count_append a b, length-append a b, al
 pub none_of : (ls : List LineValue) → AllDiffer ls → difference_count ls ≡ 0 → ls ≡ []
 none_of ls all zero = nil_from_length ls (sym all ∙ zero)
 
-one_if : (b : Bool) (text : List ℕ) → AllDiffer (if b then [] else difference text ∷ [])
+pub one_if : (b : Bool) (text : List ℕ) → AllDiffer (if b then [] else difference text ∷ [])
 one_if true text = refl
 one_if false text = refl
 
 module _ {A : Type 0} (f : A → List LineValue) where
-  zero_each : (xs : List A) → difference_count (flat_map f xs) ≡ 0 → (x : A) → IsAmong x xs → difference_count (f x) ≡ 0
+  pub zero_each : (xs : List A) → difference_count (flat_map f xs) ≡ 0 → (x : A) → IsAmong x xs → difference_count (f x) ≡ 0
   zero_each [] is x among = absurd among
   zero_each (y ∷ ys) is x (inl same) = subst (λ z. difference_count (f z) ≡ 0) same (zero_left (f y) (flat_map f ys) is)
   zero_each (y ∷ ys) is x (inr among) = zero_each ys (zero_right (f y) (flat_map f ys) is) x among
 
-  zero_all : (xs : List A) → ((x : A) → IsAmong x xs → difference_count (f x) ≡ 0) → difference_count (flat_map f xs) ≡ 0
+  pub zero_all : (xs : List A) → ((x : A) → IsAmong x xs → difference_count (f x) ≡ 0) → difference_count (flat_map f xs) ≡ 0
   zero_all [] each = refl
   zero_all (y ∷ ys) each = zero_both (f y) (flat_map f ys) (each y (inl refl)) (zero_all ys (λ x among. each x (inr among)))
 
@@ -51,6 +50,14 @@ module _ {A : Type 0} (f : A → List LineValue) where
 no_difference : (text : List ℕ) (ls : List LineValue) → AllDiffer ls → difference_count (differences_or (note text) ls) ≡ 0 → ls ≡ []
 no_difference text [] all zero = refl
 no_difference text (l ∷ ls) all zero = none_of (l ∷ ls) all zero
+
+pub told_is : (told : Bool) (text : List ℕ) (ls : List LineValue) → AllDiffer ls → difference_count (told_lines told (note text) ls) ≡ 0 → (told ≡ false) ⊎ (ls ≡ [])
+told_is true text ls all zero = inr (no_difference text ls all zero)
+told_is false text ls all zero = inl refl
+
+pub told_of : (told : Bool) (text : List ℕ) (ls : List LineValue) → ls ≡ [] → difference_count (told_lines told (note text) ls) ≡ 0
+told_of true text ls none = ap (λ x. difference_count (differences_or (note text) x)) none
+told_of false text ls none = refl
 
 -- ---- readings
 
@@ -93,29 +100,21 @@ module _ (name : List ℕ) where
     abbrev refused : List LineValue
     refused = failed_lines false (name ++ codes " routes") (failures_in parts)
 
-    routes_are : difference_count (routes_lines name planned parts) ≡ 0 → (p : PartValue) → IsAmong p parts → ¬ IsTrue (fails topic.Table p.answer)
+    pub routes_are : difference_count (routes_lines name planned parts) ≡ 0 → (p : PartValue) → IsAmong p parts → ¬ IsTrue (fails topic.Table p.answer)
     routes_are zero = none_fails topic.Table (λ (p : PartValue). p.answer) parts (failed_zero (name ++ codes " routes") (failures_in parts) (zero_right read refused zero))
 
-    tables_are : difference_count (routes_lines name planned parts) ≡ 0 → (r : ReadingValue) → IsAmong r (readings parts) → IsReadAsPlanned planned r
+    pub tables_are : difference_count (routes_lines name planned parts) ≡ 0 → (r : ReadingValue) → IsAmong r (readings parts) → IsReadAsPlanned planned r
     tables_are zero r among =
         reading_is planned r (λ is. (let bad = refused_part parts r among is in routes_are zero bad.0 bad.1 bad.2))
         (zero_each (reading_lines name planned) (readings parts) (zero_left read refused zero) r among)
 
-    routes_of : ((r : ReadingValue) → IsAmong r (readings parts) → IsReadAsPlanned planned r)
+    pub routes_of : ((r : ReadingValue) → IsAmong r (readings parts) → IsReadAsPlanned planned r)
         → ((p : PartValue) → IsAmong p parts → ¬ IsTrue (fails topic.Table p.answer)) → difference_count (routes_lines name planned parts) ≡ 0
     routes_of each sound =
         zero_both read refused (zero_all (reading_lines name planned) (readings parts) (λ r among. reading_of planned r (each r among)))
         (zero_failed false (name ++ codes " routes") (failures_in parts) (no_failures topic.Table (λ (p : PartValue). p.answer) parts sound))
 
   -- ---- endpoint IDs and pools
-
-  told_is : (told : Bool) (text : List ℕ) (ls : List LineValue) → AllDiffer ls → difference_count (told_lines told (note text) ls) ≡ 0 → (told ≡ false) ⊎ (ls ≡ [])
-  told_is true text ls all zero = inr (no_difference text ls all zero)
-  told_is false text ls all zero = inl refl
-
-  told_of : (told : Bool) (text : List ℕ) (ls : List LineValue) → ls ≡ [] → difference_count (told_lines told (note text) ls) ≡ 0
-  told_of true text ls none = ap (λ x. difference_count (differences_or (note text) x)) none
-  told_of false text ls none = refl
 
   abbrev eid_text : (planned found : ℕ) → List ℕ
   eid_text planned found = name ++ (codes " eid " ++ (decimal found ++ (codes " planned " ++ decimal planned)))
@@ -174,7 +173,7 @@ module _ (name : List ℕ) where
     abbrev eids_failed : List AnswerValue → Bool → List LineValue
     eids_failed answers is_remark = failed_lines is_remark (name ++ codes " eid") (failures_of topic.Eid answers)
 
-    eid_told_are : (answers : List AnswerValue) → difference_count (eid_lines name eid type answers) ≡ 0 → (a : AnswerValue) → IsAmong a answers → IsTrue (fails topic.Eid a) → SomeTellsEid answers
+    pub eid_told_are : (answers : List AnswerValue) → difference_count (eid_lines name eid type answers) ≡ 0 → (a : AnswerValue) → IsAmong a answers → IsTrue (fails topic.Eid a) → SomeTellsEid answers
     eid_told_are answers zero a among fails_it = elim (cases_Bool (list_any tells_eid answers)) [
       | inl tells ↦ any_is tells_eid answers tells
       | inr silent ↦ (
@@ -183,7 +182,7 @@ module _ (name : List ℕ) where
           absurd (none_fails topic.Eid (λ (b : AnswerValue). b) answers none a among fails_it))
     ]
 
-    eids_are : (answers : List AnswerValue) → difference_count (eid_lines name eid type answers) ≡ 0 → (a : AnswerValue) → IsAmong a answers → HasPlannedEid eid type a
+    pub eids_are : (answers : List AnswerValue) → difference_count (eid_lines name eid type answers) ≡ 0 → (a : AnswerValue) → IsAmong a answers → HasPlannedEid eid type a
     eids_are answers zero a among = elim (told_is (list_any tells_eid answers) (name ++ (codes " eid match " ++ decimal eid)) (flat_map (identity_lines name eid type) answers) (all_flat (identity_lines name eid type) identity_all answers) (zero_left (eids_told answers) (eids_failed answers (list_any tells_eid answers)) zero)) [
       | inl untold ↦ elim (cases_Bool (tells_eid a)) [
         | inl tells ↦ absurd (not_both (list_any tells_eid answers) (any_of tells_eid answers a among tells) untold)
@@ -192,7 +191,7 @@ module _ (name : List ℕ) where
       | inr none ↦ identity_is a (flat_nil (identity_lines name eid type) answers none a among)
     ]
 
-    eids_of : (answers : List AnswerValue) → ((a : AnswerValue) → IsAmong a answers → HasPlannedEid eid type a)
+    pub eids_of : (answers : List AnswerValue) → ((a : AnswerValue) → IsAmong a answers → HasPlannedEid eid type a)
         → ((a : AnswerValue) → IsAmong a answers → IsTrue (fails topic.Eid a) → SomeTellsEid answers) → difference_count (eid_lines name eid type answers) ≡ 0
     eids_of answers each tells =
         zero_both (eids_told answers) (eids_failed answers (list_any tells_eid answers))
@@ -256,7 +255,7 @@ module _ (name : List ℕ) where
     abbrev is_remark : List AnswerValue → Bool
     is_remark answers = list_any tells_pool answers || size == 0
 
-    pool_told_are : (answers : List AnswerValue) → difference_count (pool_lines name first size answers) ≡ 0 → (a : AnswerValue) → IsAmong a answers → IsTrue (fails topic.Pool a) → SomeTellsPool answers ⊎ (size ≡ 0)
+    pub pool_told_are : (answers : List AnswerValue) → difference_count (pool_lines name first size answers) ≡ 0 → (a : AnswerValue) → IsAmong a answers → IsTrue (fails topic.Pool a) → SomeTellsPool answers ⊎ (size ≡ 0)
     pool_told_are answers zero a among fails_it = elim (cases_Bool (is_remark answers)) [
       | inl remark ↦ elim (either (list_any tells_pool answers) (size == 0) remark) [
         | inl tells ↦ inl (any_is tells_pool answers tells)
@@ -268,7 +267,7 @@ module _ (name : List ℕ) where
           absurd (none_fails topic.Pool (λ (b : AnswerValue). b) answers none a among fails_it))
     ]
 
-    pools_are : (answers : List AnswerValue) → difference_count (pool_lines name first size answers) ≡ 0 → (a : AnswerValue) → IsAmong a answers → HasPlannedPool first size a
+    pub pools_are : (answers : List AnswerValue) → difference_count (pool_lines name first size answers) ≡ 0 → (a : AnswerValue) → IsAmong a answers → HasPlannedPool first size a
     pools_are answers zero a among = elim (told_is (list_any tells_pool answers) (name ++ (codes " pool match " ++ span_words first size)) (flat_map (pool_lines_of name first size) answers) (all_flat (pool_lines_of name first size) pool_all answers) (zero_left (pools_told answers) (pools_failed answers (is_remark answers)) zero)) [
       | inl untold ↦ elim (cases_Bool (tells_pool a)) [
         | inl tells ↦ absurd (not_both (list_any tells_pool answers) (any_of tells_pool answers a among tells) untold)
@@ -281,7 +280,7 @@ module _ (name : List ℕ) where
     is_a_remark answers (inl some) = ap (λ b. b || size == 0) (any_of tells_pool answers some.0 some.1 some.2)
     is_a_remark answers (inr empty) = or_right (list_any tells_pool answers) (size == 0) (eq-eqb size 0 empty)
 
-    pools_of : (answers : List AnswerValue) → ((a : AnswerValue) → IsAmong a answers → HasPlannedPool first size a)
+    pub pools_of : (answers : List AnswerValue) → ((a : AnswerValue) → IsAmong a answers → HasPlannedPool first size a)
         → ((a : AnswerValue) → IsAmong a answers → IsTrue (fails topic.Pool a) → SomeTellsPool answers ⊎ (size ≡ 0)) → difference_count (pool_lines name first size answers) ≡ 0
     pools_of answers each tells =
         zero_both (pools_told answers) (pools_failed answers (is_remark answers))
@@ -314,7 +313,7 @@ module _ (name : List ℕ) where
         (all_flat (found_lines name records) (λ f. of_found_all f (find (λ (e : Entry). e.handle == handle_in f) records)) found)
         (all_flat (missing_lines name found) (λ e. one_if (is_found found e) (name ++ (codes " record " ++ (decimal e.handle ++ codes " missing")))) records)
 
-    walk_is : (w : Walked) → difference_count (walk_lines name records w) ≡ 0 → IsWalkedAsPlanned records w
+    pub walk_is : (w : Walked) → difference_count (walk_lines name records w) ≡ 0 → IsWalkedAsPlanned records w
     walk_is (Whole found) zero = elim (cases_Bool (are_planned records found)) [
       | inl planned ↦ planned_is records found planned
       | inr other ↦ absurd (or_order_some (name ++ codes " records order differs") (unlike_records name records found ++ flat_map (missing_lines name found) records) (records_all found)
@@ -327,68 +326,9 @@ module _ (name : List ℕ) where
         let one : difference_count (stopped_line name fault (length found) ∷ []) ≡ 0 = zero_right (unlike_records name records found) (stopped_line name fault (length found) ∷ []) zero in
         absurd (suc-ne-zero 0 one)
 
-    walk_of : (w : Walked) → IsWalkedAsPlanned records w → difference_count (walk_lines name records w) ≡ 0
+    pub walk_of : (w : Walked) → IsWalkedAsPlanned records w → difference_count (walk_lines name records w) ≡ 0
     walk_of (Whole found) is =
         ap (λ (b : Bool). difference_count (if b then records_match name (length found) ∷ [] else differences_or (order_line name) (unlike_records name records found ++ flat_map (missing_lines name found) records)))
         (planned_of records found is)
     walk_of (Open found) is = absurd is
     walk_of (Stopped fault found) is = absurd is
-
--- ---- a node
-
-pub quiet_count : (name : List ℕ) (unanswered : ℕ) (ls : List LineValue) → difference_count (lines_or_quiet name unanswered ls) ≡ difference_count ls
-quiet_count name unanswered [] = refl
-quiet_count name unanswered (l ∷ ls) = refl
-
-module _ (node : Node) (xs : List ExchangeValue) (f : NodeFacts) (unanswered : ℕ) where
-  abbrev name : List ℕ
-  name = name_bytes node.name
-
-  abbrev answers : List AnswerValue
-  answers = answers_of node.eid.value xs
-
-  abbrev parts : List PartValue
-  parts = parts_of node.eid.value xs
-
-  abbrev told : List LineValue
-  told = walks_lines name f.records f.walks
-
-  abbrev routes : List LineValue
-  routes = routes_lines name f.planned parts
-
-  abbrev eids : List LineValue
-  eids = eid_lines name node.eid.value (kind_number node.kind) answers
-
-  abbrev pools : List LineValue
-  pools = pool_lines name (first_of node.pool) (size_of node.pool) answers
-
-  abbrev said : List LineValue
-  said = said_lines node f.planned xs told
-
-  node_is : difference_count (lines_of_node node f.planned xs unanswered told) ≡ 0 → SaysAsPlanned node xs f
-  node_is zero =
-      let all : difference_count said ≡ 0 = sym (quiet_count name unanswered said) ∙ zero in
-      let control = zero_left (routes ++ (eids ++ pools)) told all in
-      let table = zero_left routes (eids ++ pools) control in
-      let later = zero_right routes (eids ++ pools) control in
-      record {
-        tables = tables_are name f.planned parts table;
-        routes_told = routes_are name f.planned parts table;
-        eid_told = eid_told_are name node.eid.value (kind_number node.kind) answers (zero_left eids pools later);
-        pool_told = pool_told_are name (first_of node.pool) (size_of node.pool) answers (zero_right eids pools later);
-        eids = eids_are name node.eid.value (kind_number node.kind) answers (zero_left eids pools later);
-        pools = pools_are name (first_of node.pool) (size_of node.pool) answers (zero_right eids pools later);
-        records = λ w among. walk_is name f.records w (zero_each (walk_lines name f.records) f.walks (zero_right (routes ++ (eids ++ pools)) told all) w among);
-      }
-
-  node_of : SaysAsPlanned node xs f → difference_count (lines_of_node node f.planned xs unanswered told) ≡ 0
-  node_of says =
-      quiet_count name unanswered said
-      ∙ zero_both (routes ++ (eids ++ pools)) told
-      (zero_both routes (eids ++ pools) (routes_of name f.planned parts says.tables says.routes_told)
-      (zero_both eids pools (eids_of name node.eid.value (kind_number node.kind) answers says.eids says.eid_told)
-      (pools_of name (first_of node.pool) (size_of node.pool) answers says.pools says.pool_told)))
-      (zero_all (walk_lines name f.records) f.walks (λ w among. walk_of name f.records w (says.records w among)))
-
-pub nodes_match : NodesMatchWhereAsPlanned
-nodes_match node xs f unanswered = (node_is node xs f unanswered, node_of node xs f unanswered)

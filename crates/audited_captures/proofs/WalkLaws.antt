@@ -1,7 +1,7 @@
 -- One part of a walk more, and one walk more.
-use Rattle.std.{proofs.Common.{◌≡◌, ℕ, ◌<◌, ◌+◌, List, [], ◌∷◌, ◌++◌, length, refl, sym, ◌∙◌, ap, subst, map, drop, get_or, true, false, append_assoc}, specs.Prelude.{Result, Ok, Err, IfOk, None, Some}, proofs.lemmas.Option.{same_Some}, proofs.lemmas.List.{append-nil}, proofs.lemmas.Grind.{flat_map-append}}
-use Rattle.pdr_repository.{specs.Records.{Entry}, specs.Walkers.{WalkState}, specs.declared.walk_fault.WalkFault.{WalkFault}}
-use Rattle.audited_captures.{specs.RecordParts.{RecordPartValue, record_part_value}, specs.declared.record_parts.RecordPart.{RecordPart}, specs.Lines.{LineValue}, specs.RecordLines.{walk_lines, walks_lines}, specs.Walking.{Walked, Whole, Open, Stopped, Walks, Other, Left, GoesOn, Ends, Stops, AreWalks, Empty, Within, Begins, begins, walked_value, fresh_walk, asking}, specs.Walks.{IsWalkLines, AreWalksLines}, specs.WalkTurns.{IsNext, TakesAnswer, TakesPart, ending_of}, specs.declared.walking.Ending.{Ending}, specs.declared.walking.Turn.{Turn}, proofs.WordLaws.{left_mapped}}
+use Rattle.std.{proofs.Common.{◌≡◌, ℕ, ◌<◌, ◌+◌, List, [], ◌∷◌, ◌++◌, length, sym, ◌∙◌, ap, subst, map, drop, get_or, true, false, append_assoc}, specs.Prelude.{Result, Ok, Err, IfOk, None, Some}, proofs.lemmas.Option.{same_Some}, proofs.lemmas.List.{append-nil}}
+use Rattle.pdr_repository.{specs.Walkers.{WalkState}, specs.declared.walk_fault.WalkFault.{WalkFault}}
+use Rattle.audited_captures.{specs.RecordParts.{RecordPartValue, record_part_value}, specs.declared.record_parts.RecordPart.{RecordPart}, specs.Walking.{Walked, Whole, Open, Stopped, Walks, Other, Left, GoesOn, Ends, Stops, AreWalks, Empty, Within, Begins, begins, walked_value, fresh_walk, asking}, specs.Walks.{IsWalk}, specs.WalkTurns.{IsNext, TakesAnswer, TakesPart, ending_of}, specs.declared.walking.Ending.{Ending}, specs.declared.walking.Turn.{Turn}, proofs.WordLaws.{left_mapped}}
 use Rattle.audited_captures.specs.declared.walking.Ending.TheVariants as ending
 use Rattle.audited_captures.specs.declared.walking.Turn.TheVariants as turn
 
@@ -70,44 +70,34 @@ module _ (requester : ℕ) (items : List RecordPart) (i : ℕ) (item : RecordPar
 
 -- ---- all walks
 
--- the walks that begin before this place are done, and these are their lines
-pub record HasWalked (name : List ℕ) (planned : List Entry) (parts : List RecordPart) (i : ℕ) (lines : List LineValue) : Type 0 where
-  pub done : List Walked
+-- the walks that begin before this place are these
+pub record HasWalked (parts : List RecordPart) (i : ℕ) (done : List Walked) : Type 0 where
   pub goes_on : (rest : List Walked) → AreWalks (map record_part_value (drop i parts)) rest → AreWalks (map record_part_value parts) (done ++ rest)
-  pub told : lines ≡ walks_lines name planned done
 
-pub none_walked : (name : List ℕ) (planned : List Entry) (parts : List RecordPart) → HasWalked name planned parts 0 []
-none_walked name planned parts = record { done = []; goes_on = λ rest are. are; told = refl }
+pub none_walked : (parts : List RecordPart) → HasWalked parts 0 []
+none_walked parts = record { goes_on = λ rest are. are }
 
-pub within_walk : (name : List ℕ) (planned : List Entry) (parts : List RecordPart) (i : ℕ) (item : RecordPart) (lines : List LineValue) → i < length parts → item ≡ get_or parts i item
-    → begins (record_part_value item) ≡ false → HasWalked name planned parts i lines → HasWalked name planned parts (i + 1) lines
-within_walk name planned parts i item lines within is inside before = record {
-  done = before.done;
+pub within_walk : (parts : List RecordPart) (i : ℕ) (item : RecordPart) (done : List Walked) → i < length parts → item ≡ get_or parts i item
+    → begins (record_part_value item) ≡ false → HasWalked parts i done → HasWalked parts (i + 1) done
+within_walk parts i item done within is inside before = record {
   goes_on = λ rest are. before.goes_on rest (subst (λ (ps : List RecordPartValue). AreWalks ps rest) (sym (left_mapped record_part_value parts i item within is))
       (Within (record_part_value item) (map record_part_value (drop (i + 1) parts)) rest inside are));
-  told = before.told;
 }
 
-pub next_walk : (name : List ℕ) (planned : List Entry) (parts : List RecordPart) (i : ℕ) (item : RecordPart) (lines more all : List LineValue) → i < length parts → item ≡ get_or parts i item
-    → begins (record_part_value item) ≡ true → IsWalkLines name planned (record_part_value item) (map record_part_value (drop i parts)) more → all ≡ lines ++ more
-    → HasWalked name planned parts i lines → HasWalked name planned parts (i + 1) all
-next_walk name planned parts i item lines more all within is first (w, walks, tells) joined before =
+pub next_walk : (parts : List RecordPart) (i : ℕ) (item : RecordPart) (done all : List Walked) (w : Walked) → i < length parts → item ≡ get_or parts i item
+    → begins (record_part_value item) ≡ true → IsWalk (record_part_value item) (map record_part_value (drop i parts)) w → all ≡ done ++ w ∷ []
+    → HasWalked parts i done → HasWalked parts (i + 1) all
+next_walk parts i item done all w within is first walks joined before =
     let left = left_mapped record_part_value parts i item within is in
     record {
-      done = before.done ++ w ∷ [];
       goes_on = λ rest are.
-          subst (λ (ws : List Walked). AreWalks (map record_part_value parts) ws) (sym (append_assoc before.done (w ∷ []) rest))
+          subst (λ (ws : List Walked). AreWalks (map record_part_value parts) ws) (sym (ap (λ ws. ws ++ rest) joined ∙ append_assoc done (w ∷ []) rest))
           (before.goes_on (w ∷ rest) (subst (λ (ps : List RecordPartValue). AreWalks ps (w ∷ rest)) (sym left)
           (Begins (record_part_value item) (map record_part_value (drop (i + 1) parts)) w rest first
           (subst (λ (ps : List RecordPartValue). Walks item.requester.value (fresh_walk item.request.request_count) ps w) left walks) are)));
-      told = joined ∙ ap (λ ls. ls ++ more) before.told ∙ ap (λ ls. walks_lines name planned before.done ++ ls) (tells ∙ sym (append-nil (walk_lines name planned w)))
-          ∙ sym (flat_map-append (walk_lines name planned) before.done (w ∷ []));
     }
 
-pub all_walked : (name : List ℕ) (planned : List Entry) (parts : List RecordPart) (i : ℕ) (lines : List LineValue) → HasWalked name planned parts i lines → drop i parts ≡ []
-    → AreWalksLines name planned (map record_part_value parts) lines
-all_walked name planned parts i lines have end = (
-  have.done ++ [],
-  have.goes_on [] (subst (λ (ps : List RecordPart). AreWalks (map record_part_value ps) []) (sym end) Empty),
-  have.told ∙ ap (walks_lines name planned) (sym (append-nil have.done)),
-)
+pub all_walked : (parts : List RecordPart) (i : ℕ) (done : List Walked) → HasWalked parts i done → drop i parts ≡ [] → AreWalks (map record_part_value parts) done
+all_walked parts i done have end =
+    subst (λ (ws : List Walked). AreWalks (map record_part_value parts) ws) (append-nil done)
+    (have.goes_on [] (subst (λ (ps : List RecordPart). AreWalks (map record_part_value ps) []) (sym end) Empty))

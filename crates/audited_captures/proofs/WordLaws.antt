@@ -1,7 +1,7 @@
 -- One message more.
-use Rattle.std.{proofs.Common.{◌≡◌, ℕ, ◌<◌, ◌+◌, List, [], ◌∷◌, ◌++◌, length, ap, sym, ◌∙◌, subst, get_or, map, take, drop, inl, inr, true, false, add-one, suc, zero, ◌≤◌, arith, refl}, specs.Prelude.{Option, Some, None, MatchOption}, proofs.Math.Seq.{drop-cons}, proofs.lemmas.List.{take_more, map-append}}
+use Rattle.std.{proofs.Common.{◌≡◌, ◌⊎◌, ℕ, ◌<◌, ◌+◌, List, [], ◌∷◌, ◌++◌, length, ap, sym, ◌∙◌, subst, get_or, map, take, drop, inl, inr, Bool, not, add-one, suc, zero, ◌≤◌, arith, refl}, specs.Prelude.{Option, Some, None, MatchOption}, proofs.Math.Seq.{drop-cons}, proofs.lemmas.List.{take_more, map-append}}
 use Rattle.heard_captures.{specs.Messages.{MessageValue, message_value}, specs.declared.messages.Message.{Message}}
-use Rattle.audited_captures.{specs.Words.{WordValue, word_value, IsRequestWord, IsResponseWord, IsAskingWord, IsTellingWord, IsWord, IsNoWord, AddsWord, AreWords, Other, More}, specs.declared.words.Word.{Word}}
+use Rattle.audited_captures.{specs.Words.{WordValue, word_value, IsSaid, IsWord, IsNoWord, IsMisowned, IsNotMisowned, AddsWord, AreWords, Other, More}, specs.declared.words.Word.{Word}}
 
 -- so many items of a list, and the next one
 pub mapped_more : {A B : Type 0} (f : A → B) (items : List A) (i : ℕ) (item : A) → i < length items → item ≡ get_or items i item
@@ -32,24 +32,25 @@ pub next_word : (items : List Message) (i : ℕ) (item : Message) (old new : Lis
 next_word items i item old new within is are adds =
     subst (λ ms. AreWords ms new) (sym (mapped_more message_value items i item within is)) (added (map message_value (take i items)) old new (message_value item) are adds)
 
--- ---- a message that asks neither of a control command nor for a part of a record, and one that answers neither
+-- ---- what a message says
 
-no_asking : (m : MessageValue) (w : WordValue) → m.owner ≡ true → ¬ IsRequestWord m w → ¬ IsAskingWord m w → IsWord m w → ⊥
-no_asking m w owner request part (inl (is, inl asks)) = request asks
-no_asking m w owner request part (inl (is, inr asks)) = part asks
-no_asking m w owner request part (inr (is, answers)) = cc
+neither : {A : Type 0} (P Q : A → Type 0) → ((w : A) → ¬ P w) → ((w : A) → ¬ Q w) → (w : A) → ¬ (P w ⊎ Q w)
+neither P Q no_p no_q w (inl p) = no_p w p
+neither P Q no_p no_q w (inr q) = no_q w q
 
-pub asks_neither : (m : MessageValue) (found : Option Word) → m.owner ≡ true → ((w : WordValue) → ¬ IsRequestWord m w)
-    → MatchOption found ((w : WordValue) → ¬ IsAskingWord m w) (λ word. IsAskingWord m (word_value word)) → MatchOption found (IsNoWord m) (λ word. IsWord m (word_value word))
-asks_neither m None owner request part = λ w is. no_asking m w owner (request w) (part w) is
-asks_neither m (Some word) owner request part = inl (owner, inr part)
+-- it isn't the one, so it is the other or neither
+pub or_other : {A W : Type 0} (P Q : A → Type 0) (value : W → A) (found : Option W) → ((w : A) → ¬ P w) → MatchOption found ((w : A) → ¬ Q w) (λ x. Q (value x))
+    → MatchOption found ((w : A) → ¬ (P w ⊎ Q w)) (λ x. P (value x) ⊎ Q (value x))
+or_other P Q value None no_p no_q = neither P Q no_p no_q
+or_other P Q value (Some x) no_p q = inr q
 
-no_answering : (m : MessageValue) (w : WordValue) → m.owner ≡ false → ¬ IsResponseWord m w → ¬ IsTellingWord m w → IsWord m w → ⊥
-no_answering m w owner response part (inl (is, asks)) = cc
-no_answering m w owner response part (inr (is, inl answers)) = response answers
-no_answering m w owner response part (inr (is, inr answers)) = part answers
+module _ (m : MessageValue) (found : Option Word) where
+  abbrev Says : Bool → Type 0
+  Says owns = MatchOption found ((w : WordValue) → ¬ IsSaid owns m w) (λ word. IsSaid owns m (word_value word))
 
-pub answers_neither : (m : MessageValue) (found : Option Word) → m.owner ≡ false → ((w : WordValue) → ¬ IsResponseWord m w)
-    → MatchOption found ((w : WordValue) → ¬ IsTellingWord m w) (λ word. IsTellingWord m (word_value word)) → MatchOption found (IsNoWord m) (λ word. IsWord m (word_value word))
-answers_neither m None owner response part = λ w is. no_answering m w owner (response w) (part w) is
-answers_neither m (Some word) owner response part = inr (owner, inr part)
+  -- by who owns the tag
+  pub said_by : (owns : Bool) → m.owner ≡ owns → Says owns → MatchOption found (IsNoWord m) (λ word. IsWord m (word_value word))
+  said_by owns is says = subst Says (sym is) says
+
+  pub misowned_by : (owns : Bool) → m.owner ≡ owns → Says (not owns) → MatchOption found (IsNotMisowned m) (λ word. IsMisowned m (word_value word))
+  misowned_by owns is says = subst (λ (b : Bool). Says (not b)) (sym is) says

@@ -1,9 +1,9 @@
 -- What captured devices said, laid beside a plan.
-use Rattle.std.{specs.Prelude.{◌≡◌, ℕ, ◌+◌, ◌<◌, ◌==◌, ◌&&◌, Bool, List, [], ◌∷◌, ◌++◌, length, codes, slice_get, Option, Some, if◌then◌else◌}, specs.Fmt.{decimal}, specs.List.{flat_map, filter, list_any}}
+use Rattle.std.{specs.Prelude.{◌≡◌, ℕ, ◌+◌, ◌<◌, ◌==◌, ◌&&◌, Bool, List, [], ◌∷◌, ◌++◌, length, codes, slice_get, Option, Some, Result, if◌then◌else◌}, specs.Fmt.{decimal}, specs.List.{flat_map, filter, list_any}}
 use Rattle.bus_captures.{specs.Values.{EntryValue}, specs.declared.capture.End.{End}}
 use Rattle.heard_captures.{specs.Hearing.{AreHeard}, specs.Messages.{MessageValue}}
 use Rattle.plan_values.{specs.NodeValues.{name_bytes}, specs.declared.certificate.Certificate.{Certificate}, specs.declared.plan.Plan.{Plan}, specs.declared.nodes.Node.{Node}}
-use Rattle.audited_captures.{specs.Words.{WordValue, AreWords}, specs.Exchanges.{ExchangeValue, AreExchanges}, specs.Asked.{unanswered}, specs.Readings.{parts_of}, specs.Lines.{LineValue, silence, differs, compares}, specs.RecordLines.{walks_lines}, specs.RecordParts.{RecordPartValue, AreRecordParts}, specs.Refusals.{AreRefusals, refused_lines}, specs.declared.refusals.Refusal.{Refusal}, specs.Strangers.{AreStrangerLines}, specs.Sums.{sum_words}, specs.declared.sums.Sum.{Sum}, specs.Routes.{routes_lines}, specs.TrafficLines.{IsTraffic}, specs.Walking.{Walked, AreWalks}, specs.Identities.{answers_of, eid_lines, pool_lines, first_of, size_of, kind_number}}
+use Rattle.audited_captures.{specs.Words.{WordValue, AreWords}, specs.Exchanges.{ExchangeValue, AreExchanges}, specs.Asked.{unanswered}, specs.Readings.{parts_of}, specs.Lines.{LineValue, silence, differs, compares}, specs.RecordLines.{walks_lines}, specs.RecordParts.{RecordPartValue, AreRecordParts}, specs.Refusals.{AreRefusals, refused_lines}, specs.declared.refusals.Refusal.{Refusal}, specs.Strangers.{AreStrangerLines}, specs.Sums.{sum_words}, specs.declared.sums.Sum.{Sum}, specs.Talk.{AreTalkLines, AreOwnerLines}, specs.Tids.{AreTids, planned_tid, tid_lines}, specs.Untold.{untold_lines, wanted_lines}, specs.Routes.{routes_lines}, specs.TrafficLines.{IsTraffic}, specs.Walking.{Walked, AreWalks}, specs.Identities.{answers_of, eid_lines, pool_lines, first_of, size_of, kind_number}}
 use Rattle.net_tables.specs.Repositories.{records_by_place}
 use Rattle.pdr_repository.specs.Records.{Entry}
 use Rattle.plan_exports.{specs.PlannedTables.{HasLawfulRows}, specs.TableAnswers.{AreEntriesOf}}
@@ -21,7 +21,7 @@ answered_lines node planned xs =
     ++ (eid_lines (name_bytes node.name) node.eid.value (kind_number node.kind) (answers_of node.eid.value xs)
     ++ pool_lines (name_bytes node.name) (first_of node.pool) (size_of node.pool) (answers_of node.eid.value xs))
 
--- behind that stands what was told of its records
+-- behind that stands what was told of its terminus ID and its records
 abbrev pub said_lines :
     Node → (planned : List routes.EntryValue) → List ExchangeValue → (told : List LineValue) → List LineValue
 said_lines node planned xs told = answered_lines node planned xs ++ told
@@ -52,12 +52,13 @@ abbrev pub heard_of : List WordValue → List ExchangeValue → Heard
 heard_of words exchanges = record { words = words; exchanges = exchanges }
 
 -- what is planned and what was captured of a node: the entries of its routing table, its records by place, what it
--- answered about records, and the walks that this makes
+-- answered about records and the walks that this makes, and what it answered of its terminus ID
 pub record NodeFacts : Type 0 where
   pub planned : List routes.EntryValue
   pub records : List Entry
   pub parts : List RecordPartValue
   pub walks : List Walked
+  pub tids : List (Result ℕ ℕ)
 
 pub record AreFacts (plan : Plan) (repositories : List (List Entry)) (h : Heard) (n : ℕ) (node : Node)
     (f : NodeFacts) : Type 0 where
@@ -65,17 +66,25 @@ pub record AreFacts (plan : Plan) (repositories : List (List Entry)) (h : Heard)
   pub stored : slice_get repositories n ≡ Some f.records
   pub answered : AreRecordParts node.eid.value h.words f.parts
   pub walked : AreWalks f.parts f.walks
+  pub identified : AreTids node.eid.value h.words f.tids
 
--- the lines of the node at an index
+-- what was told of a node's terminus: of its ID, and of its records
+abbrev pub told_lines_of : Node → NodeFacts → List LineValue
+told_lines_of node f =
+    tid_lines (name_bytes node.name) (planned_tid node) f.tids
+    ++ walks_lines (name_bytes node.name) f.records f.walks
+
+-- the lines of the node at an index, and those of what it didn't tell
 pub record AreNodeLines (plan : Plan) (repositories : List (List Entry)) (h : Heard) (n : ℕ)
-    (lines : List LineValue) : Type 0 where
+    (lines untold : List LineValue) : Type 0 where
   pub node : Node
   pub facts : NodeFacts
   pub at : slice_get plan.nodes.items n ≡ Some node
   pub are : AreFacts plan repositories h n node facts
   pub tell : lines
-      ≡ lines_of_node node facts.planned h.exchanges (unanswered node.eid.value h.words h.exchanges facts.parts)
-      (walks_lines (name_bytes node.name) facts.records facts.walks)
+      ≡ lines_of_node node facts.planned h.exchanges
+      (unanswered node.eid.value h.words h.exchanges facts.parts facts.tids) (told_lines_of node facts)
+  pub wants : untold ≡ untold_lines node h.exchanges facts.walks
 
 abbrev pub difference_count : List LineValue → ℕ
 difference_count lines = length (filter differs lines)
@@ -91,13 +100,15 @@ is_match lines = difference_count lines == 0 && has_compared lines
 abbrev pub one_if : Bool → ℕ
 one_if b = if b then 1 else 0
 
--- the lines of so many nodes, in the plan's order, and of how many of these some line tells of a comparison
+-- the lines of so many nodes, in the plan's order, those of what they didn't tell, and of how many of these nodes some
+-- line tells of a comparison
 pub data AreLines (plan : Plan) (repositories : List (List Entry)) (h : Heard)
-    : ℕ → List LineValue → (compared : ℕ) → Type 0 where
-  Empty : AreLines plan repositories h 0 [] 0
-  More : (n : ℕ) (lines more : List LineValue) (compared : ℕ) → AreLines plan repositories h n lines compared
-      → AreNodeLines plan repositories h n more
-      → AreLines plan repositories h (n + 1) (lines ++ more) (compared + one_if (has_compared more))
+    : ℕ → (lines untold : List LineValue) → (compared : ℕ) → Type 0 where
+  Empty : AreLines plan repositories h 0 [] [] 0
+  More : (n : ℕ) (lines untold more wants : List LineValue) (compared : ℕ)
+      → AreLines plan repositories h n lines untold compared → AreNodeLines plan repositories h n more wants
+      → AreLines plan repositories h (n + 1) (lines ++ more) (untold ++ wants)
+      (compared + one_if (has_compared more))
 
 -- the records of so many nodes, by the certificate's places
 pub record AreRepositories (plan : Plan) (cert : Certificate) (count : ℕ)
@@ -134,11 +145,23 @@ rest_line (end.Broken place why) = codes "capture not read from " ++ (decimal pl
 abbrev pub audit_text : List LineValue → Sum → End → List ℕ
 audit_text lines sum how = flat_map text_line lines ++ (rest_line how ++ last_line how lines sum)
 
+-- The lines behind those of the nodes: of devices that no node stands for, of what nodes didn't tell, where that is
+-- wanted, of messages whose sender says the wrong of who owns the tag, and of requests and answers that don't go
+-- together.
+pub record AreOthers (plan : Plan) (complete : Bool) (messages : List MessageValue) (h : Heard)
+    (untold lines : List LineValue) : Type 0 where
+  pub strangers : List LineValue
+  pub owners : List LineValue
+  pub talk : List LineValue
+  pub strange : AreStrangerLines plan h.exchanges strangers
+  pub owned : AreOwnerLines plan messages owners
+  pub talked : AreTalkLines plan h.words talk
+  pub joined : lines ≡ strangers ++ (wanted_lines complete untold ++ (owners ++ talk))
+
 -- These are the lines of what was captured beside the plan and these records: the messages that came whole in packets
 -- of the plan's transmission unit, those among them that ask and answer, the control messages that were answered, what
--- the answers of each node say, and behind that those of devices that no node stands for. So many nodes said something
--- that was laid beside the plan.
-pub record AreBeside (plan : Plan) (repositories : List (List Entry)) (entries : List EntryValue)
+-- the answers of each node say, and behind that the others. So many nodes said something that was laid beside the plan.
+pub record AreBeside (plan : Plan) (complete : Bool) (repositories : List (List Entry)) (entries : List EntryValue)
     (lines : List LineValue) (compared : ℕ) : Type 0 where
   pub messages : List MessageValue
   pub heard : Heard
@@ -146,23 +169,24 @@ pub record AreBeside (plan : Plan) (repositories : List (List Entry)) (entries :
   pub spoken : AreWords messages heard.words
   pub answered : AreExchanges heard.words heard.exchanges
   pub of_nodes : List LineValue
-  pub of_strangers : List LineValue
-  pub told : AreLines plan repositories heard (length plan.nodes.items) of_nodes compared
-  pub strange : AreStrangerLines plan heard.exchanges of_strangers
-  pub joined : lines ≡ of_nodes ++ of_strangers
+  pub untold : List LineValue
+  pub of_others : List LineValue
+  pub told : AreLines plan repositories heard (length plan.nodes.items) of_nodes untold compared
+  pub others : AreOthers plan complete messages heard untold of_others
+  pub joined : lines ≡ of_nodes ++ of_others
 
 -- The lines are those of the answers, beside the plan and its records, behind them those of the packets that the plan
 -- doesn't have on the bus where the capture was taken, or on any bus where none is named, and last the remark on what
 -- was refused. The sum has the number of nodes that said something which was compared, of all nodes, of packets, and of
 -- what was refused.
-pub record AreAudited (plan : Plan) (cert : Certificate) (bus : Option ℕ) (entries : List EntryValue)
-    (lines : List LineValue) (sum : Sum) : Type 0 where
+pub record AreAudited (plan : Plan) (cert : Certificate) (bus : Option ℕ) (complete : Bool)
+    (entries : List EntryValue) (lines : List LineValue) (sum : Sum) : Type 0 where
   pub repositories : List (List Entry)
   pub answers : List LineValue
   pub traffic : List LineValue
   pub refusals : List Refusal
   pub placed : AreRepositories plan cert (length plan.nodes.items) repositories
-  pub beside : AreBeside plan repositories entries answers sum.compared
+  pub beside : AreBeside plan complete repositories entries answers sum.compared
   pub passed : IsTraffic plan bus entries traffic
   pub refused : AreRefusals plan.unit entries refusals
   pub joined : lines ≡ (answers ++ traffic) ++ refused_lines refusals

@@ -1,7 +1,8 @@
 -- Requests with the responses to them (DSP0236, "MCTP control message format").
 use Rattle.std.{specs.Prelude.{ℕ, ◌==◌, ◌&&◌, ◌||◌, Bool, List, [], ◌∷◌, ◌++◌, Option, None, Some, if◌then◌else◌, option_to_list}, specs.Option.{option_or}}
 use Rattle.mctp_control.{specs.Requests.{CommandValue, command_value}, specs.Responses.{AnswerValue, answer_value}}
-use Rattle.audited_captures.{specs.Words.{WordValue, BodyValue, Asks, Answers, command_of}, specs.declared.exchanges.Exchange.{Exchange}}
+use Rattle.audited_captures.{specs.Words.{WordValue, BodyValue, Asks, Answers, command_of, is_question}, specs.declared.exchanges.Exchange.{Exchange}, specs.declared.exchanges.Likeness.{Likeness}}
+use Rattle.audited_captures.specs.declared.exchanges.Likeness.TheVariants as likeness
 
 -- what was asked and what was answered, and the endpoint IDs that asked and answered
 pub record ExchangeValue : Type 0 where
@@ -26,6 +27,16 @@ concerns word earlier =
     && ((earlier.responder == word.responder || earlier.responder == 0)
     && (earlier.tag == word.tag
     && (earlier.instance == word.instance && command_of earlier.body == command_of word.body)))
+
+-- the earlier word is a request of the same command by the same requester, to whomever
+abbrev pub is_alike : (word earlier : WordValue) → Bool
+is_alike word earlier =
+    is_question earlier.body
+    && (earlier.requester == word.requester && command_of earlier.body == command_of word.body)
+
+abbrev pub is_like : Likeness → (word earlier : WordValue) → Bool
+is_like likeness.Exchange word earlier = concerns word earlier
+is_like likeness.Command word earlier = is_alike word earlier
 
 -- the last item that passes
 abbrev pub last_that : {A : Type 0} → (A → Bool) → List A → Option A

@@ -1,5 +1,5 @@
 -- What it means that a bridge's routing table, as it was read, forwards as the plan's rows do.
-use Rattle.std.specs.Prelude.{◌≡◌, ℕ, ◌+◌, ◌<◌, ◌≤◌, List, [], Option, Some, map, slice_get}
+use Rattle.std.specs.Prelude.{◌≡◌, ℕ, ◌+◌, ◌<◌, ◌≤◌, Bool, List, [], Option, Some, map, slice_get}
 use Rattle.mctp_routing.{specs.Rows.{Routes}, specs.declared.row.Hop.{Hop}}
 use Rattle.mctp_control.specs.RouteEntries.{EntryValue}
 use Rattle.plan_values.{specs.declared.certificate.Certificate.{Certificate}, specs.declared.nodes.Node.{Node}, specs.declared.plan.Plan.{Plan}}
@@ -39,8 +39,9 @@ TablesForward = (plan : Plan) (cert : Certificate) (n : ℕ) (name : List ℕ) (
 
 -- where an audit matches, so does each routing table that a node told
 abbrev pub AuditsForward : Type 0
-AuditsForward = (plan : Plan) (cert : Certificate) (bus : Option ℕ) (entries : List captured.EntryValue)
-    (lines : List LineValue) (sum : Sum) → Accepts plan cert → (are : AreAudited plan cert bus entries lines sum)
+AuditsForward = (plan : Plan) (cert : Certificate) (bus : Option ℕ) (complete : Bool)
+    (entries : List captured.EntryValue) (lines : List LineValue) (sum : Sum) → Accepts plan cert
+    → (are : AreAudited plan cert bus complete entries lines sum)
     → difference_count lines ≡ 0 → (n : ℕ) (node : Node) → slice_get plan.nodes.items n ≡ Some node
     → (r : ReadingValue)
     → IsAmong r (readings (parts_of node.eid.value are.beside.heard.exchanges))

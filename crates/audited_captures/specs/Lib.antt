@@ -13,6 +13,7 @@ pub mod Walks
 pub mod Repositories
 pub mod Answers
 pub mod Identities
+pub mod Tids
 pub mod Asked
 pub mod Packets
 pub mod Refusals
@@ -20,11 +21,15 @@ pub mod RefusalSteps
 pub mod Sums
 pub mod PacketSteps
 pub mod Counts
+pub mod Names
 pub mod Traffic
 pub mod Judging
 pub mod TrafficLines
+pub mod AsPlanned
+pub mod Talk
+pub mod Sayings
+pub mod Untold
 pub mod Strangers
 pub mod Audits
-pub mod AsPlanned
 pub mod Matching
 pub mod Forwarding

@@ -3,13 +3,8 @@ use Rattle.std.{specs.Prelude.{◌≡◌, ◌⊎◌, ℕ, ◌-◌, ◌==◌, Lis
 use Rattle.bus_captures.specs.Values.{EntryValue}
 use Rattle.plan_values.specs.declared.plan.Plan.{Plan}
 use Rattle.net_questions.specs.declared.step.WayStep.{WayStep}
-use Rattle.net_tables.{specs.Routing.{Holds, IsHeld}, specs.Rows.{bus_of}, specs.Names.{node_name, bus_name}}
-use Rattle.audited_captures.{specs.Lines.{LineValue, difference}, specs.Packets.{NumberedPacket, ArePackets, AreFirst, count_like}, specs.Traffic.{Unplanned, NoSender, NoReceiver, Nobody, NoWay, Elsewhere, IsJudged}}
-
--- an endpoint ID by the node that holds it, or by its number
-abbrev pub IsNameOf : Plan → ℕ → List ℕ → Type 0
-IsNameOf plan e text =
-    ((n : ℕ) × Holds plan n e × (text ≡ node_name plan n)) ⊎ ((¬ IsHeld plan e) × (text ≡ decimal e))
+use Rattle.net_tables.{specs.Rows.{bus_of}, specs.Names.{node_name, bus_name}}
+use Rattle.audited_captures.{specs.Lines.{LineValue, difference}, specs.Names.{IsNameOf}, specs.Packets.{NumberedPacket, ArePackets, AreFirst, count_like}, specs.Traffic.{Unplanned, NoSender, NoReceiver, Nobody, NoWay, Elsewhere, IsJudged}}
 
 -- the bus over which a step goes
 abbrev pub bus_text : Plan → Option ℕ → List ℕ

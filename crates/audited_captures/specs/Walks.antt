@@ -1,15 +1,11 @@
--- The lines of the walks that parts make.
-use Rattle.std.specs.Prelude.{◌≡◌, ℕ, List}
-use Rattle.pdr_repository.specs.Records.{Entry}
-use Rattle.audited_captures.{specs.Lines.{LineValue}, specs.RecordLines.{walk_lines, walks_lines}, specs.RecordParts.{RecordPartValue}, specs.Walking.{Walked, Walks, AreWalks, fresh_walk}}
+-- A walk, wherever its records lie.
+use Rattle.std.specs.Prelude.{List}
+use Rattle.pdr_repository.specs.WalkerStates.{state_of}
+use Rattle.audited_captures.{specs.RecordParts.{RecordPartValue}, specs.Walking.{Walked, Walks, fresh_walk, walked_value}, specs.declared.walks.Walk.{Walk}}
 
--- of one walk, which a part begins
-abbrev pub IsWalkLines : List ℕ → List Entry → RecordPartValue → List RecordPartValue → List LineValue → Type 0
-IsWalkLines name planned first parts lines =
-    (w : Walked) × Walks first.requester (fresh_walk first.asked.body.count) parts w
-    × (lines ≡ walk_lines name planned w)
+abbrev pub walk_value : Walk → Walked
+walk_value w = walked_value w.ending (state_of w.walker).records
 
--- of all of them
-abbrev pub AreWalksLines : List ℕ → List Entry → List RecordPartValue → List LineValue → Type 0
-AreWalksLines name planned parts lines =
-    (walks : List Walked) × AreWalks parts walks × (lines ≡ walks_lines name planned walks)
+-- the walk that the first of these parts begins
+abbrev pub IsWalk : RecordPartValue → List RecordPartValue → Walked → Type 0
+IsWalk first parts w = Walks first.requester (fresh_walk first.asked.body.count) parts w

@@ -1,19 +1,22 @@
--- Messages that were heard, by who asked whom: control messages (DSP0236, "MCTP control message format"), and requests
--- for parts of records with their answers (DSP0248, GetPDR).
-use Rattle.std.specs.Prelude.{◌≡◌, ◌⊎◌, ℕ, true, false, List, [], ◌∷◌, ◌++◌}
+-- Messages that were heard, by who asked whom: control messages (DSP0236, "MCTP control message format"), requests for
+-- parts of records with their answers (DSP0248, GetPDR), and for terminus IDs (DSP0240, GetTID).
+use Rattle.std.specs.Prelude.{◌≡◌, ◌⊎◌, ℕ, Bool, not, true, false, List, [], ◌∷◌, ◌++◌, Result}
 use Rattle.mctp_transport.specs.Wire.{Spells}
 use Rattle.mctp_control.{specs.Requests.{CommandValue, SetsEid, GetsEid, AllocatesEids, GetsEntries, command_value, RequestValue, SpellsRequest}, specs.Responses.{AnswerValue, EidSet, EidTold, PoolTold, EntriesTold, Failed, answer_value, ResponseValue, SpellsResponse}}
-use Rattle.pldm_message.{specs.Commands.{type_of, command_byte}, specs.Headers.{HeaderValue, BeginsWith}, specs.Messages.{RequestMessage}, specs.PdrValues.{get_pdr_request}, specs.Pdrs.{PartRequest, IsGetPdrRequest, get_pdr_request_bytes}, specs.declared.command.Command.TheVariants.{GetPdr}, specs.declared.kind.MessageKind.TheVariants.{Response}}
+use Rattle.pldm_message.{specs.BaseCommands.{IsGetTid, get_tid_bytes, IsGetTidResponse, get_tid_answer_bytes}, specs.Commands.{type_of, command_byte}, specs.Headers.{HeaderValue, BeginsWith}, specs.Heads.{outcome_value}, specs.Messages.{RequestMessage, ResponseMessage}, specs.PdrValues.{get_pdr_request}, specs.Pdrs.{PartRequest, IsGetPdrRequest, get_pdr_request_bytes}, specs.declared.command.Command.TheVariants.{GetPdr}, specs.declared.kind.MessageKind.TheVariants.{Response}}
 use Rattle.heard_captures.specs.Messages.{MessageValue}
 use Rattle.audited_captures.{specs.declared.words.Body.{Body}, specs.declared.words.Word.{Word}}
 use Rattle.audited_captures.specs.declared.words.Body.TheVariants as body
 
--- a control message asks or answers; or a part of a record is asked for, or told by all bytes of the answer
+-- a control message asks or answers; or a part of a record is asked for, or told by all bytes of the answer; or a
+-- terminus ID is asked for, or told, or a completion code says why not
 pub data BodyValue : Type 0 where
   Asks : CommandValue → BodyValue
   Answers : AnswerValue → BodyValue
   AsksPart : RequestMessage PartRequest → BodyValue
   TellsPart : List ℕ → BodyValue
+  AsksTid : BodyValue
+  TellsTid : Result ℕ ℕ → BodyValue
 
 -- who asks whom, the message tag and the instance ID of the exchange, and what is asked or answered
 pub record WordValue : Type 0 where
@@ -28,6 +31,17 @@ body_value (body.Asks command) = Asks (command_value command)
 body_value (body.Answers answer) = Answers (answer_value answer)
 body_value (body.AsksPart request) = AsksPart (get_pdr_request request)
 body_value (body.TellsPart bytes) = TellsPart bytes.now
+body_value body.AsksTid = AsksTid
+body_value (body.TellsTid outcome) = TellsTid (outcome_value (λ tid. tid.value) outcome)
+
+-- the message asks
+abbrev pub is_question : BodyValue → Bool
+is_question (Asks command) = true
+is_question (Answers answer) = false
+is_question (AsksPart request) = true
+is_question (TellsPart bytes) = false
+is_question AsksTid = true
+is_question (TellsTid outcome) = false
 
 abbrev pub word_value : Word → WordValue
 word_value w = record {
@@ -53,12 +67,15 @@ number_answered (PoolTold status size first) = 8
 number_answered (EntriesTold next entries) = 10
 number_answered (Failed command code) = command
 
--- of a message; what parts of records are asked for and told by has a number that no control command has
+-- of a message; what parts of records and terminus IDs are asked for and told by has a number that no control command
+-- has
 abbrev pub command_of : BodyValue → ℕ
 command_of (Asks command) = number_asked command
 command_of (Answers answer) = number_answered answer
 command_of (AsksPart request) = 337
 command_of (TellsPart bytes) = 337
+command_of AsksTid = 258
+command_of (TellsTid outcome) = 258
 
 -- a request from the message's source
 abbrev pub asked : MessageValue → RequestValue → WordValue
@@ -117,14 +134,58 @@ IsAskingWord m w = (r : RequestMessage PartRequest) × Spells IsGetPdrRequest ge
 abbrev pub IsTellingWord : MessageValue → WordValue → Type 0
 IsTellingWord m w = (h : HeaderValue) × BeginsWith h m.bytes × IsPartHeader h × (w ≡ told_part m h)
 
--- the message is such a request, and its sender owns the tag; or it is such an answer, and its sender doesn't
+-- a request for a terminus ID, from the message's source
+abbrev pub asked_tid : MessageValue → RequestMessage (Unit {0}) → WordValue
+asked_tid m r = record {
+  requester = m.source;
+  responder = m.destination;
+  tag = m.tag;
+  instance = r.head.instance;
+  body = AsksTid;
+}
+
+-- an answer to one, from the message's source
+abbrev pub told_tid : MessageValue → ResponseMessage ℕ → WordValue
+told_tid m a = record {
+  requester = m.destination;
+  responder = m.source;
+  tag = m.tag;
+  instance = a.head.instance;
+  body = TellsTid a.outcome;
+}
+
+abbrev pub IsTidAskingWord : MessageValue → WordValue → Type 0
+IsTidAskingWord m w = (r : RequestMessage (Unit {0})) × Spells IsGetTid get_tid_bytes r m.bytes × (w ≡ asked_tid m r)
+
+abbrev pub IsTidTellingWord : MessageValue → WordValue → Type 0
+IsTidTellingWord m w =
+    (a : ResponseMessage ℕ) × Spells IsGetTidResponse get_tid_answer_bytes a m.bytes × (w ≡ told_tid m a)
+
+-- the message's bytes ask for one of these, or answer one
+abbrev pub IsQuestion : MessageValue → WordValue → Type 0
+IsQuestion m w = IsRequestWord m w ⊎ (IsAskingWord m w ⊎ IsTidAskingWord m w)
+
+abbrev pub IsReply : MessageValue → WordValue → Type 0
+IsReply m w = IsResponseWord m w ⊎ (IsTellingWord m w ⊎ IsTidTellingWord m w)
+
+-- who owns the tag asks, and who doesn't answers
+abbrev pub IsSaid : (owns : Bool) → MessageValue → WordValue → Type 0
+IsSaid true m w = IsQuestion m w
+IsSaid false m w = IsReply m w
+
+-- what the message says
 abbrev pub IsWord : MessageValue → WordValue → Type 0
-IsWord m w =
-    ((m.owner ≡ true) × (IsRequestWord m w ⊎ IsAskingWord m w))
-    ⊎ ((m.owner ≡ false) × (IsResponseWord m w ⊎ IsTellingWord m w))
+IsWord m w = IsSaid m.owner m w
+
+-- What its bytes say, where it says the other of who owns the tag. Such a message is taken for nothing else.
+abbrev pub IsMisowned : MessageValue → WordValue → Type 0
+IsMisowned m w = IsSaid (not m.owner) m w
 
 abbrev pub IsNoWord : MessageValue → Type 0
 IsNoWord m = (w : WordValue) → ¬ IsWord m w
+
+abbrev pub IsNotMisowned : MessageValue → Type 0
+IsNotMisowned m = (w : WordValue) → ¬ IsMisowned m w
 
 -- what the message says was added, if it says one of these
 abbrev pub AddsWord : MessageValue → List WordValue → List WordValue → Type 0

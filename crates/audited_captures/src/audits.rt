@@ -1,9 +1,10 @@
 //! What captured devices said, laid beside a plan.
-ghost use Rattle.std.{specs.Prelude.{◌≡◌, ◌++◌, ◌<◌, ◌≤◌, ◌+◌, ◌==◌, ◌&&◌, IfOk, OnOk, map, length, slice_get, Some, string_bytes, codes, ◌∷◌, []}, specs.List.{flat_map}};
+ghost use Rattle.std.{specs.Prelude.{◌≡◌, ◌++◌, ◌<◌, ◌≤◌, ◌+◌, ◌==◌, ◌&&◌, Bool, List, IfOk, OnOk, map, length, slice_get, Some, string_bytes, codes, ◌∷◌, []}, specs.List.{flat_map}};
 ghost use Rattle.bus_captures.specs.Values.{entry_value as bus_entry_value};
+ghost use Rattle.heard_captures.specs.Messages.{message_value};
 ghost use Rattle.plan_values.specs.NodeValues.{name_bytes};
 ghost use Rattle.mctp_control.specs.RouteEntries.{entry_value};
-ghost use Rattle.audited_captures.{specs.Exchanges.{exchange_value}, specs.Lines.{line_value, silence}, specs.Answers.{answer_values}, specs.Identities.{answers_of}, specs.Audits.{HasTables, answered_lines, said_lines, quiet_text, lines_of_node, AreNodeLines, AreLines, difference_count, has_compared, one_if, is_match, last_line, whole_line, part_line, text_line, rest_line, audit_text, AreBeside, AreAudited, AreRepositories, heard_of}, specs.RecordParts.{record_part_value}, specs.Refusals.{IsRefusedOf}, specs.Repositories.{repository_values}, specs.Walks.{AreWalksLines}, specs.Words.{word_value}};
+ghost use Rattle.audited_captures.{specs.Exchanges.{exchange_value}, specs.Lines.{LineValue, line_value, silence}, specs.Answers.{answer_values}, specs.Identities.{answers_of}, specs.Audits.{HasTables, answered_lines, said_lines, quiet_text, lines_of_node, AreNodeLines, AreLines, difference_count, has_compared, one_if, is_match, last_line, whole_line, part_line, text_line, rest_line, audit_text, AreBeside, AreAudited, AreOthers, AreRepositories, heard_of}, specs.RecordLines.{walks_lines}, specs.Refusals.{IsRefusedOf}, specs.Repositories.{repository_values}, specs.Tids.{planned_tid, tid_lines, tid_values}, specs.Untold.{wanted_lines}, specs.Walks.{walk_value}, specs.Words.{word_value}};
 ghost use Rattle.plan_exports.specs.PlannedTables.{HasLawfulRows};
 ghost use Rattle.pdr_repository.specs.Records.{entries};
 
@@ -12,21 +13,39 @@ use crate::exchanges::{Exchange, exchanges_of};
 use crate::identities::{answers_of, eid_lines, pool_lines};
 use crate::lines::{Counted, Line, silence};
 use crate::readings::parts_of;
-use crate::record_parts::{RecordPart, record_parts_of};
+use crate::record_parts::record_parts_of;
 use crate::refusals::{refusals_of, refused_lines};
 use crate::routes::routes_lines;
 use crate::strangers::stranger_lines;
 use crate::sums::{Sum, sum_words};
+use crate::talk::{owner_lines, talk_lines};
+use crate::tids::{TidAnswer, tid_lines, tids_of};
 use crate::traffic_lines::{traffic_lines, unit_of};
-use crate::walks::walks_lines;
+use crate::untold::untold_lines;
+use crate::walks::{Walk, walks_lines, walks_of};
 use crate::words::{Word, words_of};
 use bus_captures::{Capture, End};
-use heard_captures::heard_messages;
+use heard_captures::{Message, heard_messages};
 use mctp_control::{ControlAnswer, RouteEntry};
 use net_check::Checked;
 use plan_exports::planned_entries;
 use plan_values::{Node, Plan};
 use std::alloc::{AllocError, Global};
+
+/// The lines of nodes, those of what they didn't tell, and how many nodes were compared.
+#[derive(Debug, Drop)]
+struct Told {
+    lines: Vec<Line>,
+    untold: Vec<Line>,
+    count: usize,
+}
+
+/// The lines of a node, and those of what it didn't tell.
+#[derive(Debug, Drop)]
+struct NodeLines {
+    lines: Vec<Line>,
+    untold: Vec<Line>,
+}
 
 /// What was captured, laid beside a plan: the lines, and what it has seen in numbers.
 #[derive(Debug, Drop)]
@@ -36,20 +55,22 @@ pub struct Audit {
 }
 
 /// What was captured, laid beside a checked plan: the lines of what each node said, in the plan's order, behind them
-/// those of devices that took an endpoint ID that no node holds, then those of the packets that the plan doesn't have on
-/// the bus, or on any bus where none is given, and last a remark on what was refused. The repositories are the nodes'
-/// records by place, as handles and bytes.
+/// those of devices that took an endpoint ID that no node holds, of what nodes didn't tell, where that is wanted, and of
+/// requests and answers that don't go together, then those of the packets that the plan doesn't have on the bus, or on
+/// any bus where none is given, and last a remark on what was refused. The repositories are the nodes' records by place,
+/// as handles and bytes.
 pub fn audited(
     alloc: Global,
     checked: &Checked,
     repositories: &[Vec<(u32, Vec<u8>)>],
     bus: Option<usize>,
+    is_complete: bool,
     capture: &Capture,
 ) -> Result<Audit, AllocError>
     requires { AreRepositories checked.now.0 checked.now.1 (length checked.now.0.nodes.items) (repository_values repositories.now) }
-    ensures { IfOk result (λ audit. AreAudited checked.now.0 checked.now.1 bus (map bus_entry_value capture.now.entries.items) (map line_value audit.lines.items) audit.sum) }
+    ensures { IfOk result (λ audit. AreAudited checked.now.0 checked.now.1 bus is_complete (map bus_entry_value capture.now.entries.items) (map line_value audit.lines.items) audit.sum) }
 {
-    let mut told = lines_of_capture(alloc, checked.plan(), repositories, capture)?;
+    let mut told = lines_of_capture(alloc, checked.plan(), repositories, is_complete, capture)?;
     let mut traffic = traffic_lines(alloc, checked, bus, capture)?;
     let mut refused = lines_of_refused(alloc, checked, capture)?;
     told.lines.append(&mut traffic.lines)?;
@@ -81,46 +102,86 @@ fn lines_of_refused(
     })
 }
 
-/// The lines of nodes and of devices that none of them stands for, and how many nodes were compared.
+/// The lines of nodes and behind them the others, and how many nodes were compared.
 fn lines_of_capture(
     alloc: Global,
     plan: &Plan,
     repositories: &[Vec<(u32, Vec<u8>)>],
+    is_complete: bool,
     capture: &Capture,
 ) -> Result<Counted, AllocError>
     requires tables { HasTables plan.now }
     requires stored { length repositories.now ≡ length plan.now.nodes.items }
-    ensures { IfOk result (λ told. AreBeside plan.now (repository_values repositories.now) (map bus_entry_value capture.now.entries.items) (map line_value told.lines.items) told.count) }
+    ensures { IfOk result (λ told. AreBeside plan.now is_complete (repository_values repositories.now) (map bus_entry_value capture.now.entries.items) (map line_value told.lines.items) told.count) }
 {
     let messages = heard_messages(alloc, usize::from(plan.unit), capture)?;
     let words = words_of(alloc, &messages)?;
     let exchanges = exchanges_of(alloc, &words)?;
-    let mut told = lines_of_nodes(alloc, plan, repositories, &words, &exchanges)?;
-    let mut strangers = stranger_lines(alloc, plan, &exchanges)?;
-    told.lines.append(&mut strangers)?;
-    Ok(told)
+    let told = lines_of_nodes(alloc, plan, repositories, &words, &exchanges)?;
+    let wanted = wanted_lines(alloc, is_complete, told.untold);
+    let mut others = other_lines(alloc, plan, wanted, &messages, &words, &exchanges)?;
+    let mut lines = told.lines;
+    lines.append(&mut others)?;
+    Ok(Counted {
+        lines,
+        count: told.count,
+    })
 }
 
-/// The lines of all nodes, and of how many of them some line tells of a comparison.
+/// The lines of what nodes didn't tell, if they are wanted.
+fn wanted_lines(alloc: Global, is_complete: bool, untold: Vec<Line>) -> Vec<Line>
+    ensures { map line_value result.items ≡ wanted_lines is_complete (map line_value untold.items) }
+{
+    if is_complete { untold } else { Vec::new(alloc) }
+}
+
+/// The lines of devices that no node stands for, of what nodes didn't tell, and of requests and answers that don't go
+/// together.
+fn other_lines(
+    alloc: Global,
+    plan: &Plan,
+    mut wanted: Vec<Line>,
+    messages: &[Message],
+    words: &[Word],
+    exchanges: &[Exchange],
+) -> Result<Vec<Line>, AllocError>
+    ensures { (complete : Bool) (untold : List LineValue) → map line_value wanted.items ≡ wanted_lines complete untold → IfOk result (λ lines. AreOthers plan.now complete (map message_value messages.now) (heard_of (map word_value words.now) (map exchange_value exchanges.now)) untold (map line_value lines.items)) }
+{
+    let mut lines = stranger_lines(alloc, plan, exchanges)?;
+    let mut owners = owner_lines(alloc, plan, messages)?;
+    let mut talk = talk_lines(alloc, plan, words)?;
+    owners.append(&mut talk)?;
+    wanted.append(&mut owners)?;
+    lines.append(&mut wanted)?;
+    Ok(lines)
+}
+
+/// The lines of all nodes, those of what they didn't tell, and of how many of them some line tells of a comparison.
 fn lines_of_nodes(
     alloc: Global,
     plan: &Plan,
     repositories: &[Vec<(u32, Vec<u8>)>],
     words: &[Word],
     exchanges: &[Exchange],
-) -> Result<Counted, AllocError>
+) -> Result<Told, AllocError>
     requires tables { HasTables plan.now }
     requires stored { length repositories.now ≡ length plan.now.nodes.items }
-    ensures { IfOk result (λ told. AreLines plan.now (repository_values repositories.now) (heard_of (map word_value words.now) (map exchange_value exchanges.now)) (length plan.now.nodes.items) (map line_value told.lines.items) told.count) }
+    ensures { IfOk result (λ told. AreLines plan.now (repository_values repositories.now) (heard_of (map word_value words.now) (map exchange_value exchanges.now)) (length plan.now.nodes.items) (map line_value told.lines.items) (map line_value told.untold.items) told.count) }
 {
     let mut lines = Vec::new(alloc);
+    let mut untold = Vec::new(alloc);
     let mut count = 0;
     for n in 0..plan.nodes.len() {
         let mut more = lines_of_node(alloc, plan, n, repositories, words, exchanges)?;
-        count += one_if(has_compared(&more));
-        lines.append(&mut more)?;
+        count += one_if(has_compared(&more.lines));
+        lines.append(&mut more.lines)?;
+        untold.append(&mut more.untold)?;
     }
-    Ok(Counted { lines, count })
+    Ok(Told {
+        lines,
+        untold,
+        count,
+    })
 }
 
 fn one_if(is: bool) -> usize
@@ -130,7 +191,7 @@ fn one_if(is: bool) -> usize
     if is { 1 } else { 0 }
 }
 
-/// The lines of the node at an index.
+/// The lines of the node at an index, and those of what it didn't tell.
 fn lines_of_node(
     alloc: Global,
     plan: &Plan,
@@ -138,31 +199,51 @@ fn lines_of_node(
     repositories: &[Vec<(u32, Vec<u8>)>],
     words: &[Word],
     exchanges: &[Exchange],
-) -> Result<Vec<Line>, AllocError>
+) -> Result<NodeLines, AllocError>
     requires within { index < length plan.now.nodes.items }
     requires stored { index < length repositories.now }
     requires rows { HasLawfulRows plan.now index }
-    ensures { IfOk result (λ lines. AreNodeLines plan.now (repository_values repositories.now) (heard_of (map word_value words.now) (map exchange_value exchanges.now)) index (map line_value lines.items)) }
+    ensures { IfOk result (λ lines. AreNodeLines plan.now (repository_values repositories.now) (heard_of (map word_value words.now) (map exchange_value exchanges.now)) index (map line_value lines.lines.items) (map line_value lines.untold.items)) }
 {
     let node = &plan.nodes[index];
     let records = &repositories[index];
     let planned = planned_entries(alloc, plan, index)?;
     let parts = record_parts_of(alloc, words, node.eid)?;
-    let told = told_of_records(alloc, node, records, &parts)?;
-    let unanswered = unanswered(alloc, words, exchanges, &parts, node.eid)?;
-    lines_beside(alloc, node, &planned, exchanges, unanswered, told)
+    let tids = tids_of(alloc, words, node.eid)?;
+    let walks = walks_of(alloc, &parts)?;
+    let told = told_of_terminus(alloc, node, records, &tids, &walks)?;
+    let unanswered = unanswered(alloc, words, exchanges, &parts, &tids, node.eid)?;
+    Ok(NodeLines {
+        lines: lines_beside(alloc, node, &planned, exchanges, unanswered, told)?,
+        untold: untold_lines(alloc, node, exchanges, &walks)?,
+    })
 }
 
-/// What is told of a node's records, which the terminus has by place, and which it told in these parts.
-fn told_of_records(
+/// What is told of a node's terminus: of its ID, and of its records, which it has by place, and through which these
+/// walks went.
+fn told_of_terminus(
     alloc: Global,
     node: &Node,
     records: &[(u32, Vec<u8>)],
-    parts: &[RecordPart],
+    tids: &[TidAnswer],
+    walks: &[Walk],
 ) -> Result<Vec<Line>, AllocError>
-    ensures { IfOk result (λ lines. AreWalksLines (name_bytes node.now.name) (entries records.now) (map record_part_value parts.now) (map line_value lines.items)) }
+    ensures { IfOk result (λ lines. map line_value lines.items ≡ tid_lines (name_bytes node.now.name) (planned_tid node.now) (tid_values tids.now) ++ walks_lines (name_bytes node.now.name) (entries records.now) (map walk_value walks.now)) }
 {
-    walks_lines(alloc, node.name.text.as_str(), records, parts)
+    let name = node.name.text.as_str();
+    let mut lines = tid_lines(alloc, name, planned_tid(node), tids)?;
+    let mut walked = walks_lines(alloc, name, records, walks)?;
+    lines.append(&mut walked)?;
+    Ok(lines)
+}
+
+fn planned_tid(node: &Node) -> Option<u8>
+    ensures { result ≡ planned_tid node.now }
+{
+    match &node.terminus {
+        Some(terminus) => Some(terminus.tid),
+        None => None,
+    }
 }
 
 /// The lines of a node with these planned entries, which left so many requests unanswered, and of whose records this was

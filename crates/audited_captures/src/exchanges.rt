@@ -1,6 +1,6 @@
 //! Requests of control messages with the responses to them.
 ghost use Rattle.std.specs.Prelude.{◌≡◌, ◌&&◌, ◌++◌, ◌==◌, ◌||◌, IfOk, OnOk, map, option_map, option_to_list};
-ghost use Rattle.audited_captures.{specs.Words.{word_value}, specs.Exchanges.{concerns, last_that, exchange_value, exchange_of, AreExchanges}};
+ghost use Rattle.audited_captures.{specs.Words.{word_value}, specs.Exchanges.{concerns, is_alike, is_like, last_that, exchange_value, exchange_of, AreExchanges}};
 
 use crate::words::{Body, Word};
 use mctp_control::{ControlAnswer, ControlCommand};
@@ -16,6 +16,15 @@ pub struct Exchange<'w> {
     pub responder: Eid,
     pub command: &'w ControlCommand,
     pub answer: &'w ControlAnswer,
+}
+
+/// In what an earlier word is like a word.
+#[derive(Clone, Copy, Debug)]
+pub enum Likeness {
+    /// It concerns the same exchange.
+    Exchange,
+    /// It asks the same command, and is of the same requester.
+    Command,
 }
 
 /// The requests that were answered, each with its response, in the order of the responses.
@@ -66,15 +75,44 @@ fn exchange_of<'w, 'm>(before: &'w [Word<'m>], word: &'w Word<'m>) -> Option<Exc
 pub fn last_concerned<'w, 'm>(before: &'w [Word<'m>], word: &Word<'m>) -> Option<&'w Word<'m>>
     ensures { option_map (λ w. word_value w.now) result ≡ last_that (concerns (word_value word.now)) (map word_value before.now) }
 {
+    last_like(before, word, Likeness::Exchange)
+}
+
+/// The last word before this one that is like it.
+pub fn last_like<'w, 'm>(
+    before: &'w [Word<'m>],
+    word: &Word<'m>,
+    likeness: Likeness,
+) -> Option<&'w Word<'m>>
+    ensures { option_map (λ w. word_value w.now) result ≡ last_that (is_like likeness (word_value word.now)) (map word_value before.now) }
+{
     let mut at = before.len();
     while at > 0 {
         at -= 1;
         let earlier = &before[at];
-        if concerns(word, earlier) {
+        if is_like(likeness, word, earlier) {
             return Some(earlier);
         }
     }
     None
+}
+
+fn is_like(likeness: Likeness, word: &Word, earlier: &Word) -> bool
+    ensures { result ≡ is_like likeness (word_value word.now) (word_value earlier.now) }
+{
+    match likeness {
+        Likeness::Exchange => concerns(word, earlier),
+        Likeness::Command => is_alike(word, earlier),
+    }
+}
+
+/// Whether an earlier word is a request of the same command by the same requester.
+fn is_alike(word: &Word, earlier: &Word) -> bool
+    ensures { result ≡ is_alike (word_value word.now) (word_value earlier.now) }
+{
+    earlier.body.is_question()
+        && earlier.requester.value == word.requester.value
+        && earlier.body.command() == word.body.command()
 }
 
 /// Whether an earlier word concerns the exchange of a word. A request to the null endpoint ID reaches a device whatever

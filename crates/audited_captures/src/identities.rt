@@ -104,7 +104,7 @@ fn failed_eids(
 }
 
 /// The differences, or where there are none and something was told, a line that it is as planned.
-fn told_lines(
+pub fn told_lines(
     alloc: Global,
     told: bool,
     text: String,
@@ -119,7 +119,7 @@ fn told_lines(
     }
 }
 
-fn tells_eid(answer: &ControlAnswer) -> bool
+pub fn tells_eid(answer: &ControlAnswer) -> bool
     ensures { result ≡ tells_eid (answer_value answer.now) }
 {
     match answer {
@@ -267,7 +267,7 @@ fn match_text(alloc: Global, name: &str, first: u8, size: u8) -> Result<String, 
     format!(in alloc; "{name} pool match {span}")
 }
 
-fn tells_pool(answer: &ControlAnswer) -> bool
+pub fn tells_pool(answer: &ControlAnswer) -> bool
     ensures { result ≡ tells_pool (answer_value answer.now) }
 {
     match answer {
@@ -288,7 +288,7 @@ fn first_of(pool: Option<Pool>) -> u8
     }
 }
 
-fn size_of(pool: Option<Pool>) -> u8
+pub fn size_of(pool: Option<Pool>) -> u8
     ensures { result ≡ size_of pool }
 {
     match pool {

@@ -1,20 +1,20 @@
 //! What is told of packets that aren't planned.
-ghost use Rattle.std.{specs.Prelude.{◌≡◌, ◌++◌, ◌==◌, IfOk, OnOk, List, map, length, option_map, string_bytes, codes}, specs.Fmt.{decimal}, specs.List.{flat_map}};
+ghost use Rattle.std.{specs.Prelude.{◌≡◌, ◌++◌, ◌==◌, IfOk, OnOk, List, map, length, option_map, string_bytes, codes}, specs.List.{flat_map}};
 ghost use Rattle.bus_captures.specs.Values.{entry_value};
 ghost use Rattle.mctp_transport.specs.PacketValues.{IsUnit};
 ghost use Rattle.net_questions.specs.declared.step.WayStep.{WayStep};
 ghost use Rattle.net_tables.specs.Names.{node_name, bus_name};
-ghost use Rattle.audited_captures.{specs.Counts.{AreCounts}, specs.Judging.{unplanned_value}, specs.Lines.{line_value, difference}, specs.Packets.{NumberedPacket, numbered_packet}, specs.TrafficLines.{IsNameOf, bus_text, step_bus, by_words, over_words, nobody_words, why_words, more_words, IsLineOf, IsOneLine, AreLinesOf, AreTrafficLines, IsTrafficOf}};
+ghost use Rattle.audited_captures.{specs.Counts.{AreCounts}, specs.Judging.{unplanned_value}, specs.Lines.{line_value, difference}, specs.Packets.{NumberedPacket, numbered_packet}, specs.TrafficLines.{bus_text, step_bus, by_words, over_words, nobody_words, why_words, more_words, IsLineOf, IsOneLine, AreLinesOf, AreTrafficLines, IsTrafficOf}};
 
 use crate::counts::{FirstPackets, first_packets};
 use crate::lines::{Counted, Line, add_difference};
+use crate::names::name_of;
 use crate::packets::{CapturedPacket, packets_of};
 use crate::traffic::{Unplanned, judged};
 use bus_captures::Capture;
-use mctp_transport::Eid;
 use net_check::Checked;
 use net_questions::WayStep;
-use net_tables::lookup::{bus_at, bus_name, holder, node_name};
+use net_tables::lookup::{bus_at, bus_name, node_name};
 use plan_values::Plan;
 use std::alloc::{AllocError, Global};
 
@@ -117,22 +117,6 @@ fn packets_text(
         why,
     )?;
     format!(in alloc; "packet {number}{more} from {source} to {destination}: {why}")
-}
-
-/// An endpoint ID by the node that holds it, or by its number.
-fn name_of(alloc: Global, plan: &Plan, eid: Eid) -> Result<String, AllocError>
-    ensures { IfOk result (λ text. IsNameOf plan.now eid.value (string_bytes text)) }
-{
-    match holder(plan, eid) {
-        Some(node) => String::from_str(alloc, node_name(plan, node)),
-        None => number_text(alloc, eid.value),
-    }
-}
-
-fn number_text(alloc: Global, number: u8) -> Result<String, AllocError>
-    ensures { IfOk result (λ text. string_bytes text ≡ decimal number) }
-{
-    format!(in alloc; "{number}")
 }
 
 /// How many packets there are beside the first.

@@ -1,18 +1,24 @@
-//! Messages that were heard, by who asked whom: control messages, and requests for parts of records with their answers.
-ghost use Rattle.std.specs.Prelude.{◌≡◌, ◌++◌, ℕ, true, false, IfOk, OnOk, MatchOption, map};
+//! Messages that were heard, by who asked whom: control messages, and requests for parts of records and for terminus IDs
+//! with their answers.
+ghost use Rattle.std.specs.Prelude.{◌≡◌, ◌⊎◌, ◌++◌, ℕ, IfOk, OnOk, MatchOption, map};
 ghost use Rattle.heard_captures.specs.Messages.{message_value};
 ghost use Rattle.mctp_control.{specs.Requests.{command_value}, specs.Responses.{answer_value}};
-ghost use Rattle.audited_captures.specs.Words.{WordValue, word_value, number_asked, number_answered, IsRequestWord, IsResponseWord, IsAskingWord, IsTellingWord, IsPartHeader, told_part, IsWord, IsNoWord, AddsWord, AreWords};
+ghost use Rattle.audited_captures.specs.Words.{WordValue, word_value, number_asked, number_answered, IsRequestWord, IsResponseWord, IsAskingWord, IsTellingWord, IsTidAskingWord, IsTidTellingWord, IsPartHeader, told_part, IsQuestion, IsReply, IsWord, IsNoWord, IsMisowned, IsNotMisowned, AddsWord, AreWords};
 ghost use Rattle.pldm_message.specs.HeaderValues.{header_value};
 
 use heard_captures::Message;
 use mctp_control::{ControlAnswer, ControlCommand, Request, Response};
 use mctp_transport::{Eid, Tag, Wire};
-use pldm_message::{Command, GetPdrRequest, MessageKind, PldmHeader};
+use pldm_message::{
+    Command, CompletionCode, GetPdrRequest, GetTid, GetTidAnswer, MessageKind, PldmHeader, Tid,
+};
 use std::alloc::{AllocError, Global};
 
 /// The number of what asks for parts of records and tells them. No control command has it.
 const GET_PDR: u16 = 337;
+
+/// The same of terminus IDs.
+const GET_TID: u16 = 258;
 
 /// What a message says: it asks, or it answers.
 #[derive(Debug, Drop)]
@@ -23,11 +29,25 @@ pub enum Body<'m> {
     AsksPart(GetPdrRequest),
     /// Answers that: all bytes of the message.
     TellsPart(&'m [u8]),
+    /// Asks for the terminus ID.
+    AsksTid,
+    /// Answers that: the ID, or why there is none.
+    TellsTid(Result<Tid, CompletionCode>),
 }
 
 impl<'m> Body<'m> {
     ghost use Rattle.std.specs.Prelude.{◌≡◌};
-    ghost use Rattle.audited_captures.specs.Words.{body_value, command_of};
+    ghost use Rattle.audited_captures.specs.Words.{body_value, command_of, is_question};
+
+    /// Whether it asks.
+    pub fn is_question(&self) -> bool
+        ensures { result ≡ is_question (body_value self.now) }
+    {
+        match self {
+            Body::Asks(_) | Body::AsksPart(_) | Body::AsksTid => true,
+            Body::Answers(_) | Body::TellsPart(_) | Body::TellsTid(_) => false,
+        }
+    }
 
     /// The number of the command that is asked or answered.
     pub fn command(&self) -> u16
@@ -37,6 +57,7 @@ impl<'m> Body<'m> {
             Body::Asks(command) => number_of_command(command),
             Body::Answers(answer) => number_of_answer(answer),
             Body::AsksPart(_) | Body::TellsPart(_) => GET_PDR,
+            Body::AsksTid | Body::TellsTid(_) => GET_TID,
         }
     }
 }
@@ -86,23 +107,53 @@ fn word_of(message: &Message) -> Option<Word<'_>>
     }
 }
 
-fn asking(message: &Message) -> Option<Word<'_>>
-    requires { message.now.owner ≡ true }
-    ensures { MatchOption result (IsNoWord (message_value message.now)) (λ word. IsWord (message_value message.now) (word_value word)) }
+/// What the bytes of a message say that says the wrong of who owns its tag: they ask where its sender doesn't own it, or
+/// answer where it does.
+pub fn misowned(message: &Message) -> Option<Word<'_>>
+    ensures { MatchOption result (IsNotMisowned (message_value message.now)) (λ word. IsMisowned (message_value message.now) (word_value word)) }
 {
-    match request_of(message) {
-        Some(word) => Some(word),
-        None => part_request_of(message),
+    if message.owner {
+        answering(message)
+    } else {
+        asking(message)
     }
 }
 
+/// What the bytes of a message ask.
+fn asking(message: &Message) -> Option<Word<'_>>
+    ensures { MatchOption result ((w : WordValue) → ¬ IsQuestion (message_value message.now) w) (λ word. IsQuestion (message_value message.now) (word_value word)) }
+{
+    match request_of(message) {
+        Some(word) => Some(word),
+        None => pldm_asking(message),
+    }
+}
+
+fn pldm_asking(message: &Message) -> Option<Word<'_>>
+    ensures { MatchOption result ((w : WordValue) → ¬ (IsAskingWord (message_value message.now) w ⊎ IsTidAskingWord (message_value message.now) w)) (λ word. IsAskingWord (message_value message.now) (word_value word) ⊎ IsTidAskingWord (message_value message.now) (word_value word)) }
+{
+    match part_request_of(message) {
+        Some(word) => Some(word),
+        None => tid_request_of(message),
+    }
+}
+
+/// What the bytes of a message answer.
 fn answering(message: &Message) -> Option<Word<'_>>
-    requires { message.now.owner ≡ false }
-    ensures { MatchOption result (IsNoWord (message_value message.now)) (λ word. IsWord (message_value message.now) (word_value word)) }
+    ensures { MatchOption result ((w : WordValue) → ¬ IsReply (message_value message.now) w) (λ word. IsReply (message_value message.now) (word_value word)) }
 {
     match response_of(message) {
         Some(word) => Some(word),
-        None => part_answer_of(message),
+        None => pldm_answering(message),
+    }
+}
+
+fn pldm_answering(message: &Message) -> Option<Word<'_>>
+    ensures { MatchOption result ((w : WordValue) → ¬ (IsTellingWord (message_value message.now) w ⊎ IsTidTellingWord (message_value message.now) w)) (λ word. IsTellingWord (message_value message.now) (word_value word) ⊎ IsTidTellingWord (message_value message.now) (word_value word)) }
+{
+    match part_answer_of(message) {
+        Some(word) => Some(word),
+        None => tid_answer_of(message),
     }
 }
 
@@ -175,6 +226,36 @@ fn told_part<'m>(message: &'m Message, header: &PldmHeader) -> Option<Word<'m>>
         });
     }
     None
+}
+
+fn tid_request_of(message: &Message) -> Option<Word<'_>>
+    ensures { MatchOption result ((w : WordValue) → ¬ IsTidAskingWord (message_value message.now) w) (λ word. IsTidAskingWord (message_value message.now) (word_value word)) }
+{
+    match GetTid::read(&message.bytes) {
+        Ok(request) => Some(Word {
+            requester: message.source,
+            responder: message.destination,
+            tag: message.tag,
+            instance: request.head.instance.value,
+            body: Body::AsksTid,
+        }),
+        Err(_) => None,
+    }
+}
+
+fn tid_answer_of(message: &Message) -> Option<Word<'_>>
+    ensures { MatchOption result ((w : WordValue) → ¬ IsTidTellingWord (message_value message.now) w) (λ word. IsTidTellingWord (message_value message.now) (word_value word)) }
+{
+    match GetTidAnswer::read(&message.bytes) {
+        Ok(answer) => Some(Word {
+            requester: message.destination,
+            responder: message.source,
+            tag: message.tag,
+            instance: answer.head.instance.value,
+            body: Body::TellsTid(answer.outcome),
+        }),
+        Err(_) => None,
+    }
 }
 
 fn number_of_command(command: &ControlCommand) -> u16

@@ -138,8 +138,10 @@ pub enum Subcommand<'a> {
         plan: Option<&'a str>,
     },
     /// What did the devices of the capture in a file say, beside the plan, and did its packets go over this bus?
+    /// If that is to be complete, what did nodes not say?
     Audit {
         bus: Option<&'a str>,
+        is_complete: bool,
         plan: &'a str,
         certificate: &'a str,
         capture: &'a str,
@@ -303,7 +305,8 @@ const JSON: &str = "json";
 const SARIF: &str = "sarif";
 
 /// The options that never have a value.
-static FLAGS: [(&str, &str); 8] = [
+static FLAGS: [(&str, &str); 9] = [
+    ("audit", "complete"),
     ("emulate", "configured"),
     ("explain", JSON),
     ("faults", JSON),
@@ -434,7 +437,8 @@ fn chosen<'a>(matches: &ArgMatches<'a>, list: &'a [String]) -> Option<Subcommand
         "show" => showing(arguments),
         "decode" => asked!(arguments, Decode(capture), plan: arguments.get_str("plan")),
         "audit" =>
-            asked!(arguments, Audit(plan, certificate, capture), bus: arguments.get_str("bus")),
+            asked!(arguments, Audit(plan, certificate, capture), bus: arguments.get_str("bus"),
+                is_complete: arguments.get_flag("complete")),
         "emulate" => emulating(arguments),
         "capture" => asked!(arguments, Capture(plan, certificate, events)),
         "report" => asked!(arguments, Report(plan), certificate: arguments.get_str("certificate")),

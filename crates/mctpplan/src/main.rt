@@ -164,10 +164,11 @@ fn run_command<'a>(rt: &'a HostRuntime, command: Subcommand<'a>) -> Status {
         Subcommand::Decode { capture, plan } => decode(rt, capture, plan),
         Subcommand::Audit {
             bus,
+            is_complete,
             plan,
             certificate,
             capture,
-        } => audit(rt, bus, [plan, certificate, capture]),
+        } => audit(rt, bus, is_complete, [plan, certificate, capture]),
         Subcommand::Emulate {
             emulation,
             plan,
@@ -503,9 +504,10 @@ fn decode<'a>(rt: &'a HostRuntime, capture: &'a str, plan: Option<&'a str>) -> S
 fn audit<'a>(
     rt: &'a HostRuntime,
     bus: Option<&'a str>,
+    is_complete: bool,
     [plan, certificate, capture]: [&'a str; 3],
 ) -> Status {
-    over!(rt, run_audit(bus), plan, certificate, capture)
+    over!(rt, run_audit(bus, is_complete), plan, certificate, capture)
 }
 
 /// Answers the packets on standard input as a node of a plan does.

@@ -38,7 +38,7 @@ lint PLAN [--json]           what is lawful in the plan and still looks wrong, o
 show packet HEX              what the bytes of a packet are
 show record HEX              what the bytes of a platform descriptor record are
 decode CAPTURE [PLAN]        what was captured of a bus: each packet, and what its message says
-audit PLAN CERT CAPTURE [--bus BUS]
+audit PLAN CERT CAPTURE [--bus BUS] [--complete]
                              what captured devices said, laid beside the plan
 emulate PLAN CERT NODE [--configured]
                              a planned node that answers packets, line by line
@@ -665,19 +665,22 @@ Status 2: also where the capture can't be read to its end. What stands before is
   entries 2
 "#;
 
-const OF_AUDIT: &str = r#"mctpplan audit PLAN CERT CAPTURE [--bus BUS]
+const OF_AUDIT: &str = r#"mctpplan audit PLAN CERT CAPTURE [--bus BUS] [--complete]
 
 Reads a capture as decode does with the plan, and prints what the answers of each node say, in the
-plan's order: first of its routing table, then of its endpoint ID and type, then of its pool, then
-of its records. Answers that fail are told by their completion codes. Of a node without an answer it
-says not captured, or how many requests to it were captured, as asked 3, never answered: neither is
-a difference. Then it tells devices that took an endpoint ID which no node holds, and which packets
-the plan doesn't have: from or to such an endpoint ID, and between two nodes without a way. With
---bus the capture was taken on that bus, and a packet whose planned way doesn't go over it is told
-too. The last line says whether all is as planned, or how many lines tell a difference, or that
-nothing was compared: no device said anything of its routing table, its endpoint ID, its pool or its
-records, as in an empty capture. Behind that it has the number of nodes that were compared, of all
-nodes, of packets, and of entries that were refused. Where some were, a line tells the first one.
+plan's order: first of its routing table, then of its endpoint ID and type, then of its pool, of its
+terminus ID and of its records. Answers that fail are told by their completion codes. Of a node
+without an answer it says not captured, or how many requests to it were captured, as asked 3, never
+answered: neither is a difference. Then it tells devices that took an endpoint ID which no node
+holds, answers that nobody asked for, as those with another tag or instance ID than the request's,
+and which packets the plan doesn't have: from or to such an endpoint ID, and between two nodes
+without a way. With --complete it tells of each node too what it didn't say: its endpoint ID, a
+bridge its routing table and its pool, a terminus its records. With --bus the capture was taken on
+that bus, and a packet whose planned way doesn't go over it is told too. The last line says whether
+all is as planned, or how many lines tell a difference, or that nothing was compared: no device said
+anything of its routing table, its endpoint ID, its pool or its records, as in an empty capture.
+Behind that it has the number of nodes that were compared, of all nodes, of packets, and of entries
+that were refused. Where some were, a line tells the first one.
 
 Status 0: audit match.
 Status 1: audit differs and how many lines tell a difference; audit saw nothing of the plan; or the

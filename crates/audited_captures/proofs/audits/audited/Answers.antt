@@ -19,7 +19,7 @@ returns c =
     let rs = repository_values c.args.repositories.now in
     let captured = map entry_value c.args.capture.now.entries.items in
     let told = c.in_ok-told.told in
-    let beside = subst (λ (plan : Plan). AreBeside plan rs captured (map line_value told.lines.items) told.count) c.plan.ensures.plan c.in_ok-told.ensures in
+    let beside = subst (λ (plan : Plan). AreBeside plan c.args.is_complete rs captured (map line_value told.lines.items) told.count) c.plan.ensures.plan c.in_ok-told.ensures in
     let nodes = c.len.ensures ∙ c.plan-2.result.now.nodes.ok.0 ∙ ap (λ (plan : Plan). length plan.nodes.items) c.plan-2.ensures.plan in
-    audited_so plan c.args.checked.now.1 c.args.bus rs captured told.lines.items c.in_ok-traffic.traffic.lines.items c.in_ok-refused.refused.lines.items c.append.new.self.items
+    audited_so plan c.args.checked.now.1 c.args.bus c.args.is_complete rs captured told.lines.items c.in_ok-traffic.traffic.lines.items c.in_ok-refused.refused.lines.items c.append.new.self.items
     c.append-2.new.self.items _ c.requires beside c.in_ok-traffic.ensures c.in_ok-refused.ensures c.in_ok-append.ensures.items c.in_ok-append-2.ensures.items nodes

@@ -7,5 +7,7 @@ use Rattle.audited_captures.proofs.audits.lines_of_capture.Goals as goal
 pub returns : goal.returns
 returns c =
     let h = heard_of (map word_value c.in_ok-words.words.items) (map exchange_value c.in_ok-exchanges.exchanges.items) in
-    beside_so c.args.plan.now (repository_values c.args.repositories.now) (map entry_value c.args.capture.now.entries.items) (map message_value c.in_ok-messages.messages.items) h
-    c.in_ok-told.told.lines.items c.in_ok-strangers.strangers.items c.append.new.self.items c.in_ok-told.told.count (search rules) (search rules) (search rules) (search rules) (search rules) c.in_ok-append.ensures.items
+    let told = c.in_ok-told.told in
+    beside_so c.args.plan.now c.args.is_complete (repository_values c.args.repositories.now) (map entry_value c.args.capture.now.entries.items) (map message_value c.in_ok-messages.messages.items) h
+    told.lines.items told.untold.items c.in_ok-others.others.items c.append.new.self.items told.count (search rules) (search rules) (search rules) (search rules)
+    (search rules) c.in_ok-append.ensures.items

@@ -1,4 +1,4 @@
-use Rattle.audited_captures.proofs.MatchLaws.{nodes_match}
+use Rattle.audited_captures.proofs.NodeLaws.{nodes_match}
 use Rattle.audited_captures.proofs.laws.nodes_match_where_as_planned.Goals as goal
 
 pub returns : goal.returns
