@@ -6,7 +6,7 @@ use Rattle.plan_values.{specs.declared.certificate.Certificate.{Certificate}, sp
 use Rattle.command_answers.{specs.declared.answer.Answer.{Answer}, specs.declared.inputs.Unread.{Unread}, specs.declared.refused.Refused.{Refused}, specs.declared.status.Status.{Status}, specs.Answers.{Stream, GavePlanText, GaveCertificate}, specs.UnreadInputs.{IsNoPlanBy, IsNoCertificateBy}, proofs.UnreadTexts.{IsUnreadAnswer, plan_told, certificate_told}, specs.Certifying.{IsRuledOutBy}}
 use Rattle.explain_commands.specs.Explaining.{IsExplained, ExplainsSo, IsExplainedThere, IsObstacleText, IsToldWithEdits, AreMoreTold, IsFaultTold, both_words, IsBothExplained, IsExplainedWith, ExplainsWithSo, IsFaultExplained, IsRemedyTold}
 use Rattle.plan_texts.specs.Lines.{fault_text}
-use Rattle.fault_texts.specs.Places.{IsPlaceTold, obstacle_pointer}
+use Rattle.fault_texts.{specs.FaultListLines.{remedy_text}, specs.Places.{IsPlaceTold, obstacle_pointer}}
 use Rattle.net_rules.specs.declared.certify_error.CertifyError.TheVariants as error
 use Rattle.command_answers.specs.declared.status.Status.TheVariants as status
 use Rattle.command_answers.specs.declared.refused.Input.TheVariants as input
