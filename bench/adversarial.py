@@ -342,24 +342,6 @@ def made_line_with_rows(size):
     return board_of_a_line(size, lambda place: [f'"{plans.FIRST_EID + it} via n{place - 1} port 0"' for it in range(place)])
 
 
-def ring(size, step):
-    """Bridges in a ring, which send all on the same way round, but what is for themselves."""
-    buses = [plans.bus_named(f"b{place}") for place in range(size)]
-    nodes = []
-    for place in range(size):
-        ports = [plans.port_on(f"b{place}", place), plans.port_on(f"b{(place + 1) % size}", place)]
-        port, following = (1, (place + 1) % size) if step > 0 else (0, (place - 1) % size)
-        spans = [(0, place), (place + 1, size - place - 1)]
-        rows = [plans.row_to(plans.FIRST_EID + first, many, port, following) for first, many in spans if many]
-        nodes.append(plans.node_at(place, "bridge", ports, rows))
-    return plan_of(buses, nodes)
-
-
-def turned_ring(size):
-    """The steps by which a ring is turned round."""
-    return {"old.json": ring(size, 1), "new.json": ring(size, -1)}, ["rollout", "old.json", "new.json"]
-
-
 def broken_row(size):
     """Bridges on one bus, of which the last row has a port that isn't there."""
     buses, nodes = plans.bus(size)
@@ -430,7 +412,6 @@ ROWS = [
     Input("rows of a line", rows_of_a_line, 8, is_of_pairs=True),
     Input("make of a line", made_line, 8, is_of_pairs=True),
     Input("make of a line with rows of its own", made_line_with_rows, 8, is_of_pairs=True),
-    Input("rollout of a ring", turned_ring, 8, is_of_pairs=True),
     Input("explain of a broken row", broken_row, 8),
     Input("fix of a broken row", mended_row, 8),
     Input("packets for an emulated node", answered_packets, 512),
