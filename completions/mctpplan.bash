@@ -80,7 +80,7 @@ _mctpplan() {
     elif [[ $command == export && $current == -* ]]; then
         mapfile -t COMPREPLY < <(compgen -W '--link' -- "$current")
     elif [[ $command == export && $place -eq 2 ]]; then
-        mapfile -t COMPREPLY < <(compgen -W 'linux c entries records' -- "$current")
+        mapfile -t COMPREPLY < <(compgen -W 'linux mctpd devicetree c entries records' -- "$current")
     elif [[ $command == script && $current == -* ]]; then
         mapfile -t COMPREPLY < <(compgen -W '--lose --repeat' -- "$current")
     elif [[ $command == script && $place -eq 4 ]]; then

@@ -3,14 +3,18 @@
 The C source must compile as C99 without a warning, and a program that takes it in must find each row, the pool and each
 record in it; its lines have at most 100 columns, and one source takes in those of all nodes. The script must be one by
 sh -n, and with a function in place of mctp it must call it with just the words that the plan gives, also where all that
-it adds is there already. Over I3C only provisioned IDs are neighbours. The answers must be cut into parts that begin where the one before ends, and together be the
-entries of the rows; the records must be those by place, joined. Names that a shell or C would read otherwise are tried
-besides. It needs a C compiler (cc), and says where that is missing.
+it adds is there already. Over I3C only provisioned IDs are neighbours. The script for mctpd must write the configuration
+and call busctl with just the words that the plan gives, and a device tree have a controller for each bus of the node. The
+answers must be cut into parts that begin where the one before ends, and together be the entries of the rows; the records
+must be those by place, joined. Names that a shell or C would read otherwise are tried besides. It needs a C compiler (cc),
+and says where that is missing.
 """
 import json
 import pathlib
+import re
 import shutil
 import subprocess
+import tomllib
 
 from runner import RISER, TOP, kind_of
 
@@ -40,6 +44,12 @@ C_RECORDS = """    printf("tid %u size %u\\n", {id}_tid, (unsigned)sizeof {id}_r
 """
 
 
+def cleaned(name):
+    """A name as it begins an identifier."""
+    name = "".join(it if it.isascii() and it.isalnum() else "_" for it in name)
+    return name if name[0].isalpha() else "node_" + name
+
+
 class Node:
     """What a plan and its certificate say of a node."""
 
@@ -63,8 +73,7 @@ class Node:
         return self.buses[self.bus(row)]["binding"] == I3C and len(self.address(row)) not in (0, 6)
 
     def id(self):
-        cleaned = "".join(it if it.isascii() and it.isalnum() else "_" for it in self.name)
-        return cleaned if cleaned[0].isalpha() else "node_" + cleaned
+        return cleaned(self.name)
 
     def told_in_c(self):
         """What the program in C prints."""
@@ -92,6 +101,36 @@ class Node:
             address = [it >> 1 if self.buses[self.bus(row)]["binding"] == SMBUS else it for it in self.address(row)]
             for eid in range(row["first"], row["first"] + row["size"]) if address and not self.lacks_pid(row) else ():
                 yield f"neigh add {eid} dev {device(self.bus(row))} lladdr 0x" + ":".join(f"{it:02x}" for it in address)
+
+    def lines_of(self, bus, address):
+        """An address on a bus as Linux has it, and whether Linux can take it."""
+        binding = self.buses[bus]["binding"]
+        return [it >> 1 if binding == SMBUS else it for it in address], bool(address) and (binding != I3C or len(address) == 6)
+
+    def daemon(self, devices):
+        """The mode of mctpd and the endpoint IDs that it gives by itself, and the words with which the script calls busctl."""
+        pool = self.node["pool"]
+        yield ("bus-owner", [pool["first"], pool["first"] + pool["size"] - 1]) if pool else ("endpoint", None)
+        own = {it["bus"] for it in self.node["ports"]}
+        for child in filter(lambda it: it["owner"] == self.name, self.plan["nodes"]):
+            port = next(it for it in child["ports"] if it["bus"] in own)
+            first = next(it for it in child["ports"] if it["bus"] == port["bus"])
+            address, is_known = self.lines_of(port["bus"], bytes.fromhex(first["address"]))
+            at = f"/au/com/codeconstruct/mctp1/interfaces/{devices.get(port['bus'], port['bus'])} au.com.codeconstruct.MCTP.BusOwner1"
+            words = f"{len(address)} {' '.join(f'0x{it:02x}' for it in address)} {child['eid']}"
+            if is_known:
+                yield f"call au.com.codeconstruct.MCTP1 {at} AssignEndpointStatic ayy {words}"
+
+    def tree(self, labels):
+        """The controllers of the device tree: the label of each, and the node's address there, where it needs one."""
+        for bus in dict.fromkeys(it for it in self.buses if any(port["bus"] == it for port in self.node["ports"])):
+            first = next(it for it in self.node["ports"] if it["bus"] == bus)
+            address, is_known = self.lines_of(bus, bytes.fromhex(first["address"]))
+            label = cleaned(labels.get(bus, bus))
+            if self.buses[bus]["binding"] == SMBUS and is_known:
+                yield label, "".join(f"{it:02x}" for it in address)
+            elif self.buses[bus]["binding"] == I3C:
+                yield label, None
 
     def entries(self):
         """The entries of the rows: their bytes."""
@@ -156,6 +195,27 @@ def called(trial, script, status=0):
     return ran.stdout if not ran.returncode and not ran.stderr else f"status {ran.returncode}: {ran.stderr}"
 
 
+def told_to_daemon(trial, script):
+    """The configuration that a script writes and the words with which it calls busctl, or why it is none."""
+    conf, path = trial.file("mctpd.conf", ""), trial.file("mctpd.sh", b"busctl() { printf '%s\\n' \"$*\"; }\n" + script)
+    ran = subprocess.run(["sh", path], capture_output=True, text=True, timeout=60, env={"MCTPD_CONF": str(conf)})
+    if ran.returncode or ran.stderr:
+        return [f"status {ran.returncode}: {ran.stderr}"]
+    read = tomllib.loads(conf.read_text())
+    return [(read["mode"], read.get("bus-owner", {}).get("dynamic_eid_range")), *ran.stdout.splitlines()]
+
+
+def controllers(tree):
+    """The controllers of a device tree's source: the label of each, and its address, where it has one."""
+    source = re.sub(r"/\*.*?\*/", "", tree, flags=re.S)
+    for label, body in re.findall(r"(?m)^&(\w+) \{ *\n(.*?)^\};\n", source, flags=re.S):
+        found = re.search(r"mctp@(\w+) \{\n\t\tcompatible = \"mctp-i2c-controller\";\n\t\treg = <\(0x(\w+) \| I2C_OWN_SLAVE_ADDRESS\)>;", body)
+        if not body.startswith("\tmctp-controller;\n") or found and found[1] != found[2]:
+            yield f"no controller: {body}"
+        else:
+            yield label, found and found[1]
+
+
 def faults(trial, files, node, compilers):
     """What is wrong with a node in each form."""
     export = lambda form, *more: trial.run(["export", form, *files, node.name, *more])
@@ -167,6 +227,13 @@ def faults(trial, files, node, compilers):
         for found in (called(trial, script), called(trial, script, 1)):
             if (status, error, found) != (0, b"", lines(node.commands(devices))):
                 yield f"linux: {error} {found}"
+        options = [f"--link={bus}={device}" for bus, device in devices.items()]
+        status, script, error = export("mctpd", *options)
+        if (status, error, told_to_daemon(trial, script)) != (0, b"", [*node.daemon(devices)]):
+            yield f"mctpd: {error} {told_to_daemon(trial, script)}"
+        status, tree, error = export("devicetree", *options)
+        if (status, error, [*controllers(tree.decode())]) != (0, b"", [*node.tree(devices)]):
+            yield f"devicetree: {error} {tree.decode()}"
     for compiler in compilers:
         status, source, error = export("c")
         told = compiled(trial, node, source, compiler)

@@ -58,8 +58,8 @@ HINTS = [
         ["export", "linux", PLAN, CERTIFICATE, "nic", "--link", "b0=x", "--link", "b1=x"],
         "usage",
         [
-            "mctpplan export linux|c|entries|records PLAN CERT NODE [--link BUS=DEV]..",
-            "--link is for linux, as --link b0=mctpi2c0, once for each bus and each device",
+            "mctpplan export linux|mctpd|devicetree|c|entries|records PLAN CERT NODE [--link BUS=DEV]..",
+            "--link is for linux, mctpd and devicetree, as --link b0=mctpi2c0, once for each bus and each device",
             "mctpplan guide export tells more",
         ],
     ),

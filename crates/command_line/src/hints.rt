@@ -157,10 +157,12 @@ fn eid_hint(alloc: Global, eid: &str) -> Result<String, AllocError> {
 /// What is said of a form that isn't there, or else of links, if there are any.
 fn form_hint(alloc: Global, form: &str, others: &[String]) -> Result<String, AllocError> {
     if form_of(form).is_none() {
-        return format!(in alloc; "{form} is none of linux, c, entries and records\n");
+        return format!(in alloc;
+            "{form} is none of linux, mctpd, devicetree, c, entries and records\n"
+        );
     }
     if has_option(others, "--link") {
-        return "--link is for linux, as --link b0=mctpi2c0, once for each bus and each device\n".to_string(
+        return "--link is for linux, mctpd and devicetree, as --link b0=mctpi2c0, once for each bus and each device\n".to_string(
             alloc,
         );
     }

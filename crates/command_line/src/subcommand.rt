@@ -503,17 +503,27 @@ fn rolling_out<'a>(arguments: &ArgMatches<'a>) -> Option<Subcommand<'a>> {
 
 fn exporting<'a>(arguments: &ArgMatches<'a>, words: &'a [String]) -> Option<Subcommand<'a>> {
     let kind = form_of(arguments.get_str("kind")?)?;
-    if kind != ExportKind::Linux && arguments.get_str(REPEATED).is_some() {
+    if !takes_links(kind) && arguments.get_str(REPEATED).is_some() {
         return None;
     }
     let node = arguments.get_str("node")?;
     asked!(arguments, Export(plan, certificate), export: Export { kind, node }, words: words)
 }
 
+/// Whether a form is of Linux, where a link says what a bus is called.
+fn takes_links(kind: ExportKind) -> bool {
+    matches!(
+        kind,
+        ExportKind::Linux | ExportKind::Mctpd | ExportKind::DeviceTree
+    )
+}
+
 /// The form of a node that a word names.
 pub fn form_of(word: &str) -> Option<ExportKind> {
     match word {
         "linux" => Some(ExportKind::Linux),
+        "mctpd" => Some(ExportKind::Mctpd),
+        "devicetree" => Some(ExportKind::DeviceTree),
         "c" => Some(ExportKind::C),
         "entries" => Some(ExportKind::Entries),
         "records" => Some(ExportKind::Records),

@@ -5,6 +5,10 @@
 pub enum ExportKind {
     /// A shell script with the commands for a Linux node.
     Linux,
+    /// A shell script that has `mctpd` on a Linux node give the endpoint IDs.
+    Mctpd,
+    /// The source of a device tree with the buses of a Linux node.
+    DeviceTree,
     /// A C99 source of the node's tables.
     C,
     /// The responses of Get Routing Table Entries, each in a line in hex.

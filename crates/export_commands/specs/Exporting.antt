@@ -5,7 +5,7 @@ use Rattle.command_questions.{specs.declared.exports.Export.{Export}, specs.decl
 use Rattle.plan_values.{specs.declared.certificate.Certificate.{Certificate}, specs.declared.plan.Plan.{Plan}}
 use Rattle.net_rules.specs.Rules.{Accepts}
 use Rattle.net_tables.{specs.Names.{name_of_bus}, specs.Repositories.{records_by_place, terminus_of}, specs.Routing.{IsBridge, eid_of}}
-use Rattle.plan_exports.{specs.CSources.{IsCSource, TerminusFacts}, specs.LinuxScripts.{IsLinuxScript}, specs.Repositories.{joined_bytes}, specs.TableAnswers.{AreEntryLines}, specs.declared.links.Link.{Link}}
+use Rattle.plan_exports.{specs.CSources.{IsCSource, TerminusFacts}, specs.DeviceTrees.{IsDeviceTree}, specs.LinuxScripts.{IsLinuxScript}, specs.MctpdScripts.{IsMctpdScript}, specs.Repositories.{joined_bytes}, specs.TableAnswers.{AreEntryLines}, specs.declared.links.Link.{Link}}
 use Rattle.command_answers.specs.declared.status.Status.TheVariants as status
 use Rattle.command_questions.specs.declared.exports.ExportKind.TheVariants as kind
 
@@ -17,6 +17,8 @@ terminus_at plan cert n =
 -- the bytes are n in this form
 abbrev pub IsExported : ExportKind → List Link → Plan → Certificate → ℕ → List ℕ → Type 0
 IsExported kind.Linux links plan cert n bytes = IsLinuxScript plan n links bytes
+IsExported kind.Mctpd links plan cert n bytes = IsMctpdScript plan n links bytes
+IsExported kind.DeviceTree links plan cert n bytes = IsDeviceTree plan n links bytes
 IsExported kind.C links plan cert n bytes = IsCSource plan n (terminus_at plan cert n) bytes
 IsExported kind.Entries links plan cert n bytes =
     (eid : ℕ) × (eid_of plan n ≡ Some eid) × AreEntryLines plan n eid bytes
@@ -25,6 +27,8 @@ IsExported kind.Records links plan cert n bytes = bytes ≡ joined_bytes (record
 -- n has what the form is of: a bridge its routing table to tell, a terminus its records
 abbrev pub HasForm : ExportKind → Plan → ℕ → Type 0
 HasForm kind.Linux plan n = ⊤
+HasForm kind.Mctpd plan n = ⊤
+HasForm kind.DeviceTree plan n = ⊤
 HasForm kind.C plan n = ⊤
 HasForm kind.Entries plan n = IsBridge plan n
 HasForm kind.Records plan n = terminus_of plan n ≢ None

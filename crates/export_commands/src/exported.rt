@@ -2,13 +2,15 @@
 ghost use Rattle.std.specs.Prelude.{◌≡◌, ◌↔◌, ℕ, Some, IfOk, IsTrue, All, string_bytes};
 ghost use Rattle.export_commands.specs.Exporting.{HasBus, HasForm, IsExported, terminus_at};
 ghost use Rattle.net_tables.{specs.Repositories.{records_by_place}, specs.Routing.{IsBridge, eid_of}};
-ghost use Rattle.plan_exports.{specs.CSources.{IsCSource}, specs.LinuxScripts.{IsLinuxScript}, specs.Repositories.{joined_bytes}, specs.TableAnswers.{AreEntryLines}};
+ghost use Rattle.plan_exports.{specs.CSources.{IsCSource}, specs.DeviceTrees.{IsDeviceTree}, specs.LinuxScripts.{IsLinuxScript}, specs.MctpdScripts.{IsMctpdScript}, specs.Repositories.{joined_bytes}, specs.TableAnswers.{AreEntryLines}};
 
 use command_answers::records_by_place;
 use command_questions::ExportKind;
 use net_check::Checked;
 use net_tables::lookup::{bus_named, eid_at, terminus_at};
-use plan_exports::{CTerminus, Link, c_source, entry_lines, joined_records, linux_script};
+use plan_exports::{
+    CTerminus, Link, c_source, device_tree, entry_lines, joined_records, linux_script, mctpd_script,
+};
 use plan_values::Plan;
 use std::alloc::{AllocError, Global};
 
@@ -25,6 +27,8 @@ pub fn exported(
 {
     match kind {
         ExportKind::Linux => Ok(script_of(alloc, checked, links, node)?.into_bytes()),
+        ExportKind::Mctpd => Ok(daemon_of(alloc, checked, links, node)?.into_bytes()),
+        ExportKind::DeviceTree => Ok(tree_of(alloc, checked, links, node)?.into_bytes()),
         ExportKind::C => Ok(source_of(alloc, checked, node)?.into_bytes()),
         ExportKind::Entries => Ok(entries_of(alloc, checked, node)?.into_bytes()),
         ExportKind::Records => records_of(alloc, checked, node),
@@ -42,6 +46,30 @@ fn script_of(
 {
     let text = linux_script(alloc, checked.plan(), node, links)?;
     Ok(text)
+}
+
+/// The script of a node for `mctpd`, with the devices of the links.
+fn daemon_of(
+    alloc: Global,
+    checked: &Checked,
+    links: &[Link],
+    node: usize,
+) -> Result<String, AllocError>
+    ensures { IfOk result (λ text. IsMctpdScript checked.now.0 node links.now (string_bytes text)) }
+{
+    mctpd_script(alloc, checked.plan(), node, links)
+}
+
+/// The device tree of a node's buses, with the labels of the links.
+fn tree_of(
+    alloc: Global,
+    checked: &Checked,
+    links: &[Link],
+    node: usize,
+) -> Result<String, AllocError>
+    ensures { IfOk result (λ text. IsDeviceTree checked.now.0 node links.now (string_bytes text)) }
+{
+    device_tree(alloc, checked.plan(), node, links)
 }
 
 /// The C source of a node, with its terminus.

@@ -101,7 +101,7 @@ fn has_form(plan: &Plan, kind: ExportKind, node: usize) -> bool
     ensures { IsTrue result ↔ HasForm kind plan.now node }
 {
     match kind {
-        ExportKind::Linux | ExportKind::C => true,
+        ExportKind::Linux | ExportKind::Mctpd | ExportKind::DeviceTree | ExportKind::C => true,
         ExportKind::Entries => is_bridge(plan, node),
         ExportKind::Records => terminus_at(plan, node).is_some(),
     }

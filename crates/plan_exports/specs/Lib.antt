@@ -8,3 +8,5 @@ pub mod Devices
 pub mod LinuxScripts
 pub mod CSources
 pub mod Repositories
+pub mod MctpdScripts
+pub mod DeviceTrees

@@ -14,9 +14,9 @@ use plan_values::Plan;
 use std::alloc::{AllocError, Global};
 
 /// The binding of SMBus and I2C (DSP0239).
-const SMBUS: u8 = 1;
+pub const SMBUS: u8 = 1;
 /// The binding of I3C (DSP0239).
-const I3C: u8 = 6;
+pub const I3C: u8 = 6;
 
 /// The script of a node whose rows are lawful: its devices, its endpoint ID, a route for each of its rows, and for each
 /// endpoint ID of a row the physical address to which packets go.
@@ -55,7 +55,7 @@ fn script_text(
 }
 
 /// The buses on which a node has a port, in the plan's order.
-fn buses_at(alloc: Global, plan: &Plan, node: usize) -> Result<Vec<usize>, AllocError>
+pub fn buses_at(alloc: Global, plan: &Plan, node: usize) -> Result<Vec<usize>, AllocError>
     ensures { IfOk result (λ buses. buses.items ≡ buses_at plan.now node) }
 {
     let mut buses = Vec::new(alloc);
@@ -240,7 +240,7 @@ fn neighbor_lines(
 
 /// What stands before the lines of a neighbour: nothing, or over I3C, where the address is no provisioned ID, what makes
 /// comments of them.
-fn neighbor_front(binding: u8, address: &[u8]) -> &'static str
+pub fn neighbor_front(binding: u8, address: &[u8]) -> &'static str
     ensures { result.now ≡ neighbor_front binding address.now }
 {
     if binding == I3C && address.len() != 6 {
@@ -252,7 +252,7 @@ fn neighbor_front(binding: u8, address: &[u8]) -> &'static str
 
 /// The bytes of an address on a bus of a binding as Linux has them: over SMBus and I2C without the bit below the seven
 /// of the address.
-fn link_address(alloc: Global, binding: u8, address: &[u8]) -> Result<Vec<u8>, AllocError>
+pub fn link_address(alloc: Global, binding: u8, address: &[u8]) -> Result<Vec<u8>, AllocError>
     ensures { IfOk result (λ bytes. bytes.items ≡ link_address binding address.now) }
 {
     address
@@ -316,7 +316,7 @@ fn neighbor_command(
 }
 
 /// The device of a row's bus.
-fn device_on<'a>(devices: &[&'a str], bus: Option<usize>) -> &'a str
+pub fn device_on<'a>(devices: &[&'a str], bus: Option<usize>) -> &'a str
     ensures { result.now ≡ device_on (map (λ d. d.now) devices.now) bus }
 {
     match bus {
@@ -326,7 +326,7 @@ fn device_on<'a>(devices: &[&'a str], bus: Option<usize>) -> &'a str
 }
 
 /// The device at an index, a dash beyond the list.
-fn device_at<'a>(devices: &[&'a str], bus: usize) -> &'a str
+pub fn device_at<'a>(devices: &[&'a str], bus: usize) -> &'a str
     ensures { result.now ≡ device_at (map (λ d. d.now) devices.now) bus }
 {
     match devices.get(bus) {

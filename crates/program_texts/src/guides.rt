@@ -19,8 +19,8 @@ script PLAN CERT walk NODE EID COUNT [--lose N,N] [--repeat N,N]
                              the events of a whole walk over the network, made as it runs
 simmove OLD NEW CERT EVENTS  the same while nodes go over to new rows
 walk PLAN CERT NODE COUNT    the records that a walk over a node's terminus collects
-export linux|c|entries|records PLAN CERT NODE [--link BUS=DEV]..
-                             what a node takes from the plan: a script, a C source, answers or records
+export linux|mctpd|devicetree|c|entries|records PLAN CERT NODE [--link BUS=DEV]..
+                             what a node takes from the plan: scripts, a device tree, a C source, answers or records
 reach PLAN CERT [--json]     who reaches whom, and in how many hops
 matrix PLAN CERT             the same as a table that a person reads
 require PLAN CERT WANTED     whether the nodes reach whom a text wants them to reach
@@ -362,10 +362,10 @@ Status 1: a fault of the plan or the certificate.
   records 1 requests 2
 "#;
 
-const OF_EXPORT: &str = r#"mctpplan export linux|c|entries|records PLAN CERT NODE [--link BUS=DEV]..
+const OF_EXPORT: &str = r#"mctpplan export linux|mctpd|devicetree|c|entries|records PLAN CERT NODE [--link BUS=DEV]..
 
 Prints what the first node of the name NODE has by the plan. Rows stand in the order of their
-endpoint IDs, and records in the order of the certificate's places. There are four forms:
+endpoint IDs, and records in the order of the certificate's places. There are six forms:
 
 - linux: a shell script with the commands of the tool mctp that give a Linux node its state: each
   device is set up, with the plan's transmission unit and four bytes of header as MTU; the node has
@@ -376,6 +376,16 @@ endpoint IDs, and records in the order of the certificate's places. There are fo
   alone, so the plan's address 20 is 0x10 there. Over I3C Linux names a neighbour by its provisioned
   ID (PID), which is an address of six bytes in the plan, the highest byte first. Where the plan has
   another address there, the line is a comment that begins # no PID in the plan:.
+- mctpd: a shell script for a Linux node on which the daemon mctpd runs. It writes mctpd.conf (or
+  the file that MCTPD_CONF names): mode is bus-owner, with the node's pool as dynamic_eid_range, or
+  endpoint where the node has no pool. Then it has a call of AssignEndpointStatic by busctl for each
+  node that this one owns, in the plan's order: over the bus of the owned node's lowest port that
+  both share, as assign asks it. Addresses and devices are those of linux; where the plan has no
+  address, or over I3C no provisioned ID, the line is a comment. The words are those of mctpd 2.2.
+- devicetree: the node's buses for the device tree of its Linux kernel, in the plan's order: over
+  SMBus and I2C an mctp-i2c-controller with the node's own address, over I3C the word mctp-
+  controller, and for another binding a comment. A controller has the name of its bus as its label,
+  or what --link says, with _ for what is no letter or digit. The words are those of Linux 6.7.
 - c: a C99 source with the plan's transmission unit, the node's endpoint ID, its pool, its rows and,
   for a terminus, the records in one array of bytes, with an index of handles, offsets and lengths.
   Each name begins with that of the node, with _ for what is no letter or digit, and with node_
