@@ -1,12 +1,12 @@
 -- What is answered for a board is answered to its text, and how lines are worded.
-use Rattle.std.{proofs.Common.{◌≡◌, ◌≢◌, ℕ, List, ◌++◌, Some, Result, Ok, Err, subst, sym}, specs.Prelude.{IfOk, codes}}
+use Rattle.std.{proofs.Common.{◌≡◌, ◌≢◌, ℕ, List, ◌++◌, Some, Result, Ok, Err, subst}, specs.Prelude.{IfOk, codes}}
 use Rattle.toml.specs.Data.{Data}
 use Rattle.plan_values.specs.declared.plan.Plan.{Plan}
 use Rattle.net_rules.{specs.declared.certify_error.CertifyError.{CertifyError}, specs.Certificates.{NamesObstacle, RulesOutCertificates}}
 use Rattle.plan_texts.specs.Lines.{obstacle_text}
 use Rattle.board.specs.declared.board.RecordFile.{RecordFile}
-use Rattle.board_values.{specs.Said.{IsTomlOf}, specs.Lines.{IsNodeTold}}
-use Rattle.board_made.{specs.declared.answer.BoardAnswer.{BoardAnswer}, specs.declared.answer.BoardAnswer.TheVariants.{Made, NoPlan, Unread}, specs.Made.{IsUnreadLine, IsAnswerTo, IsAnswerFor}, specs.Reasons.{TellsObstacle, IsRuledOut, IsUnfound, IsWayLine, IsWayTold, reason_line, way_words}}
+use Rattle.board_values.specs.Said.{IsTomlOf}
+use Rattle.board_made.{specs.declared.answer.BoardAnswer.{BoardAnswer}, specs.declared.answer.BoardAnswer.TheVariants.{Made, NoPlan, Unread}, specs.Made.{IsUnreadLine, IsAnswerTo, IsAnswerFor}, specs.Reasons.{TellsObstacle, IsRuledOut, IsUnfound, IsWayLine}}
 use Rattle.net_rules.specs.declared.certify_error.CertifyError.TheVariants as error
 
 pub answered : (files : List RecordFile) (text : List ℕ) (board : Data) (answer : BoardAnswer) → IsTomlOf text board → IsAnswerFor files board answer
@@ -22,20 +22,13 @@ pub unfound_worded : {A E : Type 0} (bytes : A → List ℕ) (words : List ℕ) 
 unfound_worded bytes words (Ok t) written = (words, written)
 unfound_worded bytes words (Err e) written = tt
 
--- a way between nodes that are told
-pub way_told : {A E : Type 0} (board : Data) (a b : ℕ) (bytes : A → List ℕ) (one other said also : List ℕ) (r : Result A E) → IsNodeTold board a one
-    → IsNodeTold board b other → said ≡ one → also ≡ other → IfOk r (λ t. bytes t ≡ reason_line (way_words said also))
-    → IfOk r (λ t. IsWayTold board a b (bytes t))
-way_told board a b bytes one other said also (Ok t) told told_other same alike written =
-    (said, also, subst (λ w. IsNodeTold board a w) (sym same) told, subst (λ w. IsNodeTold board b w) (sym alike) told_other, written)
-way_told board a b bytes one other said also (Err e) told told_other same alike written = tt
-
 pub unread_worded : {A E : Type 0} (bytes : A → List ℕ) (words : List ℕ) (r : Result A E) → IfOk r (λ t. bytes t ≡ codes "unreadable board: " ++ (words ++ codes "\n"))
     → IfOk r (λ t. IsUnreadLine (bytes t))
 unread_worded bytes words (Ok t) written = (words, written)
 unread_worded bytes words (Err e) written = tt
 
-pub way_worded : {A E : Type 0} (bytes : A → List ℕ) (one other : List ℕ) (r : Result A E) → IfOk r (λ t. bytes t ≡ reason_line (way_words one other))
+pub way_worded : {A E : Type 0} (bytes : A → List ℕ) (one other : List ℕ) (r : Result A E)
+    → IfOk r (λ t. bytes t ≡ codes "no plan: no way over buses, bridges and given rows leads from " ++ (one ++ (codes " to " ++ (other ++ codes "\n"))))
     → IfOk r (λ t. IsWayLine (bytes t))
 way_worded bytes one other (Ok t) written = (one, other, written)
 way_worded bytes one other (Err e) written = tt

@@ -5,7 +5,7 @@ ghost use Rattle.plan_values.{specs.CertificateValues.{certificate_value}, specs
 ghost use Rattle.net_plan.{specs.PlanText.{IsPlanOf}, specs.Texts.{IsJsonTextOf}};
 ghost use Rattle.net_rules.specs.Certificates.{IsExact, NamesObstacle, RulesOutCertificates};
 ghost use Rattle.board_kept.specs.Made.{IsFitFor};
-ghost use Rattle.board_made.{specs.Made.{IsAnswerFor, IsCertificateText}, specs.Reasons.{IsCutTold, IsReason, IsUnfound}};
+ghost use Rattle.board_made.{specs.Made.{IsAnswerFor, IsCertificateText}, specs.Reasons.{IsReason, IsUnfound, IsWayLine}};
 
 use crate::answer::{BoardAnswer, MadePlan};
 use crate::reasons::{lacking, obstacle_reason, unfit_line, unfound, way_line};
@@ -44,27 +44,14 @@ fn cut_reason(
     given: &Board,
     cut: Option<Cut>,
 ) -> Result<Option<String>, AllocError>
-    ensures { IfOk result (λ found. IfSome found (λ reason. IsCutTold (view board.now) (string_bytes reason))) }
+    ensures { IfOk result (λ found. IfSome found (λ reason. IsWayLine (string_bytes reason))) }
 {
     match cut {
-        Some(cut) => reason_if_cut(alloc, text, board, given, cut),
-        None => Ok(None),
+        Some(cut) if is_cut_off(alloc, given, cut.from, cut.to)? => {
+            Ok(Some(way_line(alloc, text, board, cut.from, cut.to)?))
+        }
+        _ => Ok(None),
     }
-}
-
-fn reason_if_cut(
-    alloc: Global,
-    text: &str,
-    board: &Value,
-    given: &Board,
-    cut: Cut,
-) -> Result<Option<String>, AllocError>
-    ensures { IfOk result (λ found. IfSome found (λ reason. IsCutTold (view board.now) (string_bytes reason))) }
-{
-    if !is_cut_off(alloc, board, given, cut.from, cut.to)? {
-        return Ok(None);
-    }
-    Ok(Some(way_line(alloc, text, board, cut.from, cut.to)?))
 }
 
 /// The text of a plan, where it reads as one that is fit for a board, or why it isn't.

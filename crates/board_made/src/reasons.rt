@@ -1,8 +1,8 @@
 //! The lines that say why a board can't be read, or why no plan is made of it.
-ghost use Rattle.std.specs.Prelude.{◌≡◌, IfOk, string_bytes};
+ghost use Rattle.std.specs.Prelude.{◌≡◌, ◌++◌, IfOk, codes, string_bytes};
 ghost use Rattle.toml.specs.View.{view};
 ghost use Rattle.net_rules.specs.Certificates.{NamesObstacle};
-ghost use Rattle.board_made.{specs.Made.{IsUnreadLine}, specs.Reasons.{reason_line, way_words, IsReason, IsUnfound, IsWayLine, IsWayTold, TellsObstacle}};
+ghost use Rattle.board_made.{specs.Made.{IsUnreadLine}, specs.Reasons.{IsReason, IsUnfound, IsWayLine, TellsObstacle}};
 
 use board::{Board, NoPlan, RecordFile};
 use board_kept::Unfit;
@@ -38,7 +38,7 @@ pub fn unread_line(alloc: Global, reason: &str) -> Result<String, AllocError>
 
 /// Says why no plan is made: there is no such thing.
 fn named_reason(alloc: Global, lacking: &str) -> Result<String, AllocError>
-    ensures { IfOk result (λ reason. string_bytes reason ≡ reason_line lacking.now) }
+    ensures { IfOk result (λ reason. string_bytes reason ≡ codes "no plan: no " ++ (lacking.now ++ codes "\n")) }
 {
     format!(in alloc; "no plan: no {lacking}\n")
 }
@@ -122,7 +122,7 @@ pub fn no_rows_line(alloc: Global, plan: &Plan, why: NoPlan) -> Result<String, A
     }
 }
 
-/// Says that no way leads from a node of a board to another.
+/// Says that no way leads from a node of a board to another. That it is so is not promised here.
 pub fn way_line(
     alloc: Global,
     text: &str,
@@ -130,29 +130,28 @@ pub fn way_line(
     from: usize,
     to: usize,
 ) -> Result<String, AllocError>
-    ensures { IfOk result (λ line. IsWayTold (view board.now) from to (string_bytes line)) }
+    ensures { IfOk result (λ line. IsWayLine (string_bytes line)) }
 {
     let one = told_node(alloc, board, text, from)?;
     let other = told_node(alloc, board, text, to)?;
     way_reason(alloc, &one, &other)
 }
 
-fn way_reason(alloc: Global, one: &str, other: &str) -> Result<String, AllocError>
-    ensures { IfOk result (λ line. string_bytes line ≡ reason_line (way_words one.now other.now)) }
-{
-    named_reason(
-        alloc,
-        &format!(in alloc; "way over buses, bridges and given rows leads from {one} to {other}")?,
-    )
-}
-
-/// Says that no way leads from a node of a plan to another. That it is so is not promised here.
+/// The same of a plan.
 pub fn way_line_of(alloc: Global, plan: &Plan, from: usize, to: usize) -> Result<String, AllocError>
     ensures { IfOk result (λ line. IsWayLine (string_bytes line)) }
 {
     let one = node_of_plan(alloc, None, plan, from)?;
     let other = node_of_plan(alloc, None, plan, to)?;
     way_reason(alloc, &one, &other)
+}
+
+fn way_reason(alloc: Global, one: &str, other: &str) -> Result<String, AllocError>
+    ensures { IfOk result (λ line. IsWayLine (string_bytes line)) }
+{
+    format!(in alloc;
+        "no plan: no way over buses, bridges and given rows leads from {one} to {other}\n"
+    )
 }
 
 /// What rules certificates of the made plan out, with the node's line of the board, if there is one, and the

@@ -2,5 +2,3 @@ pub mod Said
 pub mod Eids
 pub mod Owners
 pub mod Lacks
-pub mod Lines
-pub mod Ways

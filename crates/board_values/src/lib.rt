@@ -8,7 +8,6 @@ mod lines;
 mod owners;
 mod said;
 mod shares;
-mod ways;
 
 pub use cut::is_cut_off;
 pub use eids::{eids_text, says_run};

@@ -1,187 +1,134 @@
 //! Devices that answer control messages, and pools of endpoint IDs.
 ghost use Rattle.std.specs.Prelude.{◌<◌, length};
 
-use super::messages::TABLE;
+use super::messages::{TABLE, bytes_of};
 use mctp_control::{ControlAnswer, Device, EidPool, EidRange, Response, RouteEntry};
 use mctp_routing::DeviceKind;
 use mctp_transport::{Eid, Wire};
+use std::alloc::Global;
 use std::test::Fail;
 
-/// A bus, the body that comes over it, and the reply of a device: none of no bytes.
-type Row<'a> = (u8, &'a [u8], &'a [u8]);
-
-/// Whether the device answers a body so.
-fn replies(device: &mut Device, table: &[RouteEntry], row: Row) -> bool
+/// Whether the device answers a row's body so: the bus that it comes over, the body, and the reply, or a dash for none.
+fn replies(
+    alloc: Global,
+    device: &mut Device,
+    table: &[RouteEntry],
+    row: &str,
+) -> Result<bool, Fail>
     requires { length table.now < 255 }
 {
-    let (bus, body, wanted) = row;
-    match device.answer(bus, table, body) {
-        Some(reply) => reply.as_slice() == wanted,
-        None => wanted.is_empty(),
-    }
+    let mut words = row.split(' ');
+    let (Some(bus), Some(body), Some(wanted)) = (words.next(), words.next(), words.next()) else {
+        return Ok(false);
+    };
+    let reply = match device.answer(u8::from(bus == "1"), table, &bytes_of(alloc, body)?) {
+        Some(reply) => hex::encode(alloc, reply.as_slice())?,
+        None => "-".to_string(alloc)?,
+    };
+    Ok(reply.as_str() == wanted)
 }
 
-/// The first body that the device answers otherwise.
-fn first_other<'a>(device: &mut Device, table: &[RouteEntry], rows: &[Row<'a>]) -> Option<&'a [u8]>
-    requires { length table.now < 255 }
-{
-    for row in rows {
-        if !replies(device, table, *row) {
-            return Some(row.1);
+/// A bridge of endpoint ID 8 with a pool of 8 from 16 on.
+fn configured() -> Device {
+    Device::configured(
+        DeviceKind::Bridge,
+        Eid::new(8),
+        EidRange::of(Eid::new(16), 8),
+    )
+}
+
+/// What comes to devices one after another, each with what it replies: to an endpoint, a bridge that wants a pool of 7,
+/// and one that is configured.
+const REPLIES: &str = "
+# an endpoint keeps its endpoint ID, and knows two commands
+endpoint
+0 008502 00050200000000
+0 00a002 00000200000000
+0 008001000a 00000100000a00
+1 008001000b 00000100100a00
+0 008002 000002000a0000
+0 008008000711 00000805
+0 00800a00 00000a05
+0 008003 00000305
+# of two causes the first is told: the command, the length, the values
+endpoint
+0 008008 00000805
+0 00800100 00000103
+0 00800102 00000103
+0 00800200 00000203
+0 0080010000 00000102
+0 0080010007 00000102
+0 00800101ff 00000102
+0 008001020a 00000102
+0 008001030a 00000102
+0 00c002 -
+0 000002 -
+0 004002 -
+0 808002 -
+0 0080 -
+# a bridge takes a pool, keeps it, and tells it
+bridge
+0 0080010010 00000100011007
+0 008008000711 00000800000711
+0 0080010010 00000100021007
+0 008002 00000200101000
+1 008008000320 00000800010711
+1 008008020000 00000800000711
+0 00800a00 00000a00ff00
+# what no bridge takes: other lengths, pools outside 8 to 254, another operation, and entries that it doesn't have
+bridge
+0 008003 00000305
+0 0080080007 00000803
+0 00800a 00000a03
+0 0080010010 00000100011007
+0 008008000011 00000802
+0 008008000707 00000802
+0 0080080007f9 00000802
+0 008008030711 00000802
+0 00800a03 00000a02
+0 0080080007f8 000008000007f8
+# it yields to force
+bridge
+0 0080010010 00000100011007
+1 0080010111 00000100011107
+# and to force alone, where it was configured
+configured
+0 008001000a 00000100120808
+0 008008000320 00000800010810
+0 008001010a 00000100020a08
+0 008008010320 00000800000320
+";
+
+/// The first row that a device answers otherwise. A device answers the rows that follow its name.
+fn first_other(alloc: Global, rows: &'static str) -> Result<Option<&'static str>, Fail> {
+    let mut device = Device::endpoint();
+    for row in rows.lines() {
+        match row {
+            "endpoint" => device = Device::endpoint(),
+            "bridge" => device = Device::bridge(7),
+            "configured" => device = configured(),
+            _ => {
+                if !row.is_empty()
+                    && !row.starts_with('#')
+                    && !replies(alloc, &mut device, &[], row)?
+                {
+                    return Ok(Some(row));
+                }
+            }
         }
     }
-    None
-}
-
-/// A device before it is asked anything.
-#[derive(Clone, Copy)]
-enum Start {
-    Endpoint,
-    /// A bridge that wants a pool of 7.
-    Bridge,
-    /// A bridge of endpoint ID 8 with a pool of 8 from 16 on.
-    Configured,
-}
-
-fn device_of(start: Start) -> Device {
-    match start {
-        Start::Endpoint => Device::endpoint(),
-        Start::Bridge => Device::bridge(7),
-        Start::Configured => Device::configured(
-            DeviceKind::Bridge,
-            Eid::new(8),
-            EidRange::of(Eid::new(16), 8),
-        ),
-    }
-}
-
-/// What comes to devices one after another, each with what it replies.
-const REPLIES: [(Start, &[Row]); 6] = [
-    // an endpoint keeps its endpoint ID, and knows two commands
-    (
-        Start::Endpoint,
-        &[
-            (0, &[0, 0x85, 0x02], &[0, 0x05, 0x02, 0, 0, 0, 0]),
-            (0, &[0, 0xa0, 0x02], &[0, 0, 0x02, 0, 0, 0, 0]),
-            (0, &[0, 0x80, 0x01, 0, 0x0a], &[0, 0, 0x01, 0, 0, 0x0a, 0]),
-            (
-                1,
-                &[0, 0x80, 0x01, 0, 0x0b],
-                &[0, 0, 0x01, 0, 0x10, 0x0a, 0],
-            ),
-            (0, &[0, 0x80, 0x02], &[0, 0, 0x02, 0, 0x0a, 0, 0]),
-            (0, &[0, 0x80, 0x08, 0, 7, 0x11], &[0, 0, 0x08, 5]),
-            (0, &[0, 0x80, 0x0a, 0], &[0, 0, 0x0a, 5]),
-            (0, &[0, 0x80, 0x03], &[0, 0, 0x03, 5]),
-        ],
-    ),
-    // of two causes the first is told: the command, the length, the values
-    (
-        Start::Endpoint,
-        &[
-            (0, &[0, 0x80, 0x08], &[0, 0, 0x08, 5]),
-            (0, &[0, 0x80, 0x01, 0], &[0, 0, 0x01, 3]),
-            (0, &[0, 0x80, 0x01, 2], &[0, 0, 0x01, 3]),
-            (0, &[0, 0x80, 0x02, 0], &[0, 0, 0x02, 3]),
-            (0, &[0, 0x80, 0x01, 0, 0], &[0, 0, 0x01, 2]),
-            (0, &[0, 0x80, 0x01, 0, 7], &[0, 0, 0x01, 2]),
-            (0, &[0, 0x80, 0x01, 1, 0xff], &[0, 0, 0x01, 2]),
-            (0, &[0, 0x80, 0x01, 2, 0x0a], &[0, 0, 0x01, 2]),
-            (0, &[0, 0x80, 0x01, 3, 0x0a], &[0, 0, 0x01, 2]),
-            (0, &[0, 0xc0, 0x02], &[]),
-            (0, &[0, 0x00, 0x02], &[]),
-            (0, &[0, 0x40, 0x02], &[]),
-            (0, &[0x80, 0x80, 0x02], &[]),
-            (0, &[0, 0x80], &[]),
-        ],
-    ),
-    // a bridge takes a pool, keeps it, and tells it
-    (
-        Start::Bridge,
-        &[
-            (0, &[0, 0x80, 0x01, 0, 0x10], &[0, 0, 0x01, 0, 1, 0x10, 7]),
-            (
-                0,
-                &[0, 0x80, 0x08, 0, 7, 0x11],
-                &[0, 0, 0x08, 0, 0, 7, 0x11],
-            ),
-            (0, &[0, 0x80, 0x01, 0, 0x10], &[0, 0, 0x01, 0, 2, 0x10, 7]),
-            (0, &[0, 0x80, 0x02], &[0, 0, 0x02, 0, 0x10, 0x10, 0]),
-            (
-                1,
-                &[0, 0x80, 0x08, 0, 3, 0x20],
-                &[0, 0, 0x08, 0, 1, 7, 0x11],
-            ),
-            (1, &[0, 0x80, 0x08, 2, 0, 0], &[0, 0, 0x08, 0, 0, 7, 0x11]),
-            (0, &[0, 0x80, 0x0a, 0], &[0, 0, 0x0a, 0, 0xff, 0]),
-        ],
-    ),
-    // what no bridge takes: other lengths, pools outside 8 to 254, another operation, and entries that it doesn't have
-    (
-        Start::Bridge,
-        &[
-            (0, &[0, 0x80, 0x03], &[0, 0, 0x03, 5]),
-            (0, &[0, 0x80, 0x08, 0, 7], &[0, 0, 0x08, 3]),
-            (0, &[0, 0x80, 0x0a], &[0, 0, 0x0a, 3]),
-            (0, &[0, 0x80, 0x01, 0, 0x10], &[0, 0, 0x01, 0, 1, 0x10, 7]),
-            (0, &[0, 0x80, 0x08, 0, 0, 0x11], &[0, 0, 0x08, 2]),
-            (0, &[0, 0x80, 0x08, 0, 7, 7], &[0, 0, 0x08, 2]),
-            (0, &[0, 0x80, 0x08, 0, 7, 0xf9], &[0, 0, 0x08, 2]),
-            (0, &[0, 0x80, 0x08, 3, 7, 0x11], &[0, 0, 0x08, 2]),
-            (0, &[0, 0x80, 0x0a, 3], &[0, 0, 0x0a, 2]),
-            (
-                0,
-                &[0, 0x80, 0x08, 0, 7, 0xf8],
-                &[0, 0, 0x08, 0, 0, 7, 0xf8],
-            ),
-        ],
-    ),
-    // it yields to force
-    (
-        Start::Bridge,
-        &[
-            (0, &[0, 0x80, 0x01, 0, 0x10], &[0, 0, 0x01, 0, 1, 0x10, 7]),
-            (1, &[0, 0x80, 0x01, 1, 0x11], &[0, 0, 0x01, 0, 1, 0x11, 7]),
-        ],
-    ),
-    // and to force alone, where it was configured
-    (
-        Start::Configured,
-        &[
-            (0, &[0, 0x80, 0x01, 0, 0x0a], &[0, 0, 0x01, 0, 0x12, 8, 8]),
-            (
-                0,
-                &[0, 0x80, 0x08, 0, 3, 0x20],
-                &[0, 0, 0x08, 0, 1, 8, 0x10],
-            ),
-            (0, &[0, 0x80, 0x01, 1, 0x0a], &[0, 0, 0x01, 0, 2, 0x0a, 8]),
-            (
-                0,
-                &[0, 0x80, 0x08, 1, 3, 0x20],
-                &[0, 0, 0x08, 0, 0, 3, 0x20],
-            ),
-        ],
-    ),
-];
-
-/// The place of the first device that answers a body otherwise, and the body.
-fn first_other_device<'a>(devices: &[(Start, &[Row<'a>])]) -> Option<(usize, &'a [u8])> {
-    for (place, (start, rows)) in devices.iter().enumerate() {
-        if let Some(body) = first_other(&mut device_of(*start), &[], *rows) {
-            return Some((place, body));
-        }
-    }
-    None
+    Ok(None)
 }
 
 #[test]
-fn devices_answer(rt: HostRuntime) {
-    assert_eq!(rt; first_other_device(&REPLIES), None);
+fn devices_answer(rt: HostRuntime) -> Result<(), Fail> {
+    assert_eq!(rt; first_other(rt.alloc(), REPLIES)?, None);
+    Ok(())
 }
 
 #[test]
 fn a_bridge_knows_what_it_has(rt: HostRuntime) {
-    let bridge = device_of(Start::Configured);
+    let bridge = configured();
     assert_eq!(rt; bridge.eid(), Some(Eid::new(8)));
     assert!(rt; matches!(bridge.pool(), Some(range) if range.size == 8));
 }
@@ -193,12 +140,13 @@ fn bridges_tell_their_tables(rt: HostRuntime) -> Result<(), Fail> {
         RouteEntry::read(&[1, 0x11, 0x01, 1, 4, 1, 0x30])?,
         RouteEntry::read(&[1, 0x12, 0x01, 1, 4, 1, 0x32])?,
     ];
-    let rows: [Row; 2] = [
-        (0, &[0, 0x80, 0x0a, 0], &TABLE),
-        (0, &[0, 0x80, 0x0a, 3], &[0, 0, 0x0a, 2]),
-    ];
-    assert_eq!(rt; first_other(&mut Device::bridge(7), &table, &rows), None);
-    match Response::read(&TABLE)?.answer {
+    let alloc = rt.alloc();
+    let mut bridge = Device::bridge(7);
+    let whole = format!(in alloc; "0 00800a00 {TABLE}")?;
+    assert!(rt; replies(alloc, &mut bridge, &table, &whole)?);
+    assert!(rt; replies(alloc, &mut bridge, &table, "0 00800a03 00000a02")?);
+    let answer = bytes_of(alloc, TABLE)?;
+    match Response::read(&answer)?.answer {
         ControlAnswer::GetRoutingTableEntries { next, entries } => {
             assert!(rt; next == 0xff && entries.items.as_slice() == table.as_slice());
         }

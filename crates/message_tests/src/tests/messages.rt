@@ -7,24 +7,18 @@ use pldm_message::{
     ErrorResponse, GetPdrAnswer, GetPdrRequest, GetPldmTypes, GetPldmTypesAnswer, GetTid,
     GetTidAnswer, PldmError, PldmHeader, SetTid, SetTidAnswer,
 };
+use std::alloc::Global;
+use std::test::Fail;
 
-/// What bytes are read as.
-#[derive(Clone, Copy)]
-pub(crate) enum Reader {
-    Entry,
-    Request,
-    Response,
-    Header,
-    SetTid,
-    SetTidAnswer,
-    GetTid,
-    GetTidAnswer,
-    GetTypes,
-    GetTypesAnswer,
-    GetPdr,
-    GetPdrAnswer,
-    ErrorResponse,
-    Record,
+/// The bytes that a word gives in hex; a dash gives none.
+pub(crate) fn bytes_of(alloc: Global, word: &str) -> Result<Vec<u8>, Fail> {
+    if word == "-" {
+        return Ok(Vec::new(alloc));
+    }
+    match hex::decode(alloc, word.as_bytes()) {
+        Ok(bytes) => Ok(bytes),
+        Err(_) => Err(Fail::from("no hex")),
+    }
 }
 
 /// Whether the value is written as these bytes, at most 127, which its `put` counts, with what lies behind them left
@@ -67,425 +61,251 @@ fn record_code(bytes: &[u8]) -> &'static str {
     }
 }
 
-/// Whether the bytes are kept, and the code of the refusal, or `read`.
-fn read_by(reader: Reader, bytes: &[u8]) -> (bool, &'static str) {
+/// Whether the bytes are kept by the reader that a word names, and the code of the refusal, or `read`.
+fn read_by(reader: &str, bytes: &[u8]) -> (bool, &'static str) {
     match reader {
-        Reader::Entry => (
+        "entry" => (
             is_kept::<RouteEntry>(bytes),
             control_code(RouteEntry::read(bytes)),
         ),
-        Reader::Request => (
+        "request" => (
             is_kept::<Request>(bytes),
             control_code(Request::read(bytes)),
         ),
-        Reader::Response => (
+        "response" => (
             is_kept::<Response>(bytes),
             control_code(Response::read(bytes)),
         ),
-        Reader::Record => (is_kept::<Record>(bytes), record_code(bytes)),
+        "record" => (is_kept::<Record>(bytes), record_code(bytes)),
         _ => read_as_pldm(reader, bytes),
     }
 }
 
 /// The same of PLDM messages.
-fn read_as_pldm(reader: Reader, bytes: &[u8]) -> (bool, &'static str) {
+fn read_as_pldm(reader: &str, bytes: &[u8]) -> (bool, &'static str) {
     match reader {
-        Reader::SetTid => (is_kept::<SetTid>(bytes), pldm_code(SetTid::read(bytes))),
-        Reader::SetTidAnswer => (
+        "set_tid" => (is_kept::<SetTid>(bytes), pldm_code(SetTid::read(bytes))),
+        "set_tid_answer" => (
             is_kept::<SetTidAnswer>(bytes),
             pldm_code(SetTidAnswer::read(bytes)),
         ),
-        Reader::GetTid => (is_kept::<GetTid>(bytes), pldm_code(GetTid::read(bytes))),
-        Reader::GetTidAnswer => (
+        "get_tid" => (is_kept::<GetTid>(bytes), pldm_code(GetTid::read(bytes))),
+        "get_tid_answer" => (
             is_kept::<GetTidAnswer>(bytes),
             pldm_code(GetTidAnswer::read(bytes)),
         ),
-        Reader::GetTypes => (
+        "get_types" => (
             is_kept::<GetPldmTypes>(bytes),
             pldm_code(GetPldmTypes::read(bytes)),
         ),
-        Reader::GetTypesAnswer => (
+        "get_types_answer" => (
             is_kept::<GetPldmTypesAnswer>(bytes),
             pldm_code(GetPldmTypesAnswer::read(bytes)),
         ),
-        Reader::GetPdr => (
+        "get_pdr" => (
             is_kept::<GetPdrRequest>(bytes),
             pldm_code(GetPdrRequest::read(bytes)),
         ),
-        Reader::GetPdrAnswer => (
+        "get_pdr_answer" => (
             is_kept::<GetPdrAnswer>(bytes),
             pldm_code(GetPdrAnswer::read(bytes)),
         ),
-        Reader::ErrorResponse => (
+        "error" => (
             is_kept::<ErrorResponse>(bytes),
             pldm_code(ErrorResponse::read(bytes)),
         ),
-        _ => (
+        "header" => (
             is_kept::<PldmHeader>(bytes),
             pldm_code(PldmHeader::read(bytes)),
         ),
+        _ => (false, "no reader"),
     }
 }
 
 /// What comes of bytes: `kept`, or the code of the refusal.
-pub(crate) fn outcome(reader: Reader, bytes: &[u8]) -> &'static str {
+pub(crate) fn outcome(reader: &str, bytes: &[u8]) -> &'static str {
     match read_by(reader, bytes) {
         (true, _) => "kept",
         (false, code) => code,
     }
 }
 
-/// A reader, bytes, and what comes of them.
-type Row<'a> = (Reader, &'a [u8], &'a str);
+/// An answer with a routing table of three entries.
+pub(crate) const TABLE: &str = "00000a00ff03010880010401100111010104013001120101040132";
 
-/// The bytes of the first row of which something else comes, and what should come.
-fn first_other<'a>(rows: &[Row<'a>]) -> Option<(&'a [u8], &'a str)> {
-    for (reader, bytes, wanted) in rows {
-        if outcome(*reader, *bytes) != *wanted {
-            return Some((*bytes, *wanted));
+/// A reader, bytes, and what comes of them.
+const ROWS: &str = "
+entry 01088001040110 kept
+entry 01110101040130 kept
+entry 08104001040120 kept
+entry 020ec0010400 kept
+entry ffffffffff K01
+entry 010800010401 K03
+entry 01080001040000 K03
+entry 3434343434343434343434343434343434343434343434343434343434343434343434343434343434343434343434343434343434\
+    3434343434 kept
+entry 3535353535353535353535353535353535353535353535353535353535353535353535353535353535353535353535353535353535\
+    353535353535 K03
+request 008001000a kept
+request 008002 kept
+request 008008000711 kept
+request 00800a08 kept
+# the bit D, and reserved bits
+request 00e002 kept
+request 00ff08ff0711 kept
+request - K01
+request 0080 K01
+request 8000 K01
+request 808002 K02
+request 000001 K02
+request 000002 K02
+request 80800300 K02
+request 008003 K04
+request 00800300 K04
+request 00800100 K03
+request 008001000a00 K03
+request 00800200 K03
+request 0080080007 K03
+request 00800a K03
+request 00800a0800 K03
+response 00000100011007 kept
+response 00400100dd0a07 kept
+response 00050200101000 kept
+response 00000800010711 kept
+response 00000a00ff00 kept
+response 00000a000801010800010400 kept
+response 00000a00ff03010880010401100111010104013001120101040132 kept
+# a completion code stands alone
+response 00000102 kept
+response 00000805 kept
+response 00000a02 kept
+response 00000a02ff00 K03
+response 808003 K01
+response 80000200 K02
+response 00800200 K02
+response 0080030000 K02
+response 00000305 K04
+response 0000030000 K04
+response 00000100000a K03
+response 0000020000000000 K03
+response 0000020500 K03
+response 000008000007 K03
+response 00000a00ff K03
+# an entry that ends too soon, one too few, and one too many
+response 00000a00ff01010800010401 K03
+response 00000a00ff02010800010400 K03
+response 00000a00ff00010800010400 K03
+# 65 bytes
+response 00000a00ff09010800010400010900010400010a00010400010b00010400010c00010400010d00010400010e00010400010f000\
+    104000110000104050000000000 K03
+# the reserved bit
+header 01ff3f7e kept
+header 01000251 kept
+header 004042 L01
+header 0040425000 L02
+header 0140425000 L03
+header 0140025000 L05
+header 0180025100 L04
+error 0102025182 kept
+error 011f3fff20 kept
+error 010202 L01
+error 0202025182 L02
+error 0142025182 L05
+error 0182025182 L06
+error 01020251 L04
+error 0102025100 L04
+error 010202518200 L04
+set_tid 0180000105 kept
+set_tid 0180400105 L03
+set_tid 0100000105 L06
+set_tid 01800002 L06
+set_tid 01800001 L04
+set_tid_answer 0100000100 kept
+set_tid_answer 0100000102 kept
+set_tid_answer 0180000105 L06
+set_tid_answer 0100000200 L06
+set_tid_answer 010000010005 L04
+get_tid 01800002 kept
+get_tid 018000 L01
+get_tid 0100000200 L06
+get_tid 0180000200 L04
+get_tid_answer 010000020001 kept
+get_tid_answer 0100000205 kept
+get_tid_answer 0100000200 L04
+get_tid_answer 010000020501 L04
+get_tid_answer 010002020001 L06
+get_types 01800004 kept
+get_types 01c00004 kept
+get_types 01400004 L05
+get_types 0180000500 L06
+get_types 0180000400 L04
+get_types_answer 01000004000500000000000000 kept
+get_types_answer 0100000401 kept
+get_types_answer 010000040005 L04
+get_types_answer 020000040005 L02
+get_pdr 0180025100000000000000000110000000 kept
+get_pdr 0181025107010203100405060008090a0b kept
+get_pdr 01c0025100000000000000000110000000 kept
+get_pdr 018000 L01
+get_pdr 00800251 L02
+get_pdr 01804251 L03
+get_pdr 01400251 L05
+get_pdr 01800250 L06
+get_pdr 0180025100 L04
+# of two causes the first is told
+get_pdr 00404250 L02
+get_pdr 01404250 L03
+get_pdr 0140005000 L05
+get_pdr 0180005100 L06
+get_pdr 0100025100000000000000000110000000 L06
+get_pdr 01800251 L04
+get_pdr 01800251000000000000000001100000 L04
+get_pdr 018002510000000000000000011000000000 L04
+# a first part, a part in the middle, a last one with its check byte, and a whole record
+get_pdr_answer 010002510000000000020000000002000100 kept
+get_pdr_answer 0100025100000000000300000001010001 kept
+get_pdr_answer 0101025100090807060000000004010001a6 kept
+get_pdr_answer 010002510000000000000000000502000100 kept
+get_pdr_answer 0102025182 kept
+get_pdr_answer 01800251000000000000000000050000 L06
+get_pdr_answer 01000251 L04
+get_pdr_answer 010002518200 L04
+# a byte too few, no check byte, and a byte behind it
+get_pdr_answer 0100025100000000000200000000020001 L04
+get_pdr_answer 0101025100000000000000000004010001 L04
+get_pdr_answer 0100025100000000000000000005010001a6 L04
+# records of five types; which bytes are none `show.rows` tells
+record 0100000001010000090001000101000001010a kept
+record 020000000104000011000100050021000100000000000101000106 kept
+record 03000000010f000010006400002d0001000000012f0001006400 kept
+record 0400000001c801000200aabb kept
+record 0500000001c800000000 kept
+record 0500000001c8000000 D01
+";
+
+/// Whether this comes of a row's bytes.
+fn is_so(alloc: Global, row: &str) -> Result<bool, Fail> {
+    let mut words = row.split(' ');
+    match (words.next(), words.next(), words.next()) {
+        (Some(reader), Some(bytes), Some(wanted)) => {
+            Ok(outcome(reader, &bytes_of(alloc, bytes)?) == wanted)
         }
+        _ => Ok(false),
     }
-    None
 }
 
-const ENTRIES: [Row; 9] = [
-    (Reader::Entry, &[1, 0x08, 0x80, 1, 4, 1, 0x10], "kept"),
-    (Reader::Entry, &[1, 0x11, 0x01, 1, 4, 1, 0x30], "kept"),
-    (Reader::Entry, &[8, 0x10, 0x40, 1, 4, 1, 0x20], "kept"),
-    (Reader::Entry, &[2, 0x0e, 0xc0, 1, 4, 0], "kept"),
-    (Reader::Entry, &[0xff; 5], "K01"),
-    (Reader::Entry, &[1, 8, 0, 1, 4, 1], "K03"),
-    (Reader::Entry, &[1, 8, 0, 1, 4, 0, 0], "K03"),
-    (Reader::Entry, &[52; 58], "kept"),
-    (Reader::Entry, &[53; 59], "K03"),
-];
-
-const REQUESTS: [Row; 21] = [
-    (Reader::Request, &[0, 0x80, 0x01, 0, 0x0a], "kept"),
-    (Reader::Request, &[0, 0x80, 0x02], "kept"),
-    (Reader::Request, &[0, 0x80, 0x08, 0, 7, 0x11], "kept"),
-    (Reader::Request, &[0, 0x80, 0x0a, 8], "kept"),
-    // the bit D, and reserved bits
-    (Reader::Request, &[0, 0xe0, 0x02], "kept"),
-    (Reader::Request, &[0, 0xff, 0x08, 0xff, 7, 0x11], "kept"),
-    (Reader::Request, &[], "K01"),
-    (Reader::Request, &[0, 0x80], "K01"),
-    (Reader::Request, &[0x80, 0x00], "K01"),
-    (Reader::Request, &[0x80, 0x80, 0x02], "K02"),
-    (Reader::Request, &[0, 0, 0x01], "K02"),
-    (Reader::Request, &[0, 0, 0x02], "K02"),
-    (Reader::Request, &[0x80, 0x80, 0x03, 0], "K02"),
-    (Reader::Request, &[0, 0x80, 0x03], "K04"),
-    (Reader::Request, &[0, 0x80, 0x03, 0], "K04"),
-    (Reader::Request, &[0, 0x80, 0x01, 0], "K03"),
-    (Reader::Request, &[0, 0x80, 0x01, 0, 0x0a, 0], "K03"),
-    (Reader::Request, &[0, 0x80, 0x02, 0], "K03"),
-    (Reader::Request, &[0, 0x80, 0x08, 0, 7], "K03"),
-    (Reader::Request, &[0, 0x80, 0x0a], "K03"),
-    (Reader::Request, &[0, 0x80, 0x0a, 8, 0], "K03"),
-];
-
-const RESPONSES: [Row; 26] = [
-    (Reader::Response, &[0, 0, 0x01, 0, 0x01, 0x10, 7], "kept"),
-    (Reader::Response, &[0, 0x40, 0x01, 0, 0xdd, 0x0a, 7], "kept"),
-    (Reader::Response, &[0, 5, 0x02, 0, 0x10, 0x10, 0], "kept"),
-    (Reader::Response, &[0, 0, 0x08, 0, 1, 7, 0x11], "kept"),
-    (Reader::Response, &[0, 0, 0x0a, 0, 0xff, 0], "kept"),
-    (
-        Reader::Response,
-        &[0, 0, 0x0a, 0, 8, 1, 1, 0x08, 0, 1, 4, 0],
-        "kept",
-    ),
-    (Reader::Response, &TABLE, "kept"),
-    // a completion code stands alone
-    (Reader::Response, &[0, 0, 0x01, 2], "kept"),
-    (Reader::Response, &[0, 0, 0x08, 5], "kept"),
-    (Reader::Response, &[0, 0, 0x0a, 2], "kept"),
-    (Reader::Response, &[0, 0, 0x0a, 2, 0xff, 0], "K03"),
-    (Reader::Response, &[0x80, 0x80, 0x03], "K01"),
-    (Reader::Response, &[0x80, 0, 0x02, 0], "K02"),
-    (Reader::Response, &[0, 0x80, 0x02, 0], "K02"),
-    (Reader::Response, &[0, 0x80, 0x03, 0, 0], "K02"),
-    (Reader::Response, &[0, 0, 0x03, 5], "K04"),
-    (Reader::Response, &[0, 0, 0x03, 0, 0], "K04"),
-    (Reader::Response, &[0, 0, 0x01, 0, 0, 0x0a], "K03"),
-    (Reader::Response, &[0, 0, 0x02, 0, 0, 0, 0, 0], "K03"),
-    (Reader::Response, &[0, 0, 0x02, 5, 0], "K03"),
-    (Reader::Response, &[0, 0, 0x08, 0, 0, 7], "K03"),
-    (Reader::Response, &[0, 0, 0x0a, 0, 0xff], "K03"),
-    // an entry that ends too soon, one too few, and one too many
-    (
-        Reader::Response,
-        &[0, 0, 0x0a, 0, 0xff, 1, 1, 8, 0, 1, 4, 1],
-        "K03",
-    ),
-    (
-        Reader::Response,
-        &[0, 0, 0x0a, 0, 0xff, 2, 1, 8, 0, 1, 4, 0],
-        "K03",
-    ),
-    (
-        Reader::Response,
-        &[0, 0, 0x0a, 0, 0xff, 0, 1, 8, 0, 1, 4, 0],
-        "K03",
-    ),
-    // 65 bytes
-    (Reader::Response, &TOO_LONG, "K03"),
-];
-
-/// An answer with a routing table of three entries.
-pub(crate) const TABLE: [u8; 27] = [
-    0, 0, 0x0a, 0, 0xff, 3, 1, 0x08, 0x80, 1, 4, 1, 0x10, 1, 0x11, 1, 1, 4, 1, 0x30, 1, 0x12, 1, 1,
-    4, 1, 0x32,
-];
-
-/// An answer with nine entries without address, and one with five bytes of it.
-const TOO_LONG: [u8; 65] = [
-    0, 0, 0x0a, 0, 0xff, 9, 1, 8, 0, 1, 4, 0, 1, 9, 0, 1, 4, 0, 1, 10, 0, 1, 4, 0, 1, 11, 0, 1, 4,
-    0, 1, 12, 0, 1, 4, 0, 1, 13, 0, 1, 4, 0, 1, 14, 0, 1, 4, 0, 1, 15, 0, 1, 4, 0, 1, 16, 0, 1, 4,
-    5, 0, 0, 0, 0, 0,
-];
-
-const HEADERS: [Row; 16] = [
-    // the reserved bit
-    (Reader::Header, &[0x01, 0xff, 0x3f, 0x7e], "kept"),
-    (Reader::Header, &[0x01, 0x00, 0x02, 0x51], "kept"),
-    (Reader::Header, &[0x00, 0x40, 0x42], "L01"),
-    (Reader::Header, &[0x00, 0x40, 0x42, 0x50, 0], "L02"),
-    (Reader::Header, &[0x01, 0x40, 0x42, 0x50, 0], "L03"),
-    (Reader::Header, &[0x01, 0x40, 0x02, 0x50, 0], "L05"),
-    (Reader::Header, &[0x01, 0x80, 0x02, 0x51, 0], "L04"),
-    (
-        Reader::ErrorResponse,
-        &[0x01, 0x02, 0x02, 0x51, 0x82],
-        "kept",
-    ),
-    (
-        Reader::ErrorResponse,
-        &[0x01, 0x1f, 0x3f, 0xff, 0x20],
-        "kept",
-    ),
-    (Reader::ErrorResponse, &[0x01, 0x02, 0x02], "L01"),
-    (
-        Reader::ErrorResponse,
-        &[0x02, 0x02, 0x02, 0x51, 0x82],
-        "L02",
-    ),
-    (
-        Reader::ErrorResponse,
-        &[0x01, 0x42, 0x02, 0x51, 0x82],
-        "L05",
-    ),
-    (
-        Reader::ErrorResponse,
-        &[0x01, 0x82, 0x02, 0x51, 0x82],
-        "L06",
-    ),
-    (Reader::ErrorResponse, &[0x01, 0x02, 0x02, 0x51], "L04"),
-    (
-        Reader::ErrorResponse,
-        &[0x01, 0x02, 0x02, 0x51, 0x00],
-        "L04",
-    ),
-    (
-        Reader::ErrorResponse,
-        &[0x01, 0x02, 0x02, 0x51, 0x82, 0],
-        "L04",
-    ),
-];
-
-const BASE: [Row; 28] = [
-    (Reader::SetTid, &[0x01, 0x80, 0x00, 0x01, 0x05], "kept"),
-    (Reader::SetTid, &[0x01, 0x80, 0x40, 0x01, 0x05], "L03"),
-    (Reader::SetTid, &[0x01, 0x00, 0x00, 0x01, 0x05], "L06"),
-    (Reader::SetTid, &[0x01, 0x80, 0x00, 0x02], "L06"),
-    (Reader::SetTid, &[0x01, 0x80, 0x00, 0x01], "L04"),
-    (
-        Reader::SetTidAnswer,
-        &[0x01, 0x00, 0x00, 0x01, 0x00],
-        "kept",
-    ),
-    (
-        Reader::SetTidAnswer,
-        &[0x01, 0x00, 0x00, 0x01, 0x02],
-        "kept",
-    ),
-    (Reader::SetTidAnswer, &[0x01, 0x80, 0x00, 0x01, 0x05], "L06"),
-    (Reader::SetTidAnswer, &[0x01, 0x00, 0x00, 0x02, 0x00], "L06"),
-    (Reader::SetTidAnswer, &[0x01, 0x00, 0x00, 0x01, 0, 5], "L04"),
-    (Reader::GetTid, &[0x01, 0x80, 0x00, 0x02], "kept"),
-    (Reader::GetTid, &[0x01, 0x80, 0x00], "L01"),
-    (Reader::GetTid, &[0x01, 0x00, 0x00, 0x02, 0], "L06"),
-    (Reader::GetTid, &[0x01, 0x80, 0x00, 0x02, 0], "L04"),
-    (
-        Reader::GetTidAnswer,
-        &[0x01, 0x00, 0x00, 0x02, 0, 1],
-        "kept",
-    ),
-    (Reader::GetTidAnswer, &[0x01, 0x00, 0x00, 0x02, 5], "kept"),
-    (Reader::GetTidAnswer, &[0x01, 0x00, 0x00, 0x02, 0], "L04"),
-    (Reader::GetTidAnswer, &[0x01, 0x00, 0x00, 0x02, 5, 1], "L04"),
-    (Reader::GetTidAnswer, &[0x01, 0x00, 0x02, 0x02, 0, 1], "L06"),
-    (Reader::GetTypes, &[0x01, 0x80, 0x00, 0x04], "kept"),
-    (Reader::GetTypes, &[0x01, 0xc0, 0x00, 0x04], "kept"),
-    (Reader::GetTypes, &[0x01, 0x40, 0x00, 0x04], "L05"),
-    (Reader::GetTypes, &[0x01, 0x80, 0x00, 0x05, 0], "L06"),
-    (Reader::GetTypes, &[0x01, 0x80, 0x00, 0x04, 0], "L04"),
-    (
-        Reader::GetTypesAnswer,
-        &[0x01, 0, 0, 0x04, 0, 0x05, 0, 0, 0, 0, 0, 0, 0],
-        "kept",
-    ),
-    (Reader::GetTypesAnswer, &[0x01, 0, 0, 0x04, 1], "kept"),
-    (Reader::GetTypesAnswer, &[0x01, 0, 0, 0x04, 0, 5], "L04"),
-    (Reader::GetTypesAnswer, &[0x02, 0, 0, 0x04, 0, 5], "L02"),
-];
-
-/// Requests for parts of records.
-const ASKING: [Row; 17] = [
-    (
-        Reader::GetPdr,
-        &[1, 0x80, 2, 0x51, 0, 0, 0, 0, 0, 0, 0, 0, 1, 0x10, 0, 0, 0],
-        "kept",
-    ),
-    (
-        Reader::GetPdr,
-        &[1, 0x81, 2, 0x51, 7, 1, 2, 3, 0x10, 4, 5, 6, 0, 8, 9, 10, 11],
-        "kept",
-    ),
-    (
-        Reader::GetPdr,
-        &[1, 0xc0, 2, 0x51, 0, 0, 0, 0, 0, 0, 0, 0, 1, 0x10, 0, 0, 0],
-        "kept",
-    ),
-    (Reader::GetPdr, &[0x01, 0x80, 0x00], "L01"),
-    (Reader::GetPdr, &[0x00, 0x80, 0x02, 0x51], "L02"),
-    (Reader::GetPdr, &[0x01, 0x80, 0x42, 0x51], "L03"),
-    (Reader::GetPdr, &[0x01, 0x40, 0x02, 0x51], "L05"),
-    (Reader::GetPdr, &[0x01, 0x80, 0x02, 0x50], "L06"),
-    (Reader::GetPdr, &[0x01, 0x80, 0x02, 0x51, 0x00], "L04"),
-    // of two causes the first is told
-    (Reader::GetPdr, &[0x00, 0x40, 0x42, 0x50], "L02"),
-    (Reader::GetPdr, &[0x01, 0x40, 0x42, 0x50], "L03"),
-    (Reader::GetPdr, &[0x01, 0x40, 0x00, 0x50, 0], "L05"),
-    (Reader::GetPdr, &[0x01, 0x80, 0x00, 0x51, 0], "L06"),
-    (
-        Reader::GetPdr,
-        &[1, 0x00, 2, 0x51, 0, 0, 0, 0, 0, 0, 0, 0, 1, 0x10, 0, 0, 0],
-        "L06",
-    ),
-    (Reader::GetPdr, &[0x01, 0x80, 0x02, 0x51], "L04"),
-    (
-        Reader::GetPdr,
-        &[1, 0x80, 2, 0x51, 0, 0, 0, 0, 0, 0, 0, 0, 1, 0x10, 0, 0],
-        "L04",
-    ),
-    (
-        Reader::GetPdr,
-        &[
-            1, 0x80, 2, 0x51, 0, 0, 0, 0, 0, 0, 0, 0, 1, 0x10, 0, 0, 0, 0,
-        ],
-        "L04",
-    ),
-];
-
-/// Answers with parts of records.
-const GIVEN: [Row; 11] = [
-    // a first part, a part in the middle, a last one with its check byte, and a whole record
-    (
-        Reader::GetPdrAnswer,
-        &[1, 0, 2, 0x51, 0, 0, 0, 0, 0, 2, 0, 0, 0, 0, 2, 0, 1, 0],
-        "kept",
-    ),
-    (
-        Reader::GetPdrAnswer,
-        &[1, 0, 2, 0x51, 0, 0, 0, 0, 0, 3, 0, 0, 0, 1, 1, 0, 1],
-        "kept",
-    ),
-    (
-        Reader::GetPdrAnswer,
-        &[1, 1, 2, 0x51, 0, 9, 8, 7, 6, 0, 0, 0, 0, 4, 1, 0, 1, 0xa6],
-        "kept",
-    ),
-    (
-        Reader::GetPdrAnswer,
-        &[1, 0, 2, 0x51, 0, 0, 0, 0, 0, 0, 0, 0, 0, 5, 2, 0, 1, 0],
-        "kept",
-    ),
-    (
-        Reader::GetPdrAnswer,
-        &[0x01, 0x02, 0x02, 0x51, 0x82],
-        "kept",
-    ),
-    (
-        Reader::GetPdrAnswer,
-        &[1, 0x80, 2, 0x51, 0, 0, 0, 0, 0, 0, 0, 0, 0, 5, 0, 0],
-        "L06",
-    ),
-    (Reader::GetPdrAnswer, &[0x01, 0x00, 0x02, 0x51], "L04"),
-    (
-        Reader::GetPdrAnswer,
-        &[0x01, 0x00, 0x02, 0x51, 0x82, 0x00],
-        "L04",
-    ),
-    // a byte too few, no check byte, and a byte behind it
-    (
-        Reader::GetPdrAnswer,
-        &[1, 0, 2, 0x51, 0, 0, 0, 0, 0, 2, 0, 0, 0, 0, 2, 0, 1],
-        "L04",
-    ),
-    (
-        Reader::GetPdrAnswer,
-        &[1, 1, 2, 0x51, 0, 0, 0, 0, 0, 0, 0, 0, 0, 4, 1, 0, 1],
-        "L04",
-    ),
-    (
-        Reader::GetPdrAnswer,
-        &[1, 0, 2, 0x51, 0, 0, 0, 0, 0, 0, 0, 0, 0, 5, 1, 0, 1, 0xa6],
-        "L04",
-    ),
-];
-
-/// Records of five types. Which bytes are none `show.rows` tells.
-const RECORDS: [Row; 6] = [
-    (
-        Reader::Record,
-        b"\x01\x00\x00\x00\x01\x01\x00\x00\x09\x00\x01\x00\x01\x01\x00\x00\x01\x01\x0a",
-        "kept",
-    ),
-    (
-        Reader::Record,
-        b"\x02\x00\x00\x00\x01\x04\x00\x00\x11\x00\x01\x00\x05\x00\x21\x00\x01\x00\x00\x00\x00\x00\x01\x01\x00\x01\x06",
-        "kept",
-    ),
-    (
-        Reader::Record,
-        b"\x03\x00\x00\x00\x01\x0f\x00\x00\x10\x00\x64\x00\x00\x2d\x00\x01\x00\x00\x00\x01\x2f\x00\x01\x00\x64\x00",
-        "kept",
-    ),
-    (
-        Reader::Record,
-        b"\x04\x00\x00\x00\x01\xc8\x01\x00\x02\x00\xaa\xbb",
-        "kept",
-    ),
-    (
-        Reader::Record,
-        b"\x05\x00\x00\x00\x01\xc8\x00\x00\x00\x00",
-        "kept",
-    ),
-    (
-        Reader::Record,
-        b"\x05\x00\x00\x00\x01\xc8\x00\x00\x00",
-        "D01",
-    ),
-];
+/// The first row of which something else comes.
+fn first_other(alloc: Global, rows: &'static str) -> Result<Option<&'static str>, Fail> {
+    for row in rows.lines() {
+        if !row.is_empty() && !row.starts_with('#') && !is_so(alloc, row)? {
+            return Ok(Some(row));
+        }
+    }
+    Ok(None)
+}
 
 #[test]
-fn bytes_are_kept_or_refused_by_their_first_cause(rt: HostRuntime) {
-    let tables: [&[Row]; 8] = [
-        &ENTRIES, &REQUESTS, &RESPONSES, &HEADERS, &BASE, &ASKING, &GIVEN, &RECORDS,
-    ];
-    for rows in tables {
-        assert_eq!(rt; first_other(rows), None);
-    }
+fn bytes_are_kept_or_refused_by_their_first_cause(rt: HostRuntime) -> Result<(), Fail> {
+    assert_eq!(rt; first_other(rt.alloc(), ROWS)?, None);
+    Ok(())
 }

@@ -1,4 +1,5 @@
 //! Check bytes, lists of records, and termini that answer requests for them.
+use super::messages::bytes_of;
 use arrayvec::ArrayVec;
 use pdr_repository::{BlockTerminus, ListTerminus, Terminus, crc8, is_lawful_list};
 use pldm_message::Tid;
@@ -62,139 +63,62 @@ pub(crate) fn records_of(
     Ok(records)
 }
 
-/// Requests of the base commands one after another, and the answers of a terminus over the one record: none where it
-/// is silent.
-const BASE: [(&[u8], &[u8]); 12] = [
-    (
-        &[0x01, 0x80, 0x00, 0x02],
-        &[0x01, 0x00, 0x00, 0x02, 0x00, 0x01],
-    ),
-    (
-        &[0x01, 0x80, 0x00, 0x01, 0xff],
-        &[0x01, 0x00, 0x00, 0x01, 0x02],
-    ),
-    (
-        &[0x01, 0x80, 0x00, 0x01, 0x05],
-        &[0x01, 0x00, 0x00, 0x01, 0x00],
-    ),
-    (
-        &[0x01, 0x80, 0x00, 0x02],
-        &[0x01, 0x00, 0x00, 0x02, 0x00, 0x05],
-    ),
-    (
-        &[0x01, 0x80, 0x00, 0x04],
-        &[0x01, 0x00, 0x00, 0x04, 0x00, 0x05, 0, 0, 0, 0, 0, 0, 0],
-    ),
-    (&[0x01, 0x80, 0x04, 0x01], &[0x01, 0x00, 0x04, 0x01, 0x20]),
-    (&[0x01, 0x80, 0x02, 0x50], &[0x01, 0x00, 0x02, 0x50, 0x05]),
-    (
-        &[0x01, 0xa3, 0x00, 0x02, 0x00],
-        &[0x01, 0x03, 0x00, 0x02, 0x03],
-    ),
-    (&[0x01, 0xc0, 0x00, 0x02], &[]),
-    (&[0x01, 0x00, 0x00, 0x02], &[]),
-    (&[0x01, 0x40, 0x00, 0x02], &[]),
-    (&[0x00, 0x80, 0x00, 0x02], &[]),
-];
+/// Requests one after another, and the answers of a terminus over the one record: a dash where it is silent.
+const ANSWERS: &str = "
+# of the base commands
+01800002 010000020001
+01800001ff 0100000102
+0180000105 0100000100
+01800002 010000020005
+01800004 01000004000500000000000000
+01800401 0100040120
+01800250 0100025005
+01a3000200 0103000203
+01c00002 -
+01000002 -
+01400002 -
+00800002 -
+# for parts of the record
+0180025100000000000000000110000000 0100025100000000001000000000100001000000010100000900010001010000
+0181025100000000100000000010000000 0101025100000000000000000004030001010aa6
+0180025100000000000000000113000000 010002510000000000000000000513000100000001010000090001000101000001010a
+01800251000000000000000001100000 0100025103
+0180025100000000000000000210000000 0100025181
+0180025100000000000000000100000000 0100025102
+0180025163000000000000000110000000 0100025182
+0180025163000000000000000210000000 0100025181
+0180025100000000100000000010000100 0100025183
+0180025100000000130000000010000000 0100025180
+0180025100000000000000000010000000 0100025180
+";
 
-/// Requests for parts of the one record, and their answers.
-const PARTS: [(&[u8], &[u8]); 11] = [
-    (
-        &[
-            0x01, 0x80, 0x02, 0x51, 0, 0, 0, 0, 0, 0, 0, 0, 1, 0x10, 0, 0, 0,
-        ],
-        &[
-            0x01, 0x00, 0x02, 0x51, 0, 0, 0, 0, 0, 0x10, 0, 0, 0, 0, 0x10, 0, 0x01, 0, 0, 0, 0x01,
-            0x01, 0, 0, 0x09, 0, 0x01, 0, 0x01, 0x01, 0, 0,
-        ],
-    ),
-    (
-        &[
-            0x01, 0x81, 0x02, 0x51, 0, 0, 0, 0, 0x10, 0, 0, 0, 0, 0x10, 0, 0, 0,
-        ],
-        &[
-            0x01, 0x01, 0x02, 0x51, 0, 0, 0, 0, 0, 0, 0, 0, 0, 0x04, 0x03, 0, 0x01, 0x01, 0x0a,
-            0xa6,
-        ],
-    ),
-    (
-        &[
-            0x01, 0x80, 0x02, 0x51, 0, 0, 0, 0, 0, 0, 0, 0, 1, 0x13, 0, 0, 0,
-        ],
-        &[
-            0x01, 0x00, 0x02, 0x51, 0, 0, 0, 0, 0, 0, 0, 0, 0, 0x05, 0x13, 0, 0x01, 0, 0, 0, 0x01,
-            0x01, 0, 0, 0x09, 0, 0x01, 0, 0x01, 0x01, 0, 0, 0x01, 0x01, 0x0a,
-        ],
-    ),
-    (
-        &[
-            0x01, 0x80, 0x02, 0x51, 0, 0, 0, 0, 0, 0, 0, 0, 1, 0x10, 0, 0,
-        ],
-        &[0x01, 0x00, 0x02, 0x51, 0x03],
-    ),
-    (
-        &[
-            0x01, 0x80, 0x02, 0x51, 0, 0, 0, 0, 0, 0, 0, 0, 2, 0x10, 0, 0, 0,
-        ],
-        &[0x01, 0x00, 0x02, 0x51, 0x81],
-    ),
-    (
-        &[
-            0x01, 0x80, 0x02, 0x51, 0, 0, 0, 0, 0, 0, 0, 0, 1, 0, 0, 0, 0,
-        ],
-        &[0x01, 0x00, 0x02, 0x51, 0x02],
-    ),
-    (
-        &[
-            0x01, 0x80, 0x02, 0x51, 99, 0, 0, 0, 0, 0, 0, 0, 1, 0x10, 0, 0, 0,
-        ],
-        &[0x01, 0x00, 0x02, 0x51, 0x82],
-    ),
-    (
-        &[
-            0x01, 0x80, 0x02, 0x51, 99, 0, 0, 0, 0, 0, 0, 0, 2, 0x10, 0, 0, 0,
-        ],
-        &[0x01, 0x00, 0x02, 0x51, 0x81],
-    ),
-    (
-        &[
-            0x01, 0x80, 0x02, 0x51, 0, 0, 0, 0, 0x10, 0, 0, 0, 0, 0x10, 0, 1, 0,
-        ],
-        &[0x01, 0x00, 0x02, 0x51, 0x83],
-    ),
-    (
-        &[
-            0x01, 0x80, 0x02, 0x51, 0, 0, 0, 0, 0x13, 0, 0, 0, 0, 0x10, 0, 0, 0,
-        ],
-        &[0x01, 0x00, 0x02, 0x51, 0x80],
-    ),
-    (
-        &[
-            0x01, 0x80, 0x02, 0x51, 0, 0, 0, 0, 0, 0, 0, 0, 0, 0x10, 0, 0, 0,
-        ],
-        &[0x01, 0x00, 0x02, 0x51, 0x80],
-    ),
-];
-
-/// The first request that a terminus answers otherwise.
-fn first_wrong<'a>(
+/// Whether a terminus answers the request of a row so.
+fn is_answered_so(
+    alloc: Global,
     terminus: &mut Box<dyn Terminus>,
-    rows: &[(&'a [u8], &[u8])],
-) -> Option<&'a [u8]> {
+    row: &str,
+) -> Result<bool, Fail> {
+    let Some((request, wanted)) = row.split_once(' ') else {
+        return Ok(false);
+    };
     let mut out = ArrayVec::new();
-    for (request, answer) in rows {
-        let is_answered = terminus.answer(*request, &mut out);
-        if is_answered == answer.is_empty() || out.as_slice() != *answer {
-            return Some(*request);
-        }
-    }
-    None
+    let is_answered = terminus.answer(&bytes_of(alloc, request)?, &mut out);
+    let wanted = bytes_of(alloc, wanted)?;
+    Ok(is_answered != wanted.is_empty() && out.as_slice() == wanted.as_slice())
 }
 
-/// The first request of either table that a terminus answers otherwise.
-fn first_wrong_of_all(mut terminus: Box<dyn Terminus>) -> Option<&'static [u8]> {
-    let wrong = first_wrong(&mut terminus, &BASE);
-    wrong.or(first_wrong(&mut terminus, &PARTS))
+/// The first row that a terminus answers otherwise.
+fn first_wrong(
+    alloc: Global,
+    mut terminus: Box<dyn Terminus>,
+    rows: &'static str,
+) -> Result<Option<&'static str>, Fail> {
+    for row in rows.lines() {
+        if !row.is_empty() && !row.starts_with('#') && !is_answered_so(alloc, &mut terminus, row)? {
+            return Ok(Some(row));
+        }
+    }
+    Ok(None)
 }
 
 /// `answers.rows` tells the same of a block.
@@ -202,7 +126,8 @@ fn first_wrong_of_all(mut terminus: Box<dyn Terminus>) -> Option<&'static [u8]> 
 fn a_list_answers(rt: HostRuntime) -> Result<(), Fail> {
     let alloc = rt.alloc();
     let list = list_over(alloc, one_record(alloc)?)?.ok_or("lawful")?;
-    assert_eq!(rt; first_wrong_of_all(Box::new(alloc, list)?), None);
+    let list = Box::new(alloc, list)?;
+    assert_eq!(rt; first_wrong(alloc, list, ANSWERS)?, None);
     Ok(())
 }
 

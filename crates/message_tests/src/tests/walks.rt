@@ -1,6 +1,7 @@
 //! Walks over the records of termini, and over answers made by hand.
 ghost use Rattle.std.specs.Prelude.{◌<◌, ◌≤◌, ◌+◌, ◌^◌};
 
+use super::messages::bytes_of;
 use super::repositories::{block_over, list_over, record_of, records_of};
 use arrayvec::ArrayVec;
 use pdr_repository::{Step, Terminus, WalkFault, Walker};
@@ -115,159 +116,113 @@ fn walks_collect_the_records_of_a_block(rt: HostRuntime) -> Result<(), Fail> {
     Ok(())
 }
 
-/// Answers under instance ID 0 that give whole records of 10 bytes, by their handle and the next one.
-const ONE_ENDS: [u8; 26] = [
-    0x01, 0x00, 0x02, 0x51, 0, 0, 0, 0, 0, 0, 0, 0, 0, 5, 10, 0, 1, 0, 0, 0, 1, 200, 0, 0, 0, 0,
-];
+/// Answers under instance ID 0, by a name for each.
+const ANSWERS: &str = "
+# whole records of 10 bytes, by their handle and the next one
+one_ends 01000251000000000000000000050a000100000001c800000000
+one_to_one 01000251000100000000000000050a000100000001c800000000
+one_to_two 01000251000200000000000000050a000100000001c800000000
+two_to_one 01000251000100000000000000050a000200000001c800000000
+two_ends 01000251000000000000000000050a000200000001c800000000
+zero_ends 01000251000000000000000000050a000000000001c800000000
+# what is wrong is the instance ID, the transfer flag, or the length
+other_id 011f0251000000000000000000050a000100000001c800000000
+other_request 019f0251000000000000000000050a000100000001c800000000
+middle 01000251000000000000000000010a000100000001c800000000
+endless 01000251000000000000000000000a000100000001c800000000
+longer 01000251000000000000000000050a000100000001c800000100
+# eight bytes of a record, where more are announced, and one byte more of it, and so on
+begun 010002510000000000080000000008000100000001010000
+one_more 0100025100000000000800000001010007
+# the last two bytes of it with the right check byte, with another, and three bytes
+ends 01000251000000000000000000040200000023
+ends_wrong 01000251000000000000000000040200000022
+ends_long 0100025100000000000000000004030000000023
+# seven bytes, where a first part has eight, and none
+seven 0100025100070000000700000000070001000000010100
+empty 01000251000000000000000000050000
+";
 
-const ONE_TO_ONE: [u8; 26] = [
-    0x01, 0x00, 0x02, 0x51, 0, 1, 0, 0, 0, 0, 0, 0, 0, 5, 10, 0, 1, 0, 0, 0, 1, 200, 0, 0, 0, 0,
-];
-
-const ONE_TO_TWO: [u8; 26] = [
-    0x01, 0x00, 0x02, 0x51, 0, 2, 0, 0, 0, 0, 0, 0, 0, 5, 10, 0, 1, 0, 0, 0, 1, 200, 0, 0, 0, 0,
-];
-
-const TWO_TO_ONE: [u8; 26] = [
-    0x01, 0x00, 0x02, 0x51, 0, 1, 0, 0, 0, 0, 0, 0, 0, 5, 10, 0, 2, 0, 0, 0, 1, 200, 0, 0, 0, 0,
-];
-
-const TWO_ENDS: [u8; 26] = [
-    0x01, 0x00, 0x02, 0x51, 0, 0, 0, 0, 0, 0, 0, 0, 0, 5, 10, 0, 2, 0, 0, 0, 1, 200, 0, 0, 0, 0,
-];
-
-const ZERO_ENDS: [u8; 26] = [
-    0x01, 0x00, 0x02, 0x51, 0, 0, 0, 0, 0, 0, 0, 0, 0, 5, 10, 0, 0, 0, 0, 0, 1, 200, 0, 0, 0, 0,
-];
-
-/// What is wrong with these is the instance ID, the transfer flag, or the length.
-const OTHER_ID: [u8; 26] = [
-    0x01, 0x1f, 0x02, 0x51, 0, 0, 0, 0, 0, 0, 0, 0, 0, 5, 10, 0, 1, 0, 0, 0, 1, 200, 0, 0, 0, 0,
-];
-
-const OTHER_REQUEST: [u8; 26] = [
-    0x01, 0x9f, 0x02, 0x51, 0, 0, 0, 0, 0, 0, 0, 0, 0, 5, 10, 0, 1, 0, 0, 0, 1, 200, 0, 0, 0, 0,
-];
-
-const MIDDLE: [u8; 26] = [
-    0x01, 0x00, 0x02, 0x51, 0, 0, 0, 0, 0, 0, 0, 0, 0, 1, 10, 0, 1, 0, 0, 0, 1, 200, 0, 0, 0, 0,
-];
-
-const ENDLESS: [u8; 26] = [
-    0x01, 0x00, 0x02, 0x51, 0, 0, 0, 0, 0, 0, 0, 0, 0, 0, 10, 0, 1, 0, 0, 0, 1, 200, 0, 0, 0, 0,
-];
-
-const LONGER: [u8; 26] = [
-    0x01, 0x00, 0x02, 0x51, 0, 0, 0, 0, 0, 0, 0, 0, 0, 5, 10, 0, 1, 0, 0, 0, 1, 200, 0, 0, 1, 0,
-];
-
-/// Eight bytes of a record, where more are announced.
-const BEGUN: [u8; 24] = [
-    0x01, 0x00, 0x02, 0x51, 0x00, 0, 0, 0, 0, 8, 0, 0, 0, 0x00, 8, 0, 1, 0, 0, 0, 1, 1, 0, 0,
-];
-
-/// One byte more of it, and so on.
-const ONE_MORE: [u8; 17] = [
-    0x01, 0x00, 0x02, 0x51, 0x00, 0, 0, 0, 0, 8, 0, 0, 0, 0x01, 1, 0, 7,
-];
-
-/// The last two bytes of it with the right check byte, with another, and three bytes.
-const ENDS: [u8; 19] = [
-    0x01, 0x00, 0x02, 0x51, 0x00, 0, 0, 0, 0, 0, 0, 0, 0, 0x04, 2, 0, 0, 0, 0x23,
-];
-
-const ENDS_WRONG: [u8; 19] = [
-    0x01, 0x00, 0x02, 0x51, 0x00, 0, 0, 0, 0, 0, 0, 0, 0, 0x04, 2, 0, 0, 0, 0x22,
-];
-
-const ENDS_LONG: [u8; 20] = [
-    0x01, 0x00, 0x02, 0x51, 0x00, 0, 0, 0, 0, 0, 0, 0, 0, 0x04, 3, 0, 0, 0, 0, 0x23,
-];
-
-/// Seven bytes, where a first part has eight, and none.
-const SEVEN: [u8; 23] = [
-    0x01, 0x00, 0x02, 0x51, 0x00, 7, 0, 0, 0, 7, 0, 0, 0, 0x00, 7, 0, 1, 0, 0, 0, 1, 1, 0,
-];
-
-const EMPTY: [u8; 16] = [
-    0x01, 0x00, 0x02, 0x51, 0x00, 0, 0, 0, 0, 0, 0, 0, 0, 0x05, 0, 0,
-];
-
-/// The most records, answers that come each after a request, and what the walker says of the last. It refuses none
-/// before.
-type Told = (usize, &'static [&'static [u8]], Result<Step, WalkFault>);
-
-const TOLD: [Told; 24] = [
-    (9, &[&ONE_ENDS], Ok(Step::Done)),
-    (9, &[&ONE_TO_TWO], Ok(Step::Record)),
-    (9, &[&ONE_TO_TWO, &TWO_ENDS], Ok(Step::Done)),
-    (9, &[&BEGUN], Ok(Step::More)),
-    (9, &[&BEGUN, &ENDS], Ok(Step::Done)),
-    (9, &[&BEGUN, &ENDS_WRONG], Err(WalkFault::WrongCrc)),
-    (9, &[&BEGUN, &ENDS_LONG], Err(WalkFault::WrongSize)),
-    (9, &[&BEGUN, &ONE_ENDS], Err(WalkFault::WrongFlag)),
-    (9, &[&[0x01, 0x00, 0x02]], Err(WalkFault::Unreadable)),
-    (
-        9,
-        &[&[0x01, 0x80, 0x02, 0x51, 0x00]],
-        Err(WalkFault::Unreadable),
-    ),
-    (9, &[&OTHER_ID], Err(WalkFault::NotAsked)),
-    // of two causes the first is told
-    (9, &[&OTHER_REQUEST], Err(WalkFault::NotAsked)),
-    (9, &[&[0x01, 0x1f, 0x02, 0x50]], Err(WalkFault::NotAsked)),
-    (
-        9,
-        &[&[0x01, 0x00, 0x02, 0x51, 0x83]],
-        Err(WalkFault::RecordChanged),
-    ),
-    (
-        9,
-        &[&[0x01, 0x00, 0x02, 0x51, 0x82]],
-        Err(WalkFault::OtherCode),
-    ),
-    (9, &[&MIDDLE], Err(WalkFault::WrongFlag)),
-    (9, &[&ENDLESS], Err(WalkFault::WrongFlag)),
-    (9, &[&SEVEN], Err(WalkFault::WrongSize)),
-    (9, &[&EMPTY], Err(WalkFault::WrongSize)),
-    (9, &[&LONGER], Err(WalkFault::WrongSize)),
-    (0, &[&ZERO_ENDS], Err(WalkFault::WrongHandle)),
-    (0, &[&ONE_ENDS], Err(WalkFault::TooMuch)),
-    (
-        9,
-        &[&ONE_TO_TWO, &TWO_TO_ONE, &ONE_TO_TWO],
-        Err(WalkFault::DoubledHandle),
-    ),
-    (
-        1,
-        &[&ONE_TO_ONE, &ONE_TO_TWO],
-        Err(WalkFault::DoubledHandle),
-    ),
-];
-
-/// What a walker over parts of 64 bytes and over 640 bytes of records says of the last of these answers.
-fn told_of(
-    alloc: Global,
-    max_records: usize,
-    answers: &[&[u8]],
-) -> Result<Option<Result<Step, WalkFault>>, AllocError> {
-    let mut walker = Walker::new(alloc, 64, max_records, 640)?;
-    let mut told = None;
-    for answer in answers {
-        if matches!(told, Some(Err(_))) {
-            return Ok(None);
+/// The answer that a word names, or gives in hex.
+fn answer_of(alloc: Global, word: &str) -> Result<Vec<u8>, Fail> {
+    for row in ANSWERS.lines() {
+        match row.split_once(' ') {
+            Some((name, answer)) if name == word => return bytes_of(alloc, answer),
+            _ => {}
         }
-        let _ = walker.next_request(InstanceId::new(0));
-        told = Some(walker.take(*answer));
     }
-    Ok(told)
+    bytes_of(alloc, word)
 }
 
-/// The place of the first row of which a walker says something else.
-fn first_other(alloc: Global, rows: &[Told]) -> Result<Option<usize>, AllocError> {
-    for (place, (max_records, answers, wanted)) in rows.iter().enumerate() {
-        if told_of(alloc, *max_records, *answers)? != Some(*wanted) {
-            return Ok(Some(place));
+/// The most records, what the walker says of the last answer, and answers that come each after a request. It refuses none
+/// before.
+const TOLD: &str = "
+9 done one_ends
+9 record one_to_two
+9 done one_to_two two_ends
+9 more begun
+9 done begun ends
+9 G05 begun ends_wrong
+9 G06 begun ends_long
+9 G04 begun one_ends
+9 G02 010002
+9 G02 0180025100
+9 G03 other_id
+# of two causes the first is told
+9 G03 other_request
+9 G03 011f0250
+9 G10 0100025183
+9 G01 0100025182
+9 G04 middle
+9 G04 endless
+9 G06 seven
+9 G06 empty
+9 G06 longer
+0 G07 zero_ends
+0 G09 one_ends
+9 G08 one_to_two two_to_one one_to_two
+1 G08 one_to_one one_to_two
+";
+
+/// What a walker says of an answer: what it makes of it, or the code of the refusal.
+pub(crate) fn word_of(told: Result<Step, WalkFault>) -> &'static str {
+    match told {
+        Ok(Step::More) => "more",
+        Ok(Step::Record) => "record",
+        Ok(Step::Done) => "done",
+        Err(why) => why.code().unwrap_or("no memory"),
+    }
+}
+
+/// What a walker over parts of 64 bytes and over 640 bytes of records says of the last of these answers.
+fn told_of(alloc: Global, most: usize, answers: &str) -> Result<&'static str, Fail> {
+    let mut walker = Walker::new(alloc, 64, most, 640)?;
+    let mut told = Err(WalkFault::NotAsked);
+    for (index, word) in answers.split(' ').enumerate() {
+        if index > 0 && told.is_err() {
+            return Ok("refused before");
+        }
+        let _ = walker.next_request(InstanceId::new(0));
+        told = walker.take(&answer_of(alloc, word)?);
+    }
+    Ok(word_of(told))
+}
+
+fn is_told_so(alloc: Global, row: &str) -> Result<bool, Fail> {
+    let Some((most, rest)) = row.split_once(' ') else {
+        return Ok(false);
+    };
+    match (most.parse(), rest.split_once(' ')) {
+        (Ok(most), Some((wanted, answers))) => Ok(told_of(alloc, most, answers)? == wanted),
+        _ => Ok(false),
+    }
+}
+
+/// The first row of which a walker says something else.
+fn first_other(alloc: Global, rows: &'static str) -> Result<Option<&'static str>, Fail> {
+    for row in rows.lines() {
+        if !row.is_empty() && !row.starts_with('#') && !is_told_so(alloc, row)? {
+            return Ok(Some(row));
         }
     }
     Ok(None)
@@ -275,16 +230,16 @@ fn first_other(alloc: Global, rows: &[Told]) -> Result<Option<usize>, AllocError
 
 #[test]
 fn answers_are_taken_or_refused_by_their_first_cause(rt: HostRuntime) -> Result<(), Fail> {
-    assert_eq!(rt; first_other(rt.alloc(), &TOLD)?, None);
+    assert_eq!(rt; first_other(rt.alloc(), TOLD)?, None);
     Ok(())
 }
 
 /// What the walker says where this answer comes so many times, each after a request: the last thing.
-fn told_at_last(walker: &mut Walker, answer: &[u8], times: u32) -> Option<Result<Step, WalkFault>> {
-    let mut told = None;
+fn told_at_last(walker: &mut Walker, answer: &[u8], times: u32) -> &'static str {
+    let mut told = "nothing";
     for _ in 0..times {
         let _ = walker.next_request(InstanceId::new(0));
-        told = Some(walker.take(answer));
+        told = word_of(walker.take(answer));
     }
     told
 }
@@ -292,20 +247,16 @@ fn told_at_last(walker: &mut Walker, answer: &[u8], times: u32) -> Option<Result
 /// 8 bytes and 56 times one are 64.
 #[test]
 fn a_peer_that_sends_one_byte_for_ever_is_left(rt: HostRuntime) -> Result<(), Fail> {
-    let mut walker = Walker::new(rt.alloc(), 8, 4, 64)?;
+    let alloc = rt.alloc();
+    let mut walker = Walker::new(alloc, 8, 4, 64)?;
+    let (begun, one_more) = (answer_of(alloc, "begun")?, answer_of(alloc, "one_more")?);
     let told = (
-        told_at_last(&mut walker, &BEGUN, 1),
-        told_at_last(&mut walker, &ONE_MORE, 56),
-        told_at_last(&mut walker, &ONE_MORE, 1),
-        told_at_last(&mut walker, &ONE_MORE, 1),
+        told_at_last(&mut walker, &begun, 1),
+        told_at_last(&mut walker, &one_more, 56),
+        told_at_last(&mut walker, &one_more, 1),
+        told_at_last(&mut walker, &one_more, 1),
     );
-    let wanted = (
-        Some(Ok(Step::More)),
-        Some(Ok(Step::More)),
-        Some(Err(WalkFault::TooMuch)),
-        Some(Err(WalkFault::FailedBefore)),
-    );
-    assert_eq!(rt; told, wanted);
+    assert_eq!(rt; told, ("more", "more", "G09", "G11"));
     assert_eq!(rt; walker.taken(), 58);
     Ok(())
 }
