@@ -3,7 +3,7 @@ use Rattle.std.{proofs.Common.{◌≡◌, ℕ, ◌+◌, List, ◌++◌, length, 
 use Rattle.plan_values.{specs.declared.certificate.Certificate.{Certificate}, specs.declared.plan.Plan.{Plan}, specs.declared.nodes.Node.{Node}}
 use Rattle.pdr_repository.specs.Records.{Entry}
 use Rattle.plan_exports.specs.TableAnswers.{AreEntriesOf}
-use Rattle.audited_captures.{specs.Asked.{unanswered}, specs.RecordParts.{AreRecordParts}, specs.Walking.{AreWalks}, specs.Talk.{AreTalkLines, AreOwnerLines}, specs.Tids.{AreTids}, specs.Untold.{untold_lines, wanted_lines}, specs.Lines.{LineValue, line_value}, specs.declared.lines.Line.{Line}, specs.Exchanges.{AreExchanges}, specs.Strangers.{AreStrangerLines}, specs.Refusals.{IsRefusedOf}, specs.declared.sums.Sum.{Sum}, specs.TrafficLines.{IsTrafficOf}, specs.Words.{AreWords}, specs.Audits.{Heard, NodeFacts, has_compared, one_if, AreNodeLines, AreLines, More, lines_of_node, told_lines_of, AreOthers, AreBeside, AreAudited, AreRepositories}}
+use Rattle.audited_captures.{specs.Asked.{unanswered}, specs.RecordParts.{AreRecordParts}, specs.Talk.{AreTalkLines, AreOwnerLines}, specs.Tids.{AreTids}, specs.Untold.{untold_lines, wanted_lines}, specs.Lines.{LineValue, line_value}, specs.declared.lines.Line.{Line}, specs.Exchanges.{AreExchanges}, specs.Strangers.{AreStrangerLines}, specs.Refusals.{IsRefusedOf}, specs.declared.sums.Sum.{Sum}, specs.TrafficLines.{IsTrafficOf}, specs.Words.{AreWords}, specs.Audits.{Heard, NodeFacts, AreRecorded, AreNodeLines, AreLines, More, lines_of_node, told_lines_of, AreOthers, AreBeside, AreAudited, AreRepositories}, specs.Counting.{has_compared}, specs.RecordLines.{one_if}}
 use Rattle.heard_captures.{specs.Hearing.{AreHeard}, specs.Messages.{MessageValue}}
 use Rattle.bus_captures.specs.Values as captured
 
@@ -18,14 +18,14 @@ joined a b c two all A B C later whole is_a is_b is_c =
 
 -- the lines of a node and those of what it didn't tell
 pub of_node : (plan : Plan) (rs : List (List Entry)) (h : Heard) (n : ℕ) (node : Node) (f : NodeFacts) (lines untold : List LineValue) → slice_get plan.nodes.items n ≡ Some node
-    → AreEntriesOf plan n f.planned → slice_get rs n ≡ Some f.records → AreRecordParts node.eid.value h.words f.parts → AreWalks f.parts f.walks → AreTids node.eid.value h.words f.tids
-    → lines ≡ lines_of_node node f.planned h.exchanges (unanswered node.eid.value h.words h.exchanges f.parts f.tids) (told_lines_of node f) → untold ≡ untold_lines node h.exchanges f.walks
+    → AreEntriesOf plan n f.planned → slice_get rs n ≡ Some f.records → AreRecordParts node.eid.value h.words f.parts → AreRecorded f → AreTids node.eid.value h.words f.tids
+    → lines ≡ lines_of_node node f.planned h.exchanges (unanswered node.eid.value h.words h.exchanges f.parts f.tids) (told_lines_of node f) → untold ≡ untold_lines node h.exchanges (length f.records) f.verdicts
     → AreNodeLines plan rs h n lines untold
-of_node plan rs h n node f lines untold at plans stored answered walked identified tell wants = record {
+of_node plan rs h n node f lines untold at plans stored answered recorded identified tell wants = record {
   node = node;
   facts = f;
   at = at;
-  are = record { plans = plans; stored = stored; answered = answered; walked = walked; identified = identified };
+  are = record { plans = plans; stored = stored; answered = answered; recorded = recorded; identified = identified };
   tell = tell;
   wants = wants;
 }

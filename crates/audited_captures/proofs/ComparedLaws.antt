@@ -1,9 +1,8 @@
 -- A line of a node tells of a comparison exactly where one was made.
-use Rattle.std.{proofs.Common.{◌≡◌, ◌≢◌, ℕ, ◌==◌, ◌||◌, Bool, true, false, List, [], ◌∷◌, ◌++◌, length, refl, ap, sym, ◌∙◌, subst, inl, inr}, specs.Prelude.{IsTrue, codes, if◌then◌else◌}, specs.Fmt.{decimal}, specs.List.{flat_map, list_any}, proofs.lemmas.Bool.{cases_Bool, eqb-true, eq-eqb}}
+use Rattle.std.{proofs.Common.{◌≡◌, ◌≢◌, ℕ, ◌==◌, ◌||◌, Bool, true, false, List, [], ◌∷◌, ◌++◌, refl, ap, sym, ◌∙◌, subst, inl, inr}, specs.Prelude.{IsTrue, codes}, specs.Fmt.{decimal}, specs.List.{flat_map, list_any}, proofs.lemmas.Bool.{cases_Bool, eqb-true, eq-eqb}}
 use Rattle.mctp_control.{specs.RouteEntries.{EntryValue}, specs.Responses.{AnswerValue}}
-use Rattle.pdr_repository.specs.Records.{Entry}
 use Rattle.plan_values.{specs.NodeValues.{name_bytes}, specs.declared.nodes.Node.{Node}}
-use Rattle.audited_captures.{specs.AsPlanned.{IsAmong}, specs.Audits.{NodeFacts, has_compared, said_lines, lines_or_quiet, told_lines_of}, specs.Exchanges.{ExchangeValue}, specs.Failures.{fails, failures_of, failures_in, failed_lines}, specs.Identities.{identity_lines, tells_eid, span_words, pool_lines_of, tells_pool, told_lines, eid_lines, pool_lines, answers_of, first_of, size_of, kind_number}, specs.Lines.{LineValue, note, differences_or}, specs.RecordLines.{missing_lines, unlike_records, are_planned, records_match, order_line, open_line, stopped_line, walk_lines, walks_lines}, specs.Walking.{Walked, Whole, Open, Stopped}, specs.Matching.{IsCompared, ByTable, ByPart, ByAnswer, ByRefusal, ByTid, ByWalk, NodesCompareWhereHeard}, specs.Readings.{PartValue, ReadingValue, Read, Refused, Unended, parts_of, readings}, specs.Tids.{planned_tid, tid_lines}, specs.Routes.{match_line, unlike_lines, reading_lines, readings_lines, routes_lines}, proofs.Booleans.{not_both, either, or_right}, proofs.LineLaws.{compares_left, compares_right, compares_either, none_compared, or_compared, told_some, told_compared}, proofs.MatchLaws.{all_flat, unlike_all, identity_all, pool_all, records_all}, proofs.TidLaws.{compared_tids, tids_compared}, proofs.PlannedReadings.{any_is, any_of}, proofs.FailureLaws.{some_fails, a_failure, failed_compared, compared_failed, refused_part}}
+use Rattle.audited_captures.{specs.AsPlanned.{IsAmong}, specs.Audits.{NodeFacts, AreRecorded, said_lines, lines_or_quiet, told_lines_of}, specs.Counting.{has_compared}, specs.Exchanges.{ExchangeValue}, specs.Failures.{fails, failures_of, failures_in, failed_lines}, specs.Identities.{identity_lines, tells_eid, span_words, pool_lines_of, tells_pool, told_lines, eid_lines, pool_lines, answers_of, first_of, size_of, kind_number}, specs.Lines.{LineValue, note}, specs.Matching.{IsCompared, ByTable, ByPart, ByAnswer, ByRefusal, ByTid, ByRecord, NodesCompareWhereHeard}, specs.Readings.{PartValue, ReadingValue, Read, Refused, Unended, parts_of, readings}, specs.Tids.{planned_tid, tid_lines}, specs.Routes.{match_line, unlike_lines, reading_lines, readings_lines, routes_lines}, proofs.Booleans.{not_both, either, or_right}, proofs.LineLaws.{compares_left, compares_right, compares_either, none_compared, or_compared, told_some, told_compared}, proofs.MatchLaws.{all_flat, unlike_all, identity_all, pool_all}, proofs.RecordMatches.{records_compare}, proofs.TidLaws.{compared_tids, tids_compared}, proofs.PlannedReadings.{any_is, any_of}, proofs.FailureLaws.{some_fails, a_failure, failed_compared, compared_failed, refused_part}}
 use Rattle.audited_captures.specs.declared.failures.Topic.TheVariants as topic
 
 module _ {A : Type 0} (f : A → List LineValue) where
@@ -16,22 +15,13 @@ module _ {A : Type 0} (f : A → List LineValue) where
   flat_compared (y ∷ ys) x (inl same) is = compares_left (f y) (flat_map f ys) (subst (λ z. has_compared (f z) ≡ true) (sym same) is)
   flat_compared (y ∷ ys) x (inr among) is = compares_right (f y) (flat_map f ys) (flat_compared ys x among is)
 
--- ---- what one reading, one walk and the answers tell
+-- ---- what one reading and the answers tell
 
 module _ (name : List ℕ) where
   reading_compared : (planned : List EntryValue) (r : ReadingValue) → (r ≡ Refused → ⊥) → has_compared (reading_lines name planned r) ≡ true
   reading_compared planned Unended sound = refl
   reading_compared planned Refused sound = absurd (sound refl)
   reading_compared planned (Read found) sound = or_compared (match_line name found) (unlike_lines name planned found) refl (unlike_all name planned found)
-
-  walk_compared : (records : List Entry) (w : Walked) → has_compared (walk_lines name records w) ≡ true
-  walk_compared records (Whole found) = by (are_planned records found)
-    where
-      by : (b : Bool) → has_compared (if b then records_match name (length found) ∷ [] else differences_or (order_line name) (unlike_records name records found ++ flat_map (missing_lines name found) records)) ≡ true
-      by true = refl
-      by false = or_compared (order_line name) (unlike_records name records found ++ flat_map (missing_lines name found) records) refl (records_all name records found)
-  walk_compared records (Open found) = compares_right (unlike_records name records found) (open_line name (length found) ∷ []) refl
-  walk_compared records (Stopped fault found) = compares_right (unlike_records name records found) (stopped_line name fault (length found) ∷ []) refl
 
 -- ---- a node
 
@@ -43,7 +33,7 @@ flag_of : (b : Bool) → (b ≡ true → ⊥) → b ≡ false
 flag_of true never = absurd (never refl)
 flag_of false never = refl
 
-module _ (node : Node) (xs : List ExchangeValue) (f : NodeFacts) where
+module _ (node : Node) (xs : List ExchangeValue) (f : NodeFacts) (recorded : AreRecorded f) where
   abbrev name : List ℕ
   name = name_bytes node.name
 
@@ -58,9 +48,6 @@ module _ (node : Node) (xs : List ExchangeValue) (f : NodeFacts) where
 
   abbrev tids : List LineValue
   tids = tid_lines name (planned_tid node) f.tids
-
-  abbrev walked : List LineValue
-  walked = walks_lines name f.records f.walks
 
   abbrev told : List LineValue
   told = told_lines_of node f
@@ -154,9 +141,9 @@ module _ (node : Node) (xs : List ExchangeValue) (f : NodeFacts) where
         ]
       ]
     ]
-    | inr later ↦ elim (compares_either tids walked later) [
+    | inr later ↦ elim (compares_either tids f.recorded later) [
       | inl tid ↦ (let (t, among, tells) = tids_compared name (planned_tid node) f.tids tid in ByTid t among tells)
-      | inr walk ↦ (let (w, among) = flat_some (walk_lines name f.records) f.walks walk in ByWalk w among)
+      | inr record_line ↦ (let (i, x, at, is) = (records_compare f recorded).0 record_line in ByRecord i x at is)
     ]
   ]
 
@@ -221,12 +208,12 @@ module _ (node : Node) (xs : List ExchangeValue) (f : NodeFacts) where
   lines_compared (ByRefusal a among (inl eid)) = refused_eid_compared a among eid
   lines_compared (ByRefusal a among (inr pool)) = refused_pool_compared a among pool.0 pool.1
   lines_compared (ByTid t among tells) =
-      compares_right (routes ++ (eids ++ pools)) told (compares_left tids walked (compared_tids name (planned_tid node) f.tids t among tells))
-  lines_compared (ByWalk w among) =
-      compares_right (routes ++ (eids ++ pools)) told (compares_right tids walked (flat_compared (walk_lines name f.records) f.walks w among (walk_compared name f.records w)))
+      compares_right (routes ++ (eids ++ pools)) told (compares_left tids f.recorded (compared_tids name (planned_tid node) f.tids t among tells))
+  lines_compared (ByRecord i x at is) =
+      compares_right (routes ++ (eids ++ pools)) told (compares_right tids f.recorded ((records_compare f recorded).1 (i, x, at, is)))
 
 pub nodes_compare : NodesCompareWhereHeard
-nodes_compare node xs f unanswered = (
-  λ is. by_lines node xs f (sym (quiet_compared (name_bytes node.name) unanswered (said_lines node f.planned xs (told_lines_of node f))) ∙ is),
-  λ compared. quiet_compared (name_bytes node.name) unanswered (said_lines node f.planned xs (told_lines_of node f)) ∙ lines_compared node xs f compared,
+nodes_compare node xs f unanswered recorded = (
+  λ is. by_lines node xs f recorded (sym (quiet_compared (name_bytes node.name) unanswered (said_lines node f.planned xs (told_lines_of node f))) ∙ is),
+  λ compared. quiet_compared (name_bytes node.name) unanswered (said_lines node f.planned xs (told_lines_of node f)) ∙ lines_compared node xs f recorded compared,
 )

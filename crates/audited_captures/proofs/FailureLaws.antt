@@ -1,7 +1,7 @@
 -- Answers that fail, and the line that tells them.
 use Rattle.std.{proofs.Common.{◌≡◌, ℕ, ◌==◌, Bool, true, false, List, [], ◌∷◌, ◌++◌, refl, ap, sym, ◌∙◌, inl, inr}, specs.Prelude.{IsTrue, if◌then◌else◌}, specs.List.{flat_map}, proofs.lemmas.Bool.{cases_Bool}}
 use Rattle.mctp_control.{specs.RouteEntries.{EntryValue}, specs.Responses.{AnswerValue, EidSet, EidTold, PoolTold, EntriesTold, Failed}}
-use Rattle.audited_captures.{specs.AsPlanned.{IsAmong}, specs.Audits.{difference_count, has_compared}, specs.Failures.{fails, code_if, failed_lines}, specs.Readings.{PartValue, Turn, Other, Fails, Refuses, Ends, GoesOn, turn_by, turn_of, told_by, ReadingValue, Read, Refused, Unended, behind, read_from, readings}, specs.declared.failures.Topic.{Topic}, proofs.PlannedReadings.{flat_nil, flat_none}}
+use Rattle.audited_captures.{specs.AsPlanned.{IsAmong}, specs.Counting.{difference_count, has_compared}, specs.Failures.{fails, code_if, failed_lines}, specs.Readings.{PartValue, Turn, Other, Fails, Refuses, Ends, GoesOn, turn_by, turn_of, told_by, ReadingValue, Read, Refused, Unended, behind, read_from, readings}, specs.declared.failures.Topic.{Topic}, proofs.PlannedReadings.{flat_nil, flat_none}}
 use Rattle.audited_captures.specs.declared.failures.Topic.TheVariants as topic
 
 -- ---- one answer

@@ -4,7 +4,6 @@ pub mod ExchangeLaws
 pub mod PartLaws
 pub mod ReadingLaws
 pub mod RouteLaws
-pub mod WalkLaws
 pub mod RecordLaws
 pub mod AuditLaws
 pub mod CheckedPlans
@@ -13,6 +12,7 @@ pub mod FailureLaws
 pub mod MatchLaws
 pub mod LineLaws
 pub mod TidLaws
+pub mod RecordMatches
 pub mod NodeLaws
 pub mod ComparedLaws
 pub mod PacketLaws

@@ -1,6 +1,6 @@
 -- Lines that tell of a comparison.
 use Rattle.std.{proofs.Common.{◌≡◌, ℕ, suc, ◌||◌, Bool, true, false, List, [], ◌∷◌, ◌++◌, length, refl, ap, sym, ◌∙◌, inl, inr, arith, ◌⊎◌}, specs.Prelude.{if◌then◌else◌}, specs.List.{filter}, proofs.lemmas.Bool.{cases_Bool}, proofs.lemmas.List.Sums.{length-filter, count_by-le-length}}
-use Rattle.audited_captures.{specs.Audits.{difference_count, has_compared}, specs.Identities.{told_lines}, specs.Lines.{LineValue, note, differences_or, differs, compares, is_comparison, is_difference}, specs.declared.lines.Finding.{Finding}, specs.declared.lines.Finding.TheVariants.{Silent, AsPlanned, Differs}, proofs.Booleans.{either, or_right}, proofs.MatchLaws.{AllDiffer, none_of, zero_left, zero_right}}
+use Rattle.audited_captures.{specs.Counting.{difference_count, has_compared}, specs.Identities.{told_lines}, specs.Lines.{LineValue, note, silence, differences_or, differs, compares, is_comparison, is_difference}, specs.declared.lines.Finding.{Finding}, specs.declared.lines.Finding.TheVariants.{Silent, AsPlanned, Differs}, proofs.Booleans.{either, or_right}, proofs.MatchLaws.{AllDiffer, count_append, none_of, zero_left, zero_right}, specs.RecordLines.{AddsDifferences, IsRemarked}}
 
 -- ---- lines that compare
 
@@ -70,3 +70,29 @@ quiet_both a b quiet_a quiet_b zero is = elim (compares_either a b is) [
 
 pub all_quiet : (ls : List LineValue) → AllDiffer ls → Quiet ls
 all_quiet ls all zero is = none_compared (sym (ap has_compared (none_of ls all zero)) ∙ is)
+
+-- ---- lines of records
+
+remark_same : (all lines : List LineValue) → IsRemarked all lines → (difference_count lines ≡ difference_count all) × (has_compared all ≡ true → has_compared lines ≡ true)
+remark_same all lines (inl same) = (ap difference_count same, λ is. ap has_compared same ∙ is)
+remark_same all lines (inr (text, is)) = (
+  omega (arith, ap difference_count is, count_append all (silence text ∷ []), silent_zero text),
+  λ compared. ap has_compared is ∙ compares_left all (silence text ∷ []) compared,
+)
+  where
+    silent_zero : (text : List ℕ) → difference_count (silence text ∷ []) ≡ 0
+    silent_zero text = refl
+
+or_count : (otherwise : LineValue) (ls : List LineValue) → differs otherwise ≡ false → difference_count (differences_or otherwise ls) ≡ difference_count ls
+or_count otherwise [] is = ap (λ (b : Bool). length (if b then otherwise ∷ [] else [])) is
+or_count otherwise (l ∷ ls) is = refl
+
+-- so many differences, or a line that says that there are none, and behind that a remark
+pub recorded : (count : ℕ) (text : List ℕ) (lines all told : List LineValue) → AddsDifferences [] lines count → all ≡ differences_or (note text) lines → IsRemarked all told
+    → (difference_count told ≡ count) × (has_compared told ≡ true)
+recorded count text lines all told (long, counted) is remarked =
+    let (same, keeps) = remark_same all told remarked in
+    let whole : AllDiffer lines = omega (arith, long, counted) in (
+      same ∙ ap difference_count is ∙ or_count (note text) lines refl ∙ omega (arith, counted),
+      keeps (ap has_compared is ∙ or_compared (note text) lines refl whole),
+    )

@@ -1,13 +1,12 @@
 -- No line of a node tells a difference exactly where all that it said is planned.
-use Rattle.std.{proofs.Common.{◌≡◌, ◌⊎◌, ℕ, ◌+◌, ◌==◌, ◌&&◌, ◌||◌, not, Bool, true, false, List, [], ◌∷◌, ◌++◌, length, refl, ap, sym, ◌∙◌, subst, inl, inr, arith}, specs.Prelude.{Option, Some, None, IsTrue, find, codes, if◌then◌else◌}, specs.Fmt.{decimal}, specs.List.{flat_map, list_any, filter}, proofs.Math.Nat.{suc-ne-zero}, proofs.lemmas.Bool.{cases_Bool, eqb-true, eq-eqb}, proofs.lemmas.List.{nil_from_length, length-append}, proofs.lemmas.List.Elements.{filter-append}}
+use Rattle.std.{proofs.Common.{◌≡◌, ◌⊎◌, ℕ, ◌+◌, ◌==◌, ◌&&◌, ◌||◌, not, Bool, true, false, List, [], ◌∷◌, ◌++◌, length, refl, ap, sym, ◌∙◌, subst, inl, inr, arith, add-one, ◌<◌, take, get_or}, specs.Prelude.{Option, Some, None, IsTrue, find, codes, if◌then◌else◌}, specs.Fmt.{decimal}, specs.List.{flat_map, list_any, filter}, proofs.lemmas.Bool.{cases_Bool, eqb-true, eq-eqb}, proofs.lemmas.List.{nil_from_length, length-append, take_more}, proofs.lemmas.List.Elements.{filter-append}}
 use Rattle.mctp_control.{specs.RouteEntries.{EntryValue}, specs.Responses.{AnswerValue, EidSet, EidTold, PoolTold, EntriesTold, Failed}}
-use Rattle.audited_captures.{specs.AsPlanned.{IsAmong}, specs.Audits.{difference_count}, specs.Failures.{fails, failures_of, failures_in, failed_lines}, specs.Identities.{kind_word, eid_line, kind_line, identity_lines, tells_eid, span_words, same_span, pool_lines_of, tells_pool, told_lines, eid_lines, pool_lines}, specs.Lines.{LineValue, difference, note, differences_or, differs}, specs.RecordLines.{unlike_from, line_if_unlike_at, line_of_found, found_lines, is_found, missing_lines, unlike_records, are_planned, records_match, order_line, open_line, stopped_line, walk_lines}, specs.Walking.{Walked, Whole, Open, Stopped}, specs.Matching.{IsReadAsPlanned, IsWalkedAsPlanned, HasPlannedEid, HasPlannedPool, SomeTellsEid, SomeTellsPool}, specs.Readings.{PartValue, ReadingValue, Read, Refused, Unended, readings}, specs.Routes.{unlike, line_if_unlike, line_beside, planned_lines, extra_line, lines_if_extra, extra_lines, unlike_lines, match_line, reading_lines, readings_lines, routes_lines, has_range, same_range}, proofs.RecordLaws.{planned_is, planned_of}, proofs.Booleans.{both, both_left, both_right, not_both, either, or_right}, proofs.PlannedReadings.{nil_left, nil_right, no_line, flat_nil, flat_none, any_is, any_of, as_planned, no_lines}, proofs.FailureLaws.{none_fails, no_failures, remark_zero, failed_zero, zero_failed, refused_part}}
-use Rattle.pdr_repository.specs.Records.{Entry, handle_in}
+use Rattle.audited_captures.{specs.AsPlanned.{IsAmong}, specs.Counting.{difference_count}, specs.RecordLines.{AddsDifferences, count_below, fault_count, is_fault}, specs.declared.record_readings.Verdict.{Verdict}, specs.Failures.{fails, failures_of, failures_in, failed_lines}, specs.Identities.{kind_word, eid_line, kind_line, identity_lines, tells_eid, span_words, same_span, pool_lines_of, tells_pool, told_lines, eid_lines, pool_lines}, specs.Lines.{LineValue, difference, note, differences_or, differs}, specs.Matching.{IsReadAsPlanned, HasPlannedEid, HasPlannedPool, SomeTellsEid, SomeTellsPool}, specs.Readings.{PartValue, ReadingValue, Read, Refused, Unended, readings}, specs.Routes.{unlike, line_if_unlike, line_beside, planned_lines, extra_line, lines_if_extra, extra_lines, unlike_lines, match_line, reading_lines, readings_lines, routes_lines, has_range, same_range}, proofs.Booleans.{both, both_left, both_right, not_both, either, or_right}, proofs.PlannedReadings.{nil_left, nil_right, no_line, flat_nil, flat_none, any_is, any_of, as_planned, no_lines}, proofs.FailureLaws.{none_fails, no_failures, remark_zero, failed_zero, zero_failed, refused_part}}
 use Rattle.audited_captures.specs.declared.failures.Topic.TheVariants as topic
 
 -- ---- counts of differences
 
-count_append : (a b : List LineValue) → difference_count (a ++ b) ≡ difference_count a + difference_count b
+pub count_append : (a b : List LineValue) → difference_count (a ++ b) ≡ difference_count a + difference_count b
 count_append a b = ap length (filter-append differs a b) ∙ length-append (filter differs a) (filter differs b)
 
 pub zero_left : (a b : List LineValue) → difference_count (a ++ b) ≡ 0 → difference_count a ≡ 0
@@ -292,43 +291,29 @@ module _ (name : List ℕ) where
               (no_failures topic.Pool (λ (b : AnswerValue). b) answers (λ a among is. not_both (is_remark answers) (is_a_remark answers (tells a among is)) counts))
         ])
 
-  -- ---- records
+-- ---- lines that were added
 
-  or_order_some : (text : List ℕ) (ls : List LineValue) → AllDiffer ls → difference_count (differences_or (difference text) ls) ≡ 0 → ⊥
-  or_order_some text [] all zero = cc
-  or_order_some text (l ∷ ls) all zero = omega (arith, all, zero)
+pub adds_one : (old new : List LineValue) (text : List ℕ) → new ≡ old ++ difference text ∷ [] → AddsDifferences old new 1
+adds_one old new text is = (ap length is ∙ length-append old (difference text ∷ []), ap difference_count is ∙ count_append old (difference text ∷ []))
 
-  module _ (records : List Entry) where
-    pub unlike_at_all : (handle : ℕ) (at : Option ℕ) → AllDiffer (line_if_unlike_at name handle at)
-    unlike_at_all handle None = refl
-    unlike_at_all handle (Some k) = refl
+pub adds_both : (a b c : List LineValue) (m n k : ℕ) → k ≡ m + n → AddsDifferences a b m → AddsDifferences b c n → AddsDifferences a c k
+adds_both a b c m n k is (long, count) (longer, counts) = (omega (arith, is, long, longer), omega (arith, is, count, counts))
 
-    of_found_all : (found : List ℕ) (o : Option Entry) → AllDiffer (line_of_found name found o)
-    of_found_all found None = refl
-    of_found_all found (Some e) = unlike_at_all (handle_in found) (unlike_from 0 e.bytes found)
+pub adds_none : (old new : List LineValue) (n : ℕ) → n ≡ 0 → new ≡ old → AddsDifferences old new n
+adds_none old new n none same = (omega (arith, none, ap length same), omega (arith, none, ap difference_count same))
 
-    pub records_all : (found : List (List ℕ)) → AllDiffer (unlike_records name records found ++ flat_map (missing_lines name found) records)
-    records_all found =
-        all_both (unlike_records name records found) (flat_map (missing_lines name found) records)
-        (all_flat (found_lines name records) (λ f. of_found_all f (find (λ (e : Entry). e.handle == handle_in f) records)) found)
-        (all_flat (missing_lines name found) (λ e. one_if (is_found found e) (name ++ (codes " record " ++ (decimal e.handle ++ codes " missing")))) records)
+pub suc_more : (test : ℕ → Bool) (k : ℕ) → count_below test (k + 1) ≡ count_below test k + (if test k then 1 else 0)
+suc_more test k = ap (count_below test) (add-one k)
 
-    pub walk_is : (w : Walked) → difference_count (walk_lines name records w) ≡ 0 → IsWalkedAsPlanned records w
-    walk_is (Whole found) zero = elim (cases_Bool (are_planned records found)) [
-      | inl planned ↦ planned_is records found planned
-      | inr other ↦ absurd (or_order_some (name ++ codes " records order differs") (unlike_records name records found ++ flat_map (missing_lines name found) records) (records_all found)
-          (sym (ap (λ (b : Bool). difference_count (if b then records_match name (length found) ∷ [] else differences_or (order_line name) (unlike_records name records found ++ flat_map (missing_lines name found) records))) other) ∙ zero))
-    ]
-    walk_is (Open found) zero =
-        let one : difference_count (open_line name (length found) ∷ []) ≡ 0 = zero_right (unlike_records name records found) (open_line name (length found) ∷ []) zero in
-        absurd (suc-ne-zero 0 one)
-    walk_is (Stopped fault found) zero =
-        let one : difference_count (stopped_line name fault (length found) ∷ []) ≡ 0 = zero_right (unlike_records name records found) (stopped_line name fault (length found) ∷ []) zero in
-        absurd (suc-ne-zero 0 one)
+pub fault_more : (vs : List Verdict) (v : Verdict) → fault_count (vs ++ v ∷ []) ≡ fault_count vs + (if is_fault v then 1 else 0)
+fault_more vs v = ap length (filter-append is_fault vs (v ∷ [])) ∙ length-append (filter is_fault vs) (filter is_fault (v ∷ [])) ∙ ap (λ n. fault_count vs + n) (by (is_fault v))
+  where
+    by : (b : Bool) → length (if b then v ∷ [] else []) ≡ (if b then 1 else 0)
+    by true = refl
+    by false = refl
 
-    pub walk_of : (w : Walked) → IsWalkedAsPlanned records w → difference_count (walk_lines name records w) ≡ 0
-    walk_of (Whole found) is =
-        ap (λ (b : Bool). difference_count (if b then records_match name (length found) ∷ [] else differences_or (order_line name) (unlike_records name records found ++ flat_map (missing_lines name found) records)))
-        (planned_of records found is)
-    walk_of (Open found) is = absurd is
-    walk_of (Stopped fault found) is = absurd is
+pub faults_step : (items : List Verdict) (i : ℕ) (d : Verdict) → i < length items → (a b c : List LineValue) → AddsDifferences a b (fault_count (take i items))
+    → AddsDifferences b c (if is_fault (get_or items i d) then 1 else 0) → AddsDifferences a c (fault_count (take (i + 1) items))
+faults_step items i d within a b c before adds =
+    adds_both a b c (fault_count (take i items)) (if is_fault (get_or items i d) then 1 else 0) (fault_count (take (i + 1) items))
+    (ap fault_count (take_more items i d within) ∙ fault_more (take i items) (get_or items i d)) before adds

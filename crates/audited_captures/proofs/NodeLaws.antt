@@ -2,13 +2,13 @@
 use Rattle.std.proofs.Common.{◌≡◌, ℕ, List, [], ◌∷◌, ◌++◌, refl, sym, ◌∙◌}
 use Rattle.mctp_control.specs.Responses.{AnswerValue}
 use Rattle.plan_values.{specs.NodeValues.{name_bytes}, specs.declared.nodes.Node.{Node}}
-use Rattle.audited_captures.{specs.Audits.{NodeFacts, difference_count, said_lines, lines_or_quiet, lines_of_node, told_lines_of}, specs.Exchanges.{ExchangeValue}, specs.Identities.{eid_lines, pool_lines, answers_of, first_of, size_of, kind_number}, specs.Lines.{LineValue}, specs.RecordLines.{walk_lines, walks_lines}, specs.Matching.{SaysAsPlanned, NodesMatchWhereAsPlanned}, specs.Readings.{PartValue, parts_of}, specs.Routes.{routes_lines}, specs.Tids.{planned_tid, tid_lines}, proofs.MatchLaws.{zero_left, zero_right, zero_both, zero_each, zero_all, tables_are, routes_are, routes_of, eid_told_are, eids_are, eids_of, pool_told_are, pools_are, pools_of, walk_is, walk_of}, proofs.TidLaws.{tids_are, tid_told_are, tids_of}}
+use Rattle.audited_captures.{specs.Audits.{NodeFacts, AreRecorded, said_lines, lines_or_quiet, lines_of_node, told_lines_of}, specs.Counting.{difference_count}, specs.Exchanges.{ExchangeValue}, specs.Identities.{eid_lines, pool_lines, answers_of, first_of, size_of, kind_number}, specs.Lines.{LineValue}, specs.Matching.{SaysAsPlanned, NodesMatchWhereAsPlanned}, specs.Readings.{PartValue, parts_of}, specs.Routes.{routes_lines}, specs.Tids.{planned_tid, tid_lines}, proofs.MatchLaws.{zero_left, zero_right, zero_both, tables_are, routes_are, routes_of, eid_told_are, eids_are, eids_of, pool_told_are, pools_are, pools_of}, proofs.RecordMatches.{records_match}, proofs.TidLaws.{tids_are, tid_told_are, tids_of}}
 
 pub quiet_count : (name : List ℕ) (unanswered : ℕ) (ls : List LineValue) → difference_count (lines_or_quiet name unanswered ls) ≡ difference_count ls
 quiet_count name unanswered [] = refl
 quiet_count name unanswered (l ∷ ls) = refl
 
-module _ (node : Node) (xs : List ExchangeValue) (f : NodeFacts) (unanswered : ℕ) where
+module _ (node : Node) (xs : List ExchangeValue) (f : NodeFacts) (unanswered : ℕ) (recorded : AreRecorded f) where
   abbrev name : List ℕ
   name = name_bytes node.name
 
@@ -20,9 +20,6 @@ module _ (node : Node) (xs : List ExchangeValue) (f : NodeFacts) (unanswered : �
 
   abbrev tids : List LineValue
   tids = tid_lines name (planned_tid node) f.tids
-
-  abbrev walked : List LineValue
-  walked = walks_lines name f.records f.walks
 
   abbrev told : List LineValue
   told = told_lines_of node f
@@ -53,9 +50,9 @@ module _ (node : Node) (xs : List ExchangeValue) (f : NodeFacts) (unanswered : �
         pool_told = pool_told_are name (first_of node.pool) (size_of node.pool) answers (zero_right eids pools later);
         eids = eids_are name node.eid.value (kind_number node.kind) answers (zero_left eids pools later);
         pools = pools_are name (first_of node.pool) (size_of node.pool) answers (zero_right eids pools later);
-        tids = tids_are name (planned_tid node) f.tids (zero_left tids walked terminus);
-        tid_told = tid_told_are name (planned_tid node) f.tids (zero_left tids walked terminus);
-        records = λ w among. walk_is name f.records w (zero_each (walk_lines name f.records) f.walks (zero_right tids walked terminus) w among);
+        tids = tids_are name (planned_tid node) f.tids (zero_left tids f.recorded terminus);
+        tid_told = tid_told_are name (planned_tid node) f.tids (zero_left tids f.recorded terminus);
+        records = (records_match f recorded).0 (zero_right tids f.recorded terminus);
       }
 
   node_of : SaysAsPlanned node xs f → difference_count (lines_of_node node f.planned xs unanswered told) ≡ 0
@@ -65,8 +62,7 @@ module _ (node : Node) (xs : List ExchangeValue) (f : NodeFacts) (unanswered : �
       (zero_both routes (eids ++ pools) (routes_of name f.planned parts says.tables says.routes_told)
       (zero_both eids pools (eids_of name node.eid.value (kind_number node.kind) answers says.eids says.eid_told)
       (pools_of name (first_of node.pool) (size_of node.pool) answers says.pools says.pool_told)))
-      (zero_both tids walked (tids_of name (planned_tid node) f.tids says.tids says.tid_told)
-      (zero_all (walk_lines name f.records) f.walks (λ w among. walk_of name f.records w (says.records w among))))
+      (zero_both tids f.recorded (tids_of name (planned_tid node) f.tids says.tids says.tid_told) ((records_match f recorded).1 says.records))
 
 pub nodes_match : NodesMatchWhereAsPlanned
-nodes_match node xs f unanswered = (node_is node xs f unanswered, node_of node xs f unanswered)
+nodes_match node xs f unanswered recorded = (node_is node xs f unanswered recorded, node_of node xs f unanswered recorded)

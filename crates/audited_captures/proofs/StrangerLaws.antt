@@ -1,7 +1,7 @@
 -- Lines of devices that no node of the plan stands for.
 use Rattle.std.{proofs.Common.{◌≡◌, ℕ, ◌<◌, ◌+◌, List, [], ◌∷◌, ◌++◌, length, arith, refl, ap, sym, subst, inl, inr, map, take, get_or}, specs.Prelude.{Result, Ok, Err, IfOk}}
 use Rattle.plan_values.specs.declared.plan.Plan.{Plan}
-use Rattle.audited_captures.{specs.Audits.{difference_count}, specs.Exchanges.{ExchangeValue, exchange_value}, specs.declared.exchanges.Exchange.{Exchange}, specs.Lines.{LineValue}, specs.Strangers.{IsStranger, IsOfNone, stranger_line, AreLinesOf, AreStrangerLines, Empty, More, HasNoStrangers}, proofs.MatchLaws.{AllDiffer, all_both, zero_left, zero_right, zero_both}, proofs.PacketLaws.{among_left, among_right, among_split}, proofs.WordLaws.{mapped_more}}
+use Rattle.audited_captures.{specs.Counting.{difference_count}, specs.Exchanges.{ExchangeValue, exchange_value}, specs.declared.exchanges.Exchange.{Exchange}, specs.Lines.{LineValue}, specs.Strangers.{IsStranger, IsOfNone, stranger_line, AreLinesOf, AreStrangerLines, Empty, More, HasNoStrangers}, proofs.MatchLaws.{AllDiffer, all_both, zero_left, zero_right, zero_both}, proofs.PacketLaws.{among_left, among_right, among_split}, proofs.WordLaws.{mapped_more}}
 
 module _ (plan : Plan) where
   pub next_answer : (items : List Exchange) (i : ℕ) (item : Exchange) (old more new : List LineValue) → i < length items → item ≡ get_or items i item

@@ -2,7 +2,7 @@
 use Rattle.std.{proofs.Common.{◌≡◌, ◌⊎◌, ℕ, ◌<◌, ◌+◌, ◌==◌, ◌&&◌, Bool, true, false, List, [], ◌∷◌, ◌++◌, length, arith, refl, ap, sym, ◌∙◌, subst, inl, inr, map, take, get_or, append_assoc}, specs.Prelude.{Option, Some, None, Result, Ok, Err, IfOk, codes, if◌then◌else◌}}
 use Rattle.plan_values.specs.declared.plan.Plan.{Plan}
 use Rattle.heard_captures.{specs.Messages.{MessageValue, message_value}, specs.declared.messages.Message.{Message}}
-use Rattle.audited_captures.{specs.Audits.{difference_count, has_compared}, specs.Exchanges.{concerns, last_that}, specs.Lines.{LineValue}, specs.Names.{IsNameOf}, specs.Talk.{IsSaidText, kind_words, receiver, sender, tagged_words, Saying, AskedAgain, AnsweredAgain, Unasked, saying_by, saying_of, AreLinesBy, AreTalkLines, Empty, More, HasEarlier, AreAllAsked, AreOwnerLinesOf, AreOwnerLines, Nothing, Also, AreAllOwned}, specs.Words.{WordValue, word_value, is_question, IsNotMisowned}, specs.declared.words.Word.{Word}, proofs.ExchangeLaws.{last_among, last_passing}, proofs.LineLaws.{Quiet, quiet_both, none_compared}, proofs.MatchLaws.{AllDiffer, all_both, zero_left, zero_right, zero_both}, proofs.PacketLaws.{among_left, among_right, among_split}, proofs.WordLaws.{mapped_more}}
+use Rattle.audited_captures.{specs.Counting.{difference_count, has_compared}, specs.Exchanges.{concerns, last_that}, specs.Lines.{LineValue}, specs.Names.{IsNameOf}, specs.Talk.{IsSaidText, kind_words, receiver, sender, tagged_words, Saying, AskedAgain, AnsweredAgain, Unasked, saying_by, saying_of, AreLinesBy, AreTalkLines, Empty, More, HasEarlier, AreAllAsked, AreOwnerLinesOf, AreOwnerLines, Nothing, Also, AreAllOwned}, specs.Words.{WordValue, word_value, is_question, IsNotMisowned}, specs.declared.words.Word.{Word}, proofs.ExchangeLaws.{last_among, last_passing}, proofs.LineLaws.{Quiet, quiet_both, none_compared}, proofs.MatchLaws.{AllDiffer, all_both, zero_left, zero_right, zero_both}, proofs.PacketLaws.{among_left, among_right, among_split}, proofs.WordLaws.{mapped_more}}
 
 -- ---- one word
 

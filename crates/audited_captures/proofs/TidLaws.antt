@@ -1,6 +1,6 @@
 -- What devices told of their terminus IDs.
 use Rattle.std.{proofs.Common.{◌≡◌, ◌≢◌, ◌⊎◌, ℕ, ◌<◌, ◌+◌, ◌==◌, ◌||◌, not, Bool, true, false, List, [], ◌∷◌, ◌++◌, length, refl, ap, sym, ◌∙◌, subst, inl, inr, map, take, get_or, Result, Ok, Err}, specs.Prelude.{Option, Some, None, codes, option_to_list, if◌then◌else◌}, specs.Fmt.{decimal}, specs.List.{flat_map, list_any}, proofs.lemmas.Bool.{cases_Bool, eqb-true, eq-eqb}}
-use Rattle.audited_captures.{specs.AsPlanned.{IsAmong}, specs.Audits.{difference_count, has_compared}, specs.Failures.{failed_lines}, specs.Identities.{told_lines}, specs.Lines.{LineValue, difference, note}, specs.Matching.{HasPlannedTid, IsFailure, SomeTellsTid, TellsOfTid}, specs.Tids.{AreTids, More, is_none, is_that, tells_tid, tid_failure, tid_line, tid_lines, tid_of, tid_words}, specs.Words.{word_value}, specs.declared.words.Word.{Word}, proofs.Booleans.{either, not_both, or_right}, proofs.FailureLaws.{compared_failed, failed_compared, failed_zero, remark_zero, zero_failed}, proofs.LineLaws.{compares_either, compares_left, compares_right, told_compared, told_some}, proofs.MatchLaws.{AllDiffer, all_flat, one_if, told_is, told_of, zero_both, zero_left, zero_right}, proofs.PlannedReadings.{any_is, any_of, flat_nil, flat_none, no_line}, proofs.WordLaws.{mapped_more}}
+use Rattle.audited_captures.{specs.AsPlanned.{IsAmong}, specs.Counting.{difference_count, has_compared}, specs.Failures.{failed_lines}, specs.Identities.{told_lines}, specs.Lines.{LineValue, difference, note}, specs.Matching.{HasPlannedTid, IsFailure, SomeTellsTid, TellsOfTid}, specs.Tids.{AreTids, More, is_none, is_that, tells_tid, tid_failure, tid_line, tid_lines, tid_of, tid_words}, specs.Words.{word_value}, specs.declared.words.Word.{Word}, proofs.Booleans.{either, not_both, or_right}, proofs.FailureLaws.{compared_failed, failed_compared, failed_zero, remark_zero, zero_failed}, proofs.LineLaws.{compares_either, compares_left, compares_right, told_compared, told_some}, proofs.MatchLaws.{AllDiffer, all_flat, one_if, told_is, told_of, zero_both, zero_left, zero_right}, proofs.PlannedReadings.{any_is, any_of, flat_nil, flat_none, no_line}, proofs.WordLaws.{mapped_more}}
 
 -- the next word of a list
 pub next_tid : (eid : ℕ) (items : List Word) (i : ℕ) (item : Word) (old new : List (Result ℕ ℕ)) → i < length items → item ≡ get_or items i item

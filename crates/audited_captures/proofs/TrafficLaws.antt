@@ -6,7 +6,7 @@ use Rattle.plan_values.{specs.declared.certificate.Certificate.{Certificate}, sp
 use Rattle.net_questions.{proofs.WayLaws.{ways_are_alone}, specs.Ways.{IsWay}, specs.declared.step.WayStep.{WayStep}, specs.declared.way.End.{End}}
 use Rattle.net_rules.{specs.Rules.{Accepts}, specs.declared.rule.Rule.TheVariants.{C03}}
 use Rattle.net_tables.specs.Routing.{Holds}
-use Rattle.audited_captures.{specs.AsPlanned.{IsAmong}, specs.Audits.{difference_count}, specs.Judging.{why_by}, specs.Lines.{LineValue}, specs.Matching.{TrafficMatchesWhereAsPlanned}, specs.Packets.{NumberedPacket, numbered_packet, count_like, ArePackets, AreFirst}, specs.declared.packets.CapturedPacket.{CapturedPacket}, specs.Traffic.{LacksSender, LacksReceiver, is_one_over, ArrivesBy, GoesOver, IsPlanned, Unplanned, IsJudged}, specs.TrafficLines.{IsOneLine, AreLinesOf, AreTrafficLines, More, IsTrafficOf}, proofs.MatchLaws.{AllDiffer, all_both, zero_left, zero_right, zero_both}, proofs.PacketLaws.{each_has_first, first_among, among_left, among_right, among_split}, proofs.WordLaws.{mapped_more}}
+use Rattle.audited_captures.{specs.AsPlanned.{IsAmong}, specs.Counting.{difference_count}, specs.Judging.{why_by}, specs.Lines.{LineValue}, specs.Matching.{TrafficMatchesWhereAsPlanned}, specs.Packets.{NumberedPacket, numbered_packet, count_like, ArePackets, AreFirst}, specs.declared.packets.CapturedPacket.{CapturedPacket}, specs.Traffic.{LacksSender, LacksReceiver, is_one_over, ArrivesBy, GoesOver, IsPlanned, Unplanned, IsJudged}, specs.TrafficLines.{IsOneLine, AreLinesOf, AreTrafficLines, More, IsTrafficOf}, proofs.MatchLaws.{AllDiffer, all_both, zero_left, zero_right, zero_both}, proofs.PacketLaws.{each_has_first, first_among, among_left, among_right, among_split}, proofs.WordLaws.{mapped_more}}
 use Rattle.net_questions.specs.declared.way.End.TheVariants as end
 use Rattle.audited_captures.specs.TrafficLines as lines
 

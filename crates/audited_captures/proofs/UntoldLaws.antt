@@ -2,7 +2,7 @@
 use Rattle.std.{proofs.Common.{◌≡◌, ◌≢◌, ℕ, zero, suc, add-one, ◌+◌, ◌<◌, ◌==◌, ◌||◌, not, Bool, true, false, List, [], ◌∷◌, ◌++◌, refl, ap, sym, ◌∙◌, subst, inl, inr, arith, drop, length, map}, specs.Prelude.{IsTrue, codes}, specs.List.{list_any}, proofs.lemmas.Bool.{eqb-true, eq-eqb}}
 use Rattle.mctp_control.{specs.RouteEntries.{EntryValue}, specs.Responses.{AnswerValue}}
 use Rattle.plan_values.{specs.NodeValues.{name_bytes}, specs.declared.nodes.Node.{Node}}
-use Rattle.audited_captures.{specs.AsPlanned.{IsAmong}, specs.Audits.{NodeFacts, difference_count}, specs.Exchanges.{ExchangeValue}, specs.Identities.{answers_of, tells_eid, tells_pool, size_of}, specs.Lines.{LineValue}, specs.Matching.{SomeTellsPool, TellsAll}, specs.Readings.{ReadingValue, Read, Refused, Unended, begun_with, part_value, parts_of, readings}, specs.declared.readings.Part.{Part}, specs.Untold.{is_bridge, is_read, is_some, is_whole, readings_begun, tells_its_pool, tells_records, tells_routes, untold_if, untold_lines, untold_text, wanted_lines}, specs.Walking.{Walked, Whole, Open, Stopped}, proofs.Booleans.{either, or_right}, proofs.MatchLaws.{AllDiffer, all_both, one_if, zero_left, zero_right, zero_both}, proofs.PlannedReadings.{any_is, any_of}}
+use Rattle.audited_captures.{specs.AsPlanned.{IsAmong}, specs.Audits.{NodeFacts, AreRecorded}, specs.Counting.{difference_count}, specs.Exchanges.{ExchangeValue}, specs.Identities.{answers_of, tells_eid, tells_pool, size_of}, specs.Lines.{LineValue}, specs.Matching.{SomeTellsPool, TellsAll}, specs.Readings.{ReadingValue, Read, Refused, Unended, begun_with, part_value, parts_of, readings}, specs.declared.readings.Part.{Part}, specs.Untold.{is_bridge, is_read, is_some, readings_begun, tells_its_pool, tells_records, tells_routes, untold_if, untold_lines, untold_text, wanted_lines}, specs.RecordLines.{missing_count}, specs.RecordReadings.{IsReadToEnd}, proofs.Booleans.{either, or_right}, proofs.MatchLaws.{AllDiffer, all_both, one_if, zero_left, zero_right, zero_both}, proofs.PlannedReadings.{any_is, any_of}, proofs.RecordMatches.{all_read}}
 
 -- ---- one line
 
@@ -25,11 +25,6 @@ a_reading : (r : ReadingValue) → is_read r ≡ true → (found : List EntryVal
 a_reading (Read found) is = (found, refl)
 a_reading Refused is = absurd (cc)
 a_reading Unended is = absurd (cc)
-
-a_walk : (w : Walked) → is_whole w ≡ true → (found : List (List ℕ)) × (w ≡ Whole found)
-a_walk (Whole found) is = (found, refl)
-a_walk (Open found) is = absurd (cc)
-a_walk (Stopped fault found) is = absurd (cc)
 
 -- ---- readings that come to their ends
 
@@ -70,6 +65,12 @@ reads_here parts i within some = any_left parts i within ∙ ap (λ b. b || list
 -- ---- a node
 
 module _ (node : Node) (xs : List ExchangeValue) (f : NodeFacts) where
+  abbrev untold : List LineValue
+  untold = untold_lines node xs (length f.records) f.verdicts
+
+  abbrev told_records : Bool
+  told_records = tells_records node (length f.records) f.verdicts
+
   abbrev answers : List AnswerValue
   answers = answers_of node.eid.value xs
 
@@ -89,16 +90,16 @@ module _ (node : Node) (xs : List ExchangeValue) (f : NodeFacts) where
   pool = line (tells_its_pool node xs) (codes "pool")
 
   abbrev records : List LineValue
-  records = line (tells_records node f.walks) (codes "records")
+  records = line told_records (codes "records")
 
   abbrev some_read : Bool
   some_read = list_any is_read (readings (parts_of node.eid.value xs))
 
-  pub untold_all : AllDiffer (untold_lines node xs f.walks)
+  pub untold_all : AllDiffer untold
   untold_all =
       all_both eid (routes ++ (pool ++ records)) (one_if (list_any tells_eid answers) (untold_text (name_bytes node.name) (codes "eid")))
       (all_both routes (pool ++ records) (one_if (tells_routes node xs) (untold_text (name_bytes node.name) (codes "routes")))
-      (all_both pool records (one_if (tells_its_pool node xs) (untold_text (name_bytes node.name) (codes "pool"))) (one_if (tells_records node f.walks) (untold_text (name_bytes node.name) (codes "records")))))
+      (all_both pool records (one_if (tells_its_pool node xs) (untold_text (name_bytes node.name) (codes "pool"))) (one_if told_records (untold_text (name_bytes node.name) (codes "records")))))
 
   pool_is : tells_its_pool node xs ≡ true → size ≢ 0 → SomeTellsPool answers
   pool_is told planned = elim (either (size == 0) (list_any tells_pool answers) told) [
@@ -112,21 +113,19 @@ module _ (node : Node) (xs : List ExchangeValue) (f : NodeFacts) where
       let (found, same) = a_reading r is in
       (found, subst (λ (q : ReadingValue). IsAmong q (readings (parts_of node.eid.value xs))) same among)
 
-  records_are : tells_records node f.walks ≡ true → IsTrue (is_some node.terminus) → (found : List (List ℕ)) × IsAmong (Whole found) f.walks
-  records_are told terminus =
-      let (w, among, is) = any_is is_whole f.walks (so_then (is_some node.terminus) (list_any is_whole f.walks) told terminus) in
-      let (found, same) = a_walk w is in
-      (found, subst (λ (v : Walked). IsAmong v f.walks) same among)
+  records_are : AreRecorded f → told_records ≡ true → IsTrue (is_some node.terminus) → (place : ℕ) → place < length f.records → IsReadToEnd f.records f.parts place
+  records_are recorded told terminus =
+      (all_read f recorded).0 (eqb-true (missing_count f.verdicts (length f.records)) 0 (so_then (is_some node.terminus) (missing_count f.verdicts (length f.records) == 0) told terminus))
 
-  pub tells_all : difference_count (untold_lines node xs f.walks) ≡ 0 → TellsAll node xs f
-  tells_all none =
+  pub tells_all : AreRecorded f → difference_count untold ≡ 0 → TellsAll node xs f
+  tells_all recorded none =
       let later = zero_right eid (routes ++ (pool ++ records)) none in
       let last = zero_right routes (pool ++ records) later in
       record {
         eid = any_is tells_eid answers (zero_told (list_any tells_eid answers) (untold_text (name_bytes node.name) (codes "eid")) (zero_left eid (routes ++ (pool ++ records)) none));
         routes = routes_are (zero_told (tells_routes node xs) (untold_text (name_bytes node.name) (codes "routes")) (zero_left routes (pool ++ records) later));
         pool = pool_is (zero_told (tells_its_pool node xs) (untold_text (name_bytes node.name) (codes "pool")) (zero_left pool records last));
-        records = records_are (zero_told (tells_records node f.walks) (untold_text (name_bytes node.name) (codes "records")) (zero_right pool records last));
+        records = records_are recorded (zero_told told_records (untold_text (name_bytes node.name) (codes "records")) (zero_right pool records last));
       }
 
   routes_of : (IsTrue (is_bridge node.kind) → (found : List EntryValue) × IsAmong (Read found) (readings (parts_of node.eid.value xs))) → tells_routes node xs ≡ true
@@ -141,26 +140,27 @@ module _ (node : Node) (xs : List ExchangeValue) (f : NodeFacts) where
           let (a, among, is) = gives (λ empty. (let one : (size == 0) ≡ true = eq-eqb size 0 empty in cc)) in
           or_right (size == 0) (list_any tells_pool answers) (any_of tells_pool answers a among is))
 
-  records_of : (IsTrue (is_some node.terminus) → (found : List (List ℕ)) × IsAmong (Whole found) f.walks) → tells_records node f.walks ≡ true
-  records_of gives = then_so (is_some node.terminus) (list_any is_whole f.walks) (λ terminus. (let (found, among) = gives terminus in any_of is_whole f.walks (Whole found) among refl))
+  records_of : AreRecorded f → (IsTrue (is_some node.terminus) → (place : ℕ) → place < length f.records → IsReadToEnd f.records f.parts place) → told_records ≡ true
+  records_of recorded gives =
+      then_so (is_some node.terminus) (missing_count f.verdicts (length f.records) == 0) (λ terminus. eq-eqb (missing_count f.verdicts (length f.records)) 0 ((all_read f recorded).1 (gives terminus)))
 
-  pub nothing_untold : TellsAll node xs f → difference_count (untold_lines node xs f.walks) ≡ 0
-  nothing_untold told =
+  pub nothing_untold : AreRecorded f → TellsAll node xs f → difference_count untold ≡ 0
+  nothing_untold recorded told =
       zero_both eid (routes ++ (pool ++ records)) (told_zero (list_any tells_eid answers) (untold_text (name_bytes node.name) (codes "eid")) (any_of tells_eid answers told.eid.0 told.eid.1 told.eid.2))
       (zero_both routes (pool ++ records) (told_zero (tells_routes node xs) (untold_text (name_bytes node.name) (codes "routes")) (routes_of told.routes))
       (zero_both pool records (told_zero (tells_its_pool node xs) (untold_text (name_bytes node.name) (codes "pool")) (pool_of told.pool))
-      (told_zero (tells_records node f.walks) (untold_text (name_bytes node.name) (codes "records")) (records_of told.records))))
+      (told_zero told_records (untold_text (name_bytes node.name) (codes "records")) (records_of recorded told.records))))
 
 -- ---- the lines that are wanted
 
 pub wanted_is : (complete : Bool) (untold : List LineValue) → difference_count (wanted_lines complete untold) ≡ 0 → complete ≡ true → difference_count untold ≡ 0
-wanted_is true untold none wanted = none
-wanted_is false untold none wanted = absurd (cc)
+wanted_is true ls none wanted = none
+wanted_is false ls none wanted = absurd (cc)
 
 pub wanted_of : (complete : Bool) (untold : List LineValue) → (complete ≡ true → difference_count untold ≡ 0) → difference_count (wanted_lines complete untold) ≡ 0
-wanted_of true untold gives = gives refl
-wanted_of false untold gives = refl
+wanted_of true ls gives = gives refl
+wanted_of false ls gives = refl
 
 pub wanted_all : (complete : Bool) (untold : List LineValue) → AllDiffer untold → AllDiffer (wanted_lines complete untold)
-wanted_all true untold all = all
-wanted_all false untold all = refl
+wanted_all true ls all = all
+wanted_all false ls all = refl

@@ -2,7 +2,7 @@
 use Rattle.std.{proofs.Common.{◌≡◌, ◌==◌, ℕ, ◌<◌, Bool, true, List, [], ◌∷◌, ◌++◌, refl, ap, sym, ◌∙◌, subst, inl, inr, arith, Some}, specs.Prelude.{Option, slice_get}, proofs.lemmas.Bool.{cases_lt, eqb-true, eq-eqb}, proofs.lemmas.Option.{same_Some, slice_get_within}}
 use Rattle.pdr_repository.specs.Records.{Entry}
 use Rattle.plan_values.{specs.declared.nodes.Node.{Node}, specs.declared.plan.Plan.{Plan}, specs.declared.certificate.Certificate.{Certificate}}
-use Rattle.audited_captures.{specs.Asked.{unanswered}, specs.Audits.{AreAudited, AreOthers, Heard, NodeFacts, AreFacts, AreLines, Empty, More, AreNodeLines, difference_count, has_compared}, specs.Lines.{LineValue}, specs.Matching.{SaysAsPlanned, TellsAll, IsCompared, ArePlanned, AuditMatches, MatchesAudit}, specs.Refusals.{refused_lines}, specs.declared.refusals.Refusal.{Refusal}, specs.Strangers.{HasNoStrangers}, specs.declared.sums.Sum.{Sum}, specs.Talk.{AreAllAsked, AreAllOwned}, specs.Untold.{wanted_lines}, proofs.Booleans.{both, both_left, both_right}, proofs.ComparedLaws.{nodes_compare}, proofs.LineLaws.{Quiet, all_quiet, compares_left, compares_right, compares_either, none_compared, quiet_both}, proofs.MatchLaws.{AllDiffer, all_both, zero_left, zero_right, zero_both}, proofs.NodeLaws.{nodes_match}, proofs.StrangerLaws.{no_strangers, no_stranger_told, strangers_differ}, proofs.TalkLaws.{all_asked, all_owned, none_misowned, none_unasked, owners_differ, talk_quiet}, proofs.TrafficLaws.{traffic_matches, traffic_differs}, proofs.UntoldLaws.{nothing_untold, tells_all, untold_all, wanted_all, wanted_is, wanted_of}}
+use Rattle.audited_captures.{specs.Asked.{unanswered}, specs.Audits.{AreAudited, AreOthers, Heard, NodeFacts, AreFacts, AreLines, Empty, More, AreNodeLines}, specs.Counting.{difference_count, has_compared}, specs.Lines.{LineValue}, specs.Matching.{SaysAsPlanned, TellsAll, IsCompared, ArePlanned, AuditMatches, MatchesAudit}, specs.Refusals.{refused_lines}, specs.declared.refusals.Refusal.{Refusal}, specs.Strangers.{HasNoStrangers}, specs.declared.sums.Sum.{Sum}, specs.Talk.{AreAllAsked, AreAllOwned}, specs.Untold.{wanted_lines}, proofs.Booleans.{both, both_left, both_right}, proofs.ComparedLaws.{nodes_compare}, proofs.LineLaws.{Quiet, all_quiet, compares_left, compares_right, compares_either, none_compared, quiet_both}, proofs.MatchLaws.{AllDiffer, all_both, zero_left, zero_right, zero_both}, proofs.NodeLaws.{nodes_match}, proofs.StrangerLaws.{no_strangers, no_stranger_told, strangers_differ}, proofs.TalkLaws.{all_asked, all_owned, none_misowned, none_unasked, owners_differ, talk_quiet}, proofs.TrafficLaws.{traffic_matches, traffic_differs}, proofs.UntoldLaws.{nothing_untold, tells_all, untold_all, wanted_all, wanted_is, wanted_of}}
 use Rattle.heard_captures.specs.Messages.{MessageValue}
 use Rattle.bus_captures.specs.Values as captured
 
@@ -14,9 +14,9 @@ IsSaidAt plan complete rs h n node =
 one_node : (plan : Plan) (complete : Bool) (rs : List (List Entry)) (h : Heard) (n : ℕ) (lines wants : List LineValue) (node : Node) → AreNodeLines plan rs h n lines wants → difference_count lines ≡ 0
     → (complete ≡ true → difference_count wants ≡ 0) → slice_get plan.nodes.items n ≡ Some node → IsSaidAt plan complete rs h n node
 one_node plan complete rs h n lines wants node one zero told at =
-    let said = (nodes_match one.node h.exchanges one.facts (unanswered one.node.eid.value h.words h.exchanges one.facts.parts one.facts.tids)).0 (ap difference_count (sym one.tell) ∙ zero) in
+    let said = (nodes_match one.node h.exchanges one.facts (unanswered one.node.eid.value h.words h.exchanges one.facts.parts one.facts.tids) one.are.recorded).0 (ap difference_count (sym one.tell) ∙ zero) in
     subst (λ (m : Node). IsSaidAt plan complete rs h n m) (same_Some one.node node (sym one.at ∙ at))
-    (one.facts, one.are, said, λ wanted. tells_all one.node h.exchanges one.facts (ap difference_count (sym one.wants) ∙ told wanted))
+    (one.facts, one.are, said, λ wanted. tells_all one.node h.exchanges one.facts one.are.recorded (ap difference_count (sym one.wants) ∙ told wanted))
 
 each_node : (plan : Plan) (complete : Bool) (rs : List (List Entry)) (h : Heard) {count : ℕ} {lines untold : List LineValue} {compared : ℕ} → AreLines plan rs h count lines untold compared
     → difference_count lines ≡ 0 → (complete ≡ true → difference_count untold ≡ 0) → (n : ℕ) (node : Node) → n < count → slice_get plan.nodes.items n ≡ Some node → IsSaidAt plan complete rs h n node
@@ -34,7 +34,7 @@ no_node : (plan : Plan) (rs : List (List Entry)) (h : Heard) {count : ℕ} {line
 no_node plan rs h Empty says = refl
 no_node plan rs h (More m lines untold more wants compared are one) says =
     zero_both lines more (no_node plan rs h are says)
-    (ap difference_count one.tell ∙ (nodes_match one.node h.exchanges one.facts (unanswered one.node.eid.value h.words h.exchanges one.facts.parts one.facts.tids)).1 (says m one.node one.facts one.at one.are))
+    (ap difference_count one.tell ∙ (nodes_match one.node h.exchanges one.facts (unanswered one.node.eid.value h.words h.exchanges one.facts.parts one.facts.tids) one.are.recorded).1 (says m one.node one.facts one.at one.are))
 
 none_untold : (plan : Plan) (rs : List (List Entry)) (h : Heard) {count : ℕ} {lines untold : List LineValue} {compared : ℕ} → AreLines plan rs h count lines untold compared
     → ((n : ℕ) (node : Node) (f : NodeFacts) → slice_get plan.nodes.items n ≡ Some node → AreFacts plan rs h n node f → TellsAll node h.exchanges f)
@@ -42,7 +42,7 @@ none_untold : (plan : Plan) (rs : List (List Entry)) (h : Heard) {count : ℕ} {
 none_untold plan rs h Empty tells = refl
 none_untold plan rs h (More m lines untold more wants compared are one) tells =
     zero_both untold wants (none_untold plan rs h are tells)
-    (ap difference_count one.wants ∙ nothing_untold one.node h.exchanges one.facts (tells m one.node one.facts one.at one.are))
+    (ap difference_count one.wants ∙ nothing_untold one.node h.exchanges one.facts one.are.recorded (tells m one.node one.facts one.at one.are))
 
 untold_differ : (plan : Plan) (rs : List (List Entry)) (h : Heard) {count : ℕ} {lines untold : List LineValue} {compared : ℕ} → AreLines plan rs h count lines untold compared → AllDiffer untold
 untold_differ plan rs h Empty = refl
@@ -65,7 +65,7 @@ some_node plan rs h (More m lines untold more wants compared are one) is = elim 
     (
       one.facts,
       one.are,
-      (nodes_compare one.node h.exchanges one.facts (unanswered one.node.eid.value h.words h.exchanges one.facts.parts one.facts.tids)).0 (ap has_compared (sym one.tell) ∙ last),
+      (nodes_compare one.node h.exchanges one.facts (unanswered one.node.eid.value h.words h.exchanges one.facts.parts one.facts.tids) one.are.recorded).0 (ap has_compared (sym one.tell) ∙ last),
     ),
   )
 ]
@@ -81,7 +81,7 @@ node_compared plan rs h (More m lines untold more wants compared are one) n node
       let it : node ≡ one.node = same_Some node one.node (sym here ∙ one.at) in
       let facts : AreFacts plan rs h n node one.facts = subst (λ (x : Node). AreFacts plan rs h n x one.facts) (sym it) (subst (λ k. AreFacts plan rs h k one.node one.facts) (sym same) one.are) in
       let compared : IsCompared one.node h.exchanges one.facts = subst (λ (x : Node). IsCompared x h.exchanges one.facts) it (is one.facts facts) in
-      compares_right lines more (ap has_compared one.tell ∙ (nodes_compare one.node h.exchanges one.facts (unanswered one.node.eid.value h.words h.exchanges one.facts.parts one.facts.tids)).1 compared))
+      compares_right lines more (ap has_compared one.tell ∙ (nodes_compare one.node h.exchanges one.facts (unanswered one.node.eid.value h.words h.exchanges one.facts.parts one.facts.tids) one.are.recorded).1 compared))
 ]
 
 -- ---- the lines behind those of the nodes

@@ -1,5 +1,5 @@
 -- One message more.
-use Rattle.std.{proofs.Common.{◌≡◌, ◌⊎◌, ℕ, ◌<◌, ◌+◌, List, [], ◌∷◌, ◌++◌, length, ap, sym, ◌∙◌, subst, get_or, map, take, drop, inl, inr, Bool, not, add-one, suc, zero, ◌≤◌, arith, refl}, specs.Prelude.{Option, Some, None, MatchOption}, proofs.Math.Seq.{drop-cons}, proofs.lemmas.List.{take_more, map-append}}
+use Rattle.std.{proofs.Common.{◌≡◌, ◌⊎◌, ℕ, ◌<◌, ◌+◌, List, [], ◌∷◌, ◌++◌, length, ap, sym, ◌∙◌, subst, get_or, map, take, drop, inl, inr, Bool, not, add-one, suc, zero, refl}, specs.Prelude.{Option, Some, None, MatchOption}, proofs.Math.Seq.{drop-cons}, proofs.lemmas.List.{take_more, map-append}}
 use Rattle.heard_captures.{specs.Messages.{MessageValue, message_value}, specs.declared.messages.Message.{Message}}
 use Rattle.audited_captures.{specs.Words.{WordValue, word_value, IsSaid, IsWord, IsNoWord, IsMisowned, IsNotMisowned, AddsWord, AreWords, Other, More}, specs.declared.words.Word.{Word}}
 
@@ -14,13 +14,6 @@ pub left_mapped : {A B : Type 0} (f : A → B) (items : List A) (i : ℕ) (item 
     → map f (drop i items) ≡ f item ∷ map f (drop (i + 1) items)
 left_mapped f items i item within is =
     ap (map f) (drop-cons items i item within ∙ ap (λ x. x ∷ drop (suc i) items) (sym is)) ∙ ap (λ k. f item ∷ map f (drop k items)) (sym (add-one i))
-
--- nothing is left past the end
-pub past_end : {A : Type 0} (items : List A) (i : ℕ) → length items ≤ i → drop i items ≡ []
-past_end [] zero past = refl
-past_end [] (suc i) past = refl
-past_end (x ∷ items) zero past = absurd (omega (arith, past))
-past_end (x ∷ items) (suc i) past = past_end items i (omega (arith, past))
 
 added : (ms : List MessageValue) (old new : List WordValue) (m : MessageValue) → AreWords ms old → AddsWord m old new → AreWords (ms ++ m ∷ []) new
 added ms old new m are (inl (none, same)) = subst (λ ws. AreWords (ms ++ m ∷ []) ws) (sym same) (Other ms old m are none)

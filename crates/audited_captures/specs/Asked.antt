@@ -6,7 +6,7 @@ abbrev pub is_asked_by_body : (eid responder : ℕ) → BodyValue → Bool
 is_asked_by_body eid responder (Asks command) = answered_by responder command == eid
 is_asked_by_body eid responder (AsksPart request) = responder == eid
 is_asked_by_body eid responder (Answers answer) = false
-is_asked_by_body eid responder (TellsPart bytes) = false
+is_asked_by_body eid responder (TellsPart told) = false
 is_asked_by_body eid responder AsksTid = responder == eid
 is_asked_by_body eid responder (TellsTid outcome) = false
 

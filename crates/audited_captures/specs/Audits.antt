@@ -1,9 +1,9 @@
 -- What captured devices said, laid beside a plan.
-use Rattle.std.{specs.Prelude.{◌≡◌, ℕ, ◌+◌, ◌<◌, ◌==◌, ◌&&◌, Bool, List, [], ◌∷◌, ◌++◌, length, codes, slice_get, Option, Some, Result, if◌then◌else◌}, specs.Fmt.{decimal}, specs.List.{flat_map, filter, list_any}}
+use Rattle.std.{specs.Prelude.{◌≡◌, ℕ, ◌+◌, ◌<◌, ◌==◌, ◌&&◌, Bool, List, [], ◌∷◌, ◌++◌, length, codes, slice_get, Option, Some, Result, if◌then◌else◌}, specs.Fmt.{decimal}, specs.List.{flat_map}}
 use Rattle.bus_captures.{specs.Values.{EntryValue}, specs.declared.capture.End.{End}}
 use Rattle.heard_captures.{specs.Hearing.{AreHeard}, specs.Messages.{MessageValue}}
 use Rattle.plan_values.{specs.NodeValues.{name_bytes}, specs.declared.certificate.Certificate.{Certificate}, specs.declared.plan.Plan.{Plan}, specs.declared.nodes.Node.{Node}}
-use Rattle.audited_captures.{specs.Words.{WordValue, AreWords}, specs.Exchanges.{ExchangeValue, AreExchanges}, specs.Asked.{unanswered}, specs.Readings.{parts_of}, specs.Lines.{LineValue, silence, differs, compares}, specs.RecordLines.{walks_lines}, specs.RecordParts.{RecordPartValue, AreRecordParts}, specs.Refusals.{AreRefusals, refused_lines}, specs.declared.refusals.Refusal.{Refusal}, specs.Strangers.{AreStrangerLines}, specs.Sums.{sum_words}, specs.declared.sums.Sum.{Sum}, specs.Talk.{AreTalkLines, AreOwnerLines}, specs.Tids.{AreTids, planned_tid, tid_lines}, specs.Untold.{untold_lines, wanted_lines}, specs.Routes.{routes_lines}, specs.TrafficLines.{IsTraffic}, specs.Walking.{Walked, AreWalks}, specs.Identities.{answers_of, eid_lines, pool_lines, first_of, size_of, kind_number}}
+use Rattle.audited_captures.{specs.Words.{WordValue, AreWords}, specs.Exchanges.{ExchangeValue, AreExchanges}, specs.Asked.{unanswered}, specs.Readings.{parts_of}, specs.Lines.{LineValue, silence}, specs.Counting.{difference_count, has_compared}, specs.RecordLines.{AreRecordLines, one_if}, specs.RecordParts.{RecordPartValue, AreRecordParts}, specs.RecordSteps.{AreAllVerdicts}, specs.declared.record_readings.Verdict.{Verdict}, specs.Refusals.{AreRefusals, refused_lines}, specs.declared.refusals.Refusal.{Refusal}, specs.Strangers.{AreStrangerLines}, specs.Sums.{sum_words}, specs.declared.sums.Sum.{Sum}, specs.Talk.{AreTalkLines, AreOwnerLines}, specs.Tids.{AreTids, planned_tid, tid_lines}, specs.Untold.{untold_lines, wanted_lines}, specs.Routes.{routes_lines}, specs.TrafficLines.{IsTraffic}, specs.Identities.{answers_of, eid_lines, pool_lines, first_of, size_of, kind_number}}
 use Rattle.net_tables.specs.Repositories.{records_by_place}
 use Rattle.pdr_repository.specs.Records.{Entry}
 use Rattle.plan_exports.{specs.PlannedTables.{HasLawfulRows}, specs.TableAnswers.{AreEntriesOf}}
@@ -52,27 +52,32 @@ abbrev pub heard_of : List WordValue → List ExchangeValue → Heard
 heard_of words exchanges = record { words = words; exchanges = exchanges }
 
 -- what is planned and what was captured of a node: the entries of its routing table, its records by place, what it
--- answered about records and the walks that this makes, and what it answered of its terminus ID
+-- answered about records with the verdicts on that and the lines that tell it, and what it answered of its terminus ID
 pub record NodeFacts : Type 0 where
   pub planned : List routes.EntryValue
   pub records : List Entry
   pub parts : List RecordPartValue
-  pub walks : List Walked
+  pub verdicts : List Verdict
+  pub recorded : List LineValue
   pub tids : List (Result ℕ ℕ)
+
+-- each answer about records was judged, and the lines tell what was found
+pub record AreRecorded (f : NodeFacts) : Type 0 where
+  pub judged : AreAllVerdicts f.records f.parts f.verdicts
+  pub told : AreRecordLines f.records f.parts f.verdicts f.recorded
 
 pub record AreFacts (plan : Plan) (repositories : List (List Entry)) (h : Heard) (n : ℕ) (node : Node)
     (f : NodeFacts) : Type 0 where
   pub plans : AreEntriesOf plan n f.planned
   pub stored : slice_get repositories n ≡ Some f.records
   pub answered : AreRecordParts node.eid.value h.words f.parts
-  pub walked : AreWalks f.parts f.walks
+  pub recorded : AreRecorded f
   pub identified : AreTids node.eid.value h.words f.tids
 
 -- what was told of a node's terminus: of its ID, and of its records
 abbrev pub told_lines_of : Node → NodeFacts → List LineValue
 told_lines_of node f =
-    tid_lines (name_bytes node.name) (planned_tid node) f.tids
-    ++ walks_lines (name_bytes node.name) f.records f.walks
+    tid_lines (name_bytes node.name) (planned_tid node) f.tids ++ f.recorded
 
 -- the lines of the node at an index, and those of what it didn't tell
 pub record AreNodeLines (plan : Plan) (repositories : List (List Entry)) (h : Heard) (n : ℕ)
@@ -84,21 +89,11 @@ pub record AreNodeLines (plan : Plan) (repositories : List (List Entry)) (h : He
   pub tell : lines
       ≡ lines_of_node node facts.planned h.exchanges
       (unanswered node.eid.value h.words h.exchanges facts.parts facts.tids) (told_lines_of node facts)
-  pub wants : untold ≡ untold_lines node h.exchanges facts.walks
-
-abbrev pub difference_count : List LineValue → ℕ
-difference_count lines = length (filter differs lines)
-
--- something was laid beside the plan
-abbrev pub has_compared : List LineValue → Bool
-has_compared lines = list_any compares lines
+  pub wants : untold ≡ untold_lines node h.exchanges (length facts.records) facts.verdicts
 
 -- something was laid beside the plan, and nothing differs
 abbrev pub is_match : List LineValue → Bool
 is_match lines = difference_count lines == 0 && has_compared lines
-
-abbrev pub one_if : Bool → ℕ
-one_if b = if b then 1 else 0
 
 -- the lines of so many nodes, in the plan's order, those of what they didn't tell, and of how many of these nodes some
 -- line tells of a comparison

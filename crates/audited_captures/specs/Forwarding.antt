@@ -6,7 +6,7 @@ use Rattle.plan_values.{specs.declared.certificate.Certificate.{Certificate}, sp
 use Rattle.net_rules.specs.Rules.{Accepts}
 use Rattle.net_tables.{specs.Routing.{rows_of}, specs.Tables.{table_row}}
 use Rattle.plan_exports.{specs.Neighbors.{neighbor_of}, specs.TableAnswers.{AreEntriesOf}}
-use Rattle.audited_captures.{specs.AsPlanned.{IsAmong}, specs.Audits.{AreAudited, difference_count}, specs.Lines.{LineValue}, specs.Readings.{ReadingValue, Read, parts_of, readings}, specs.Routes.{unlike_lines}, specs.declared.sums.Sum.{Sum}}
+use Rattle.audited_captures.{specs.AsPlanned.{IsAmong}, specs.Audits.{AreAudited}, specs.Counting.{difference_count}, specs.Lines.{LineValue}, specs.Readings.{ReadingValue, Read, parts_of, readings}, specs.Routes.{unlike_lines}, specs.declared.sums.Sum.{Sum}}
 use Rattle.bus_captures.specs.Values as captured
 
 -- e is one of the entry's endpoint IDs; an entry that reaches past 255 covers those up to 255

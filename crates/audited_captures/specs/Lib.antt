@@ -3,13 +3,14 @@ pub mod Exchanges
 pub mod Readings
 pub mod Turns
 pub mod RecordParts
-pub mod Walking
-pub mod WalkTurns
+pub mod RecordPlans
+pub mod RecordReadings
+pub mod RecordSteps
 pub mod Lines
 pub mod Failures
 pub mod Routes
+pub mod Counting
 pub mod RecordLines
-pub mod Walks
 pub mod Repositories
 pub mod Answers
 pub mod Identities

@@ -1,9 +1,8 @@
 -- What it means that devices said what is planned.
-use Rattle.std.specs.Prelude.{◌≡◌, ◌≢◌, ◌⊎◌, ◌↔◌, ◌||◌, ℕ, ⊤, Bool, IsTrue, true, List, Option, None, Some, Result, Ok, Err, slice_get}
+use Rattle.std.specs.Prelude.{◌≡◌, ◌≢◌, ◌⊎◌, ◌↔◌, ◌||◌, ◌<◌, ℕ, ⊤, Bool, IsTrue, true, List, Option, None, Some, Result, Ok, Err, length, slice_get}
 use Rattle.mctp_control.{specs.RouteEntries.{EntryValue}, specs.Responses.{AnswerValue, EidSet, EidTold, PoolTold, EntriesTold, Failed}}
 use Rattle.plan_values.{specs.declared.certificate.Certificate.{Certificate}, specs.declared.nodes.Node.{Node}, specs.declared.plan.Plan.{Plan}}
-use Rattle.audited_captures.{specs.AsPlanned.{IsAmong, AreAsPlanned}, specs.Audits.{AreAudited, NodeFacts, AreFacts, difference_count, has_compared, is_match, lines_of_node, told_lines_of}, specs.Exchanges.{ExchangeValue}, specs.Identities.{answers_of, tells_eid, tells_pool, first_of, size_of, kind_number}, specs.Lines.{LineValue}, specs.Packets.{NumberedPacket}, specs.Strangers.{HasNoStrangers}, specs.declared.sums.Sum.{Sum}, specs.Traffic.{IsPlanned}, specs.TrafficLines.{IsTraffic}, specs.Walking.{Walked, Whole, Open, Stopped}, specs.Failures.{fails}, specs.Talk.{AreAllAsked, AreAllOwned}, specs.Tids.{tells_tid, planned_tid}, specs.Untold.{is_bridge, is_some}, specs.Readings.{PartValue, ReadingValue, Read, Refused, Unended, parts_of, readings}}
-use Rattle.pdr_repository.specs.Records.{Entry, bytes_by_place}
+use Rattle.audited_captures.{specs.AsPlanned.{IsAmong, AreAsPlanned}, specs.Audits.{AreAudited, NodeFacts, AreFacts, AreRecorded, is_match, lines_of_node, told_lines_of}, specs.Exchanges.{ExchangeValue}, specs.Identities.{answers_of, tells_eid, tells_pool, first_of, size_of, kind_number}, specs.Lines.{LineValue}, specs.Packets.{NumberedPacket}, specs.Strangers.{HasNoStrangers}, specs.declared.sums.Sum.{Sum}, specs.Traffic.{IsPlanned}, specs.TrafficLines.{IsTraffic}, specs.Counting.{difference_count, has_compared}, specs.RecordParts.{RecordPartValue}, specs.RecordReadings.{AreToldAsPlanned, IsComparedAt, IsReadToEnd}, specs.Failures.{fails}, specs.Talk.{AreAllAsked, AreAllOwned}, specs.Tids.{tells_tid, planned_tid}, specs.Untold.{is_bridge, is_some}, specs.Readings.{PartValue, ReadingValue, Read, Refused, Unended, parts_of, readings}}
 use Rattle.bus_captures.specs.Values as captured
 use Rattle.audited_captures.specs.declared.failures.Topic.TheVariants as topic
 
@@ -30,12 +29,6 @@ HasPlannedPool first size (EidTold found status medium) = ⊤
 HasPlannedPool first size (EntriesTold next entries) = ⊤
 HasPlannedPool first size (Failed command code) = ⊤
 
--- a walk came to its end with the planned records, in the planned order
-abbrev pub IsWalkedAsPlanned : List Entry → Walked → Type 0
-IsWalkedAsPlanned records (Whole found) = found ≡ bytes_by_place records
-IsWalkedAsPlanned records (Open found) = ⊥
-IsWalkedAsPlanned records (Stopped fault found) = ⊥
-
 -- some answer tells an endpoint ID
 abbrev pub SomeTellsEid : List AnswerValue → Type 0
 SomeTellsEid answers = (a : AnswerValue) × IsAmong a answers × IsTrue (tells_eid a)
@@ -58,7 +51,7 @@ abbrev pub SomeTellsTid : List (Result ℕ ℕ) → Type 0
 SomeTellsTid tids = (t : Result ℕ ℕ) × IsAmong t tids × IsTrue (tells_tid t)
 
 -- All that a node said is planned: each reading of its routing table, each answer that tells its endpoint ID, its type,
--- its pool or its terminus ID, and each walk through its records. And it refused nothing for good: no answer about its
+-- its pool or its terminus ID, and each answer about its records. And it refused nothing for good: no answer about its
 -- routing table fails, one to Set or Get Endpoint ID only where another tells its endpoint ID, one to Allocate Endpoint
 -- IDs only where another tells its pool, or none is planned, and one to GetTID only where another tells its terminus
 -- ID, or no terminus is planned.
@@ -77,7 +70,7 @@ pub record SaysAsPlanned (node : Node) (xs : List ExchangeValue) (f : NodeFacts)
   pub tids : (t : Result ℕ ℕ) → IsAmong t f.tids → HasPlannedTid (planned_tid node) t
   pub tid_told : (t : Result ℕ ℕ) → IsAmong t f.tids → IsFailure t
       → SomeTellsTid f.tids ⊎ (planned_tid node ≡ None)
-  pub records : (w : Walked) → IsAmong w f.walks → IsWalkedAsPlanned f.records w
+  pub records : AreToldAsPlanned f.records f.parts
 
 -- the answer tells what is laid beside the plan: an endpoint ID, a type or a pool
 abbrev pub TellsOfPlan : AnswerValue → Type 0
@@ -92,8 +85,8 @@ abbrev pub TellsOfTid : Option ℕ → Result ℕ ℕ → Type 0
 TellsOfTid planned t = IsTrue (tells_tid t) ⊎ (IsFailure t × (planned ≢ None))
 
 -- Something that a node said was laid beside the plan: a reading of its routing table, an answer about that which
--- fails, an answer that tells its endpoint ID, its type, its pool or its terminus ID, one that refuses this, or a walk
--- through its records.
+-- fails, an answer that tells its endpoint ID, its type, its pool or its terminus ID, one that refuses this, or an
+-- answer about a record of which it is known where it begins, or that isn't planned.
 pub data IsCompared (node : Node) (xs : List ExchangeValue) (f : NodeFacts) : Type 0 where
   ByTable : (r : ReadingValue) → IsAmong r (readings (parts_of node.eid.value xs)) → IsCompared node xs f
   ByPart : (p : PartValue) → IsAmong p (parts_of node.eid.value xs) → IsTrue (fails topic.Table p.answer)
@@ -102,28 +95,30 @@ pub data IsCompared (node : Node) (xs : List ExchangeValue) (f : NodeFacts) : Ty
   ByRefusal : (a : AnswerValue) → IsAmong a (answers_of node.eid.value xs) → RefusesPlan node a
       → IsCompared node xs f
   ByTid : (t : Result ℕ ℕ) → IsAmong t f.tids → TellsOfTid (planned_tid node) t → IsCompared node xs f
-  ByWalk : (w : Walked) → IsAmong w f.walks → IsCompared node xs f
+  ByRecord : (i : ℕ) (x : RecordPartValue) → slice_get f.parts i ≡ Some x → IsComparedAt f.records f.parts i x
+      → IsCompared node xs f
 
 -- a line of a node tells of a comparison exactly where one was made
 abbrev pub NodesCompareWhereHeard : Type 0
-NodesCompareWhereHeard = (node : Node) (xs : List ExchangeValue) (f : NodeFacts) (unanswered : ℕ)
+NodesCompareWhereHeard = (node : Node) (xs : List ExchangeValue) (f : NodeFacts) (unanswered : ℕ) → AreRecorded f
     → (has_compared (lines_of_node node f.planned xs unanswered (told_lines_of node f)) ≡ true)
     ↔ IsCompared node xs f
 
 -- no line of a node tells a difference exactly where all that it said is planned
 abbrev pub NodesMatchWhereAsPlanned : Type 0
-NodesMatchWhereAsPlanned = (node : Node) (xs : List ExchangeValue) (f : NodeFacts) (unanswered : ℕ)
+NodesMatchWhereAsPlanned = (node : Node) (xs : List ExchangeValue) (f : NodeFacts) (unanswered : ℕ) → AreRecorded f
     → (difference_count (lines_of_node node f.planned xs unanswered (told_lines_of node f)) ≡ 0)
     ↔ SaysAsPlanned node xs f
 
 -- The node told all that the plan has of it: its endpoint ID, a bridge its routing table to the end, its pool where one
--- is planned, and its records to the last where a terminus is planned.
+-- is planned, and each of its records to its end where a terminus is planned.
 pub record TellsAll (node : Node) (xs : List ExchangeValue) (f : NodeFacts) : Type 0 where
   pub eid : SomeTellsEid (answers_of node.eid.value xs)
   pub routes : IsTrue (is_bridge node.kind)
       → (found : List EntryValue) × IsAmong (Read found) (readings (parts_of node.eid.value xs))
   pub pool : size_of node.pool ≢ 0 → SomeTellsPool (answers_of node.eid.value xs)
-  pub records : IsTrue (is_some node.terminus) → (found : List (List ℕ)) × IsAmong (Whole found) f.walks
+  pub records : IsTrue (is_some node.terminus) → (place : ℕ) → place < length f.records
+      → IsReadToEnd f.records f.parts place
 
 -- each of the packets is planned on the bus
 abbrev pub ArePlanned : Plan → Option ℕ → List NumberedPacket → Type 0

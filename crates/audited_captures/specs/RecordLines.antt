@@ -1,76 +1,88 @@
--- Records that walks brought, beside those of the plan.
-use Rattle.std.{specs.Prelude.{ℕ, ◌+◌, ◌==◌, ◌&&◌, Bool, true, false, List, [], ◌∷◌, ◌++◌, length, codes, find, nat_eq, Option, None, Some, unwrap_or, if◌then◌else◌}, specs.Fmt.{decimal}, specs.List.{flat_map, list_any}, specs.Cmp.Lexicographic.{pointwise}}
-use Rattle.pdr_repository.{specs.Faults.{code_of}, specs.Records.{Entry, handle_in}, specs.declared.walk_fault.WalkFault.{WalkFault}}
-use Rattle.audited_captures.{specs.Lines.{LineValue, difference, note, differences_or}, specs.Walking.{Walked, Whole, Open, Stopped}}
+-- What is told of a terminus' records, by the verdicts on its answers.
+use Rattle.std.{specs.Prelude.{◌≡◌, ◌⊎◌, ℕ, zero, suc, ◌+◌, ◌==◌, ◌&&◌, ◌||◌, Bool, not, true, false, List, [], ◌∷◌, ◌++◌, length, if◌then◌else◌}, specs.List.{filter, list_any}}
+use Rattle.pdr_repository.specs.Records.{Entry}
+use Rattle.audited_captures.{specs.Counting.{difference_count, has_compared}, specs.Lines.{LineValue, silence}, specs.RecordParts.{RecordPartValue}, specs.RecordReadings.{begins_walk}, specs.declared.record_readings.Verdict.{Verdict}}
+use Rattle.audited_captures.specs.declared.record_readings.Verdict.TheVariants as verdict
 
--- the number, from k on, of the first byte in which two records differ; the shorter has no byte where it ends
-abbrev pub unlike_from : ℕ → List ℕ → List ℕ → Option ℕ
-unlike_from k [] [] = None
-unlike_from k [] (y ∷ ys) = Some k
-unlike_from k (x ∷ xs) [] = Some k
-unlike_from k (x ∷ xs) (y ∷ ys) = if x == y then unlike_from (k + 1) xs ys else Some k
+-- it tells a difference
+abbrev pub is_fault : Verdict → Bool
+is_fault verdict.Unknown = false
+is_fault verdict.Refused = false
+is_fault (verdict.Reads at is_end) = false
+is_fault (verdict.Extra handle) = true
+is_fault (verdict.Differs at f) = true
 
-abbrev pub record_words : List ℕ → ℕ → List ℕ → LineValue
-record_words name handle words = difference (name ++ (codes " record " ++ (decimal handle ++ words)))
+-- something was laid beside the plan
+abbrev pub is_judged : Verdict → Bool
+is_judged verdict.Unknown = false
+is_judged verdict.Refused = true
+is_judged (verdict.Reads at is_end) = true
+is_judged (verdict.Extra handle) = true
+is_judged (verdict.Differs at f) = true
 
-abbrev pub line_if_unlike_at : List ℕ → ℕ → Option ℕ → List LineValue
-line_if_unlike_at name handle None = []
-line_if_unlike_at name handle (Some k) = record_words name handle (codes " differs byte " ++ decimal k) ∷ []
+-- the record at a place was read to its end, as planned
+abbrev pub reads_end : (place : ℕ) → Verdict → Bool
+reads_end place verdict.Unknown = false
+reads_end place verdict.Refused = false
+reads_end place (verdict.Reads at is_end) = is_end && at == place
+reads_end place (verdict.Extra handle) = false
+reads_end place (verdict.Differs at f) = false
 
-abbrev pub line_of_found : List ℕ → List ℕ → Option Entry → List LineValue
-line_of_found name found None = record_words name (handle_in found) (codes " extra") ∷ []
-line_of_found name found (Some e) = line_if_unlike_at name (handle_in found) (unlike_from 0 e.bytes found)
+-- something that was told of it differs
+abbrev pub differs_at : (place : ℕ) → Verdict → Bool
+differs_at place verdict.Unknown = false
+differs_at place verdict.Refused = false
+differs_at place (verdict.Reads at is_end) = false
+differs_at place (verdict.Extra handle) = false
+differs_at place (verdict.Differs at f) = at == place
 
--- what is told of a record that was brought: the plan has none of its handle, or another one
-abbrev pub found_lines : List ℕ → List Entry → List ℕ → List LineValue
-found_lines name planned found = line_of_found name found (find (λ e. e.handle == handle_in found) planned)
+abbrev pub is_read : List Verdict → (place : ℕ) → Bool
+is_read verdicts place = list_any (reads_end place) verdicts
 
-abbrev pub is_found : List (List ℕ) → Entry → Bool
-is_found found e = list_any (λ bytes. handle_in bytes == e.handle) found
+-- it wasn't, and no difference in it was told
+abbrev pub is_unread : List Verdict → (place : ℕ) → Bool
+is_unread verdicts place = not (is_read verdicts place || list_any (differs_at place) verdicts)
 
--- what is told of a planned record: none of its handle was brought
-abbrev pub missing_lines : List ℕ → List (List ℕ) → Entry → List LineValue
-missing_lines name found e = if is_found found e then [] else record_words name e.handle (codes " missing") ∷ []
+abbrev pub one_if : Bool → ℕ
+one_if b = if b then 1 else 0
 
-abbrev pub unlike_records : List ℕ → List Entry → List (List ℕ) → List LineValue
-unlike_records name planned found = flat_map (found_lines name planned) found
+abbrev pub fault_count : List Verdict → ℕ
+fault_count verdicts = length (filter is_fault verdicts)
 
--- the records are the planned ones, in the planned order
-abbrev pub are_planned : List Entry → List (List ℕ) → Bool
-are_planned [] [] = true
-are_planned [] (f ∷ fs) = false
-are_planned (e ∷ es) [] = false
-are_planned (e ∷ es) (f ∷ fs) = pointwise nat_eq e.bytes f && are_planned es fs
+-- how many of the first numbers pass
+abbrev pub count_below : (ℕ → Bool) → ℕ → ℕ
+count_below test zero = 0
+count_below test (suc k) = count_below test k + one_if (test k)
 
-abbrev pub records_match : List ℕ → ℕ → LineValue
-records_match name count = note (name ++ (codes " records match " ++ decimal count))
+-- how many of the first records are so
+abbrev pub unread_count : List Verdict → (places : ℕ) → ℕ
+unread_count verdicts places = count_below (is_unread verdicts) places
 
--- each record was brought as planned, but one in another's place
-abbrev pub order_line : List ℕ → LineValue
-order_line name = difference (name ++ codes " records order differs")
+-- how many of them weren't read to their end
+abbrev pub missing_count : List Verdict → (places : ℕ) → ℕ
+missing_count verdicts places = count_below (λ place. not (is_read verdicts place)) places
 
-abbrev pub open_line : List ℕ → ℕ → LineValue
-open_line name count = difference (name ++ (codes " records open " ++ decimal count))
+-- A difference for each answer that tells one, and where a walk began, for each other record that wasn't read.
+abbrev pub told_differences : List Entry → List RecordPartValue → List Verdict → ℕ
+told_differences records parts verdicts =
+    fault_count verdicts + (if list_any begins_walk parts then unread_count verdicts (length records) else 0)
 
--- with the code of why a walker refuses the answer
-abbrev pub stopped_line : List ℕ → WalkFault → ℕ → LineValue
-stopped_line name fault count =
-    difference (name ++ (codes " records stopped " ++ (unwrap_or (code_of fault) [] ++ (codes " " ++ decimal count))))
+-- where something was compared
+abbrev pub record_differences : List Entry → List RecordPartValue → List Verdict → ℕ
+record_differences records parts verdicts =
+    if list_any is_judged verdicts then told_differences records parts verdicts else 0
 
-abbrev pub whole_lines : List ℕ → List Entry → List (List ℕ) → List LineValue
-whole_lines name planned found =
-    if are_planned planned found then records_match name (length found) ∷ []
-    else differences_or (order_line name)
-    (unlike_records name planned found ++ flat_map (missing_lines name found) planned)
+-- so many lines were added, which all tell a difference
+abbrev pub AddsDifferences : (old new : List LineValue) → ℕ → Type 0
+AddsDifferences old new count =
+    (length new ≡ length old + count) × (difference_count new ≡ difference_count old + count)
 
--- What is told of a walk. One that came to no end says nothing of the records that it didn't bring.
-abbrev pub walk_lines : List ℕ → List Entry → Walked → List LineValue
-walk_lines name planned (Whole found) = whole_lines name planned found
-walk_lines name planned (Open found) =
-    unlike_records name planned found ++ open_line name (length found) ∷ []
-walk_lines name planned (Stopped fault found) =
-    unlike_records name planned found ++ stopped_line name fault (length found) ∷ []
+-- a remark was added, or none
+abbrev pub IsRemarked : (old new : List LineValue) → Type 0
+IsRemarked old new = (new ≡ old) ⊎ ((text : List ℕ) × (new ≡ old ++ silence text ∷ []))
 
--- of all walks
-abbrev pub walks_lines : List ℕ → List Entry → List Walked → List LineValue
-walks_lines name planned walks = flat_map (walk_lines name planned) walks
+-- the lines tell so many differences, and they tell of a comparison where one was made
+pub record AreRecordLines (records : List Entry) (parts : List RecordPartValue) (verdicts : List Verdict)
+    (lines : List LineValue) : Type 0 where
+  pub counted : difference_count lines ≡ record_differences records parts verdicts
+  pub compared : has_compared lines ≡ list_any is_judged verdicts

@@ -1,20 +1,21 @@
 -- Messages that were heard, by who asked whom: control messages (DSP0236, "MCTP control message format"), requests for
 -- parts of records with their answers (DSP0248, GetPDR), and for terminus IDs (DSP0240, GetTID).
-use Rattle.std.specs.Prelude.{◌≡◌, ◌⊎◌, ℕ, Bool, not, true, false, List, [], ◌∷◌, ◌++◌, Result}
+use Rattle.std.specs.Prelude.{◌≡◌, ◌⊎◌, ℕ, Bool, not, true, false, List, [], ◌∷◌, ◌++◌, Option, MatchOption, option_map, Result}
 use Rattle.mctp_transport.specs.Wire.{Spells}
 use Rattle.mctp_control.{specs.Requests.{CommandValue, SetsEid, GetsEid, AllocatesEids, GetsEntries, command_value, RequestValue, SpellsRequest}, specs.Responses.{AnswerValue, EidSet, EidTold, PoolTold, EntriesTold, Failed, answer_value, ResponseValue, SpellsResponse}}
-use Rattle.pldm_message.{specs.BaseCommands.{IsGetTid, get_tid_bytes, IsGetTidResponse, get_tid_answer_bytes}, specs.Commands.{type_of, command_byte}, specs.Headers.{HeaderValue, BeginsWith}, specs.Heads.{outcome_value}, specs.Messages.{RequestMessage, ResponseMessage}, specs.PdrValues.{get_pdr_request}, specs.Pdrs.{PartRequest, IsGetPdrRequest, get_pdr_request_bytes}, specs.declared.command.Command.TheVariants.{GetPdr}, specs.declared.kind.MessageKind.TheVariants.{Response}}
+use Rattle.pldm_message.{specs.BaseCommands.{IsGetTid, get_tid_bytes, IsGetTidResponse, get_tid_answer_bytes}, specs.Commands.{type_of, command_byte}, specs.Headers.{HeaderValue, BeginsWith}, specs.Heads.{outcome_value}, specs.Messages.{RequestMessage, ResponseHeadValue, ResponseMessage}, specs.PdrValues.{get_pdr_request, part}, specs.Pdrs.{PartRequest, Part, IsGetPdrRequest, get_pdr_request_bytes, IsGetPdrResponse, get_pdr_answer_bytes}, specs.declared.command.Command.TheVariants.{GetPdr}, specs.declared.kind.MessageKind.TheVariants.{Response}}
+use Rattle.pdr_repository.specs.Parts.{PartAnswer}
 use Rattle.heard_captures.specs.Messages.{MessageValue}
 use Rattle.audited_captures.{specs.declared.words.Body.{Body}, specs.declared.words.Word.{Word}}
 use Rattle.audited_captures.specs.declared.words.Body.TheVariants as body
 
--- a control message asks or answers; or a part of a record is asked for, or told by all bytes of the answer; or a
--- terminus ID is asked for, or told, or a completion code says why not
+-- a control message asks or answers; or a part of a record is asked for, or told, or a completion code says why not, or
+-- the answer's bytes tell neither; or a terminus ID is asked for, or told, or a completion code says why not
 pub data BodyValue : Type 0 where
   Asks : CommandValue → BodyValue
   Answers : AnswerValue → BodyValue
   AsksPart : RequestMessage PartRequest → BodyValue
-  TellsPart : List ℕ → BodyValue
+  TellsPart : Option PartAnswer → BodyValue
   AsksTid : BodyValue
   TellsTid : Result ℕ ℕ → BodyValue
 
@@ -30,7 +31,7 @@ abbrev pub body_value : Body → BodyValue
 body_value (body.Asks command) = Asks (command_value command)
 body_value (body.Answers answer) = Answers (answer_value answer)
 body_value (body.AsksPart request) = AsksPart (get_pdr_request request)
-body_value (body.TellsPart bytes) = TellsPart bytes.now
+body_value (body.TellsPart told) = TellsPart (option_map (outcome_value part) told)
 body_value body.AsksTid = AsksTid
 body_value (body.TellsTid outcome) = TellsTid (outcome_value (λ tid. tid.value) outcome)
 
@@ -39,7 +40,7 @@ abbrev pub is_question : BodyValue → Bool
 is_question (Asks command) = true
 is_question (Answers answer) = false
 is_question (AsksPart request) = true
-is_question (TellsPart bytes) = false
+is_question (TellsPart told) = false
 is_question AsksTid = true
 is_question (TellsTid outcome) = false
 
@@ -73,7 +74,7 @@ abbrev pub command_of : BodyValue → ℕ
 command_of (Asks command) = number_asked command
 command_of (Answers answer) = number_answered answer
 command_of (AsksPart request) = 337
-command_of (TellsPart bytes) = 337
+command_of (TellsPart told) = 337
 command_of AsksTid = 258
 command_of (TellsTid outcome) = 258
 
@@ -114,14 +115,21 @@ asked_part m r = record {
 }
 
 -- what begins as an answer to one, from the message's source
-abbrev pub told_part : MessageValue → HeaderValue → WordValue
-told_part m h = record {
+abbrev pub told_part : MessageValue → HeaderValue → Option PartAnswer → WordValue
+told_part m h told = record {
   requester = m.destination;
   responder = m.source;
   tag = m.tag;
   instance = h.instance;
-  body = TellsPart m.bytes;
+  body = TellsPart told;
 }
+
+-- the bytes are this answer to GetPDR, or none
+abbrev pub IsPartTold : List ℕ → Option PartAnswer → Type 0
+IsPartTold bytes told =
+    MatchOption told ((a : ResponseMessage Part) → ¬ Spells IsGetPdrResponse get_pdr_answer_bytes a bytes)
+    (λ outcome. (head : ResponseHeadValue)
+    × Spells IsGetPdrResponse get_pdr_answer_bytes (record { head = head; outcome = outcome }) bytes)
 
 -- the header is that of an answer to GetPDR
 abbrev pub IsPartHeader : HeaderValue → Type 0
@@ -132,7 +140,8 @@ IsAskingWord m w = (r : RequestMessage PartRequest) × Spells IsGetPdrRequest ge
     × (w ≡ asked_part m r)
 
 abbrev pub IsTellingWord : MessageValue → WordValue → Type 0
-IsTellingWord m w = (h : HeaderValue) × BeginsWith h m.bytes × IsPartHeader h × (w ≡ told_part m h)
+IsTellingWord m w = (h : HeaderValue) × BeginsWith h m.bytes × IsPartHeader h
+    × ((told : Option PartAnswer) × IsPartTold m.bytes told × (w ≡ told_part m h told))
 
 -- a request for a terminus ID, from the message's source
 abbrev pub asked_tid : MessageValue → RequestMessage (Unit {0}) → WordValue

@@ -4,7 +4,7 @@ ghost use Rattle.bus_captures.specs.Values.{entry_value as bus_entry_value};
 ghost use Rattle.heard_captures.specs.Messages.{message_value};
 ghost use Rattle.plan_values.specs.NodeValues.{name_bytes};
 ghost use Rattle.mctp_control.specs.RouteEntries.{entry_value};
-ghost use Rattle.audited_captures.{specs.Exchanges.{exchange_value}, specs.Lines.{LineValue, line_value, silence}, specs.Answers.{answer_values}, specs.Identities.{answers_of}, specs.Audits.{HasTables, answered_lines, said_lines, quiet_text, lines_of_node, AreNodeLines, AreLines, difference_count, has_compared, one_if, is_match, last_line, whole_line, part_line, text_line, rest_line, audit_text, AreBeside, AreAudited, AreOthers, AreRepositories, heard_of}, specs.RecordLines.{walks_lines}, specs.Refusals.{IsRefusedOf}, specs.Repositories.{repository_values}, specs.Tids.{planned_tid, tid_lines, tid_values}, specs.Untold.{wanted_lines}, specs.Walks.{walk_value}, specs.Words.{word_value}};
+ghost use Rattle.audited_captures.{specs.Exchanges.{exchange_value}, specs.Lines.{LineValue, line_value, silence}, specs.Answers.{answer_values}, specs.Identities.{answers_of}, specs.Counting.{difference_count, has_compared}, specs.RecordLines.{one_if}, specs.Audits.{HasTables, answered_lines, said_lines, quiet_text, lines_of_node, AreNodeLines, AreLines, is_match, last_line, whole_line, part_line, text_line, rest_line, audit_text, AreBeside, AreAudited, AreOthers, AreRepositories, heard_of}, specs.Refusals.{IsRefusedOf}, specs.Repositories.{repository_values}, specs.Tids.{planned_tid, tid_lines, tid_values}, specs.Untold.{wanted_lines}, specs.Words.{word_value}};
 ghost use Rattle.plan_exports.specs.PlannedTables.{HasLawfulRows};
 ghost use Rattle.pdr_repository.specs.Records.{entries};
 
@@ -13,7 +13,9 @@ use crate::exchanges::{Exchange, exchanges_of};
 use crate::identities::{answers_of, eid_lines, pool_lines};
 use crate::lines::{Counted, Line, silence};
 use crate::readings::parts_of;
+use crate::record_lines::record_lines;
 use crate::record_parts::record_parts_of;
+use crate::record_readings::verdicts_of;
 use crate::refusals::{refusals_of, refused_lines};
 use crate::routes::routes_lines;
 use crate::strangers::stranger_lines;
@@ -22,7 +24,6 @@ use crate::talk::{owner_lines, talk_lines};
 use crate::tids::{TidAnswer, tid_lines, tids_of};
 use crate::traffic_lines::{traffic_lines, unit_of};
 use crate::untold::untold_lines;
-use crate::walks::{Walk, walks_lines, walks_of};
 use crate::words::{Word, words_of};
 use bus_captures::{Capture, End};
 use heard_captures::{Message, heard_messages};
@@ -210,30 +211,27 @@ fn lines_of_node(
     let planned = planned_entries(alloc, plan, index)?;
     let parts = record_parts_of(alloc, words, node.eid)?;
     let tids = tids_of(alloc, words, node.eid)?;
-    let walks = walks_of(alloc, &parts)?;
-    let told = told_of_terminus(alloc, node, records, &tids, &walks)?;
+    let verdicts = verdicts_of(alloc, records, &parts)?;
+    let recorded = record_lines(alloc, node.name.text.as_str(), records, &parts, &verdicts)?;
+    let told = told_of_terminus(alloc, node, &tids, recorded)?;
     let unanswered = unanswered(alloc, words, exchanges, &parts, &tids, node.eid)?;
     Ok(NodeLines {
         lines: lines_beside(alloc, node, &planned, exchanges, unanswered, told)?,
-        untold: untold_lines(alloc, node, exchanges, &walks)?,
+        untold: untold_lines(alloc, node, exchanges, records.len(), &verdicts)?,
     })
 }
 
-/// What is told of a node's terminus: of its ID, and of its records, which it has by place, and through which these
-/// walks went.
+/// What is told of a node's terminus: of its ID, and behind that of its records.
 fn told_of_terminus(
     alloc: Global,
     node: &Node,
-    records: &[(u32, Vec<u8>)],
     tids: &[TidAnswer],
-    walks: &[Walk],
+    mut recorded: Vec<Line>,
 ) -> Result<Vec<Line>, AllocError>
-    ensures { IfOk result (λ lines. map line_value lines.items ≡ tid_lines (name_bytes node.now.name) (planned_tid node.now) (tid_values tids.now) ++ walks_lines (name_bytes node.now.name) (entries records.now) (map walk_value walks.now)) }
+    ensures { IfOk result (λ lines. map line_value lines.items ≡ tid_lines (name_bytes node.now.name) (planned_tid node.now) (tid_values tids.now) ++ map line_value recorded.items) }
 {
-    let name = node.name.text.as_str();
-    let mut lines = tid_lines(alloc, name, planned_tid(node), tids)?;
-    let mut walked = walks_lines(alloc, name, records, walks)?;
-    lines.append(&mut walked)?;
+    let mut lines = tid_lines(alloc, node.name.text.as_str(), planned_tid(node), tids)?;
+    lines.append(&mut recorded)?;
     Ok(lines)
 }
 

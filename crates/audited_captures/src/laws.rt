@@ -8,14 +8,14 @@ pub fn matches_where_as_planned()
 {}
 
 /// No line of a node tells a difference exactly where all that it said is planned: each reading of its routing table,
-/// each answer that tells its endpoint ID, its type or its pool, and each walk through its records; and it refused
+/// each answer that tells its endpoint ID, its type or its pool, and each answer about its records; and it refused
 /// nothing of these for good.
 pub fn nodes_match_where_as_planned()
     ensures { NodesMatchWhereAsPlanned }
 {}
 
 /// A line of a node tells of a comparison exactly where one was made: a reading of its routing table, an answer that
-/// tells its endpoint ID, its type or its pool, one that refuses this, or a walk through its records.
+/// tells its endpoint ID, its type or its pool, one that refuses this, or one about its records.
 pub fn nodes_compare_where_heard()
     ensures { NodesCompareWhereHeard }
 {}

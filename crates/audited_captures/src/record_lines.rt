@@ -1,290 +1,336 @@
-//! Records that walks brought, beside those of the plan.
-ghost use Rattle.std.{specs.Prelude.{ℕ, List, ◌≡◌, ◌+◌, ◌++◌, ◌∷◌, ◌==◌, [], IfOk, OnOk, MatchOption, find, length, map, option_map, slice_index, string_bytes, true, false, unwrap_or}, specs.List.{flat_map, list_any}};
-ghost use Rattle.pdr_repository.{specs.Faults.{code_of}, specs.Records.{Entry, entry_of, entries, handle_in}};
-ghost use Rattle.audited_captures.{specs.Lines.{line_value, difference, differences_or}, specs.RecordLines.{unlike_from, record_words, line_if_unlike_at, line_of_found, found_lines, is_found, missing_lines, unlike_records, are_planned, records_match, order_line, open_line, stopped_line, whole_lines, walk_lines}, specs.Walking.{walked_value}};
+//! What is told of a terminus' records, by the verdicts on its answers.
+ghost use Rattle.std.{specs.Prelude.{◌≡◌, ◌==◌, ◌||◌, ◌≤◌, not, IfOk, OnOk, length, map}, specs.List.{list_any}};
+ghost use Rattle.pdr_repository.specs.Records.{entries};
+ghost use Rattle.audited_captures.{specs.Lines.{line_value}, specs.RecordLines.{is_fault, is_judged, reads_end, differs_at, is_read, is_unread, one_if, fault_count, told_differences, unread_count, missing_count, AddsDifferences, IsRemarked, AreRecordLines}, specs.RecordParts.{record_part_value}, specs.RecordReadings.{begins_walk}};
 
-use crate::lines::{Line, add_difference, differences_or};
-use crate::walking::Ending;
-use pdr_repository::WalkFault;
+use crate::lines::{Finding, Line, add_difference, differences_or};
+use crate::record_faults::RecordFault;
+use crate::record_parts::RecordPart;
+use crate::record_readings::Verdict;
 use std::alloc::{AllocError, Global};
 
-/// What is told of the records that a walk brought, and of how it ended.
-pub fn walk_lines(
+/// The lines of the records of a node of this name, which are planned by place: a line for each answer that differs,
+/// where a walk began one for each record that wasn't read to its end, and where there are none, that they match. Behind
+/// them stands a remark where records were read several times.
+pub fn record_lines(
     alloc: Global,
     name: &str,
-    planned: &[(u32, Vec<u8>)],
-    found: &[Vec<u8>],
-    ending: Ending,
+    records: &[(u32, Vec<u8>)],
+    parts: &[RecordPart],
+    verdicts: &[Verdict],
 ) -> Result<Vec<Line>, AllocError>
-    ensures { IfOk result (λ lines. map line_value lines.items ≡ walk_lines name.now (entries planned.now) (walked_value ending (map (λ v. v.items) found.now))) }
-{
-    match ending {
-        Ending::Whole => whole_lines(alloc, name, planned, found),
-        Ending::Open => open_lines(alloc, name, planned, found),
-        Ending::Stopped(fault) => stopped_lines(alloc, name, planned, found, fault),
-    }
-}
-
-fn whole_lines(
-    alloc: Global,
-    name: &str,
-    planned: &[(u32, Vec<u8>)],
-    found: &[Vec<u8>],
-) -> Result<Vec<Line>, AllocError>
-    ensures { IfOk result (λ lines. map line_value lines.items ≡ whole_lines name.now (entries planned.now) (map (λ v. v.items) found.now)) }
-{
-    if are_planned(planned, found) {
-        return match_lines(alloc, name, found.len());
-    }
-    let lines = unlike_lines(alloc, name, planned, found)?;
-    lines_or_order(alloc, name, lines)
-}
-
-fn match_lines(alloc: Global, name: &str, count: usize) -> Result<Vec<Line>, AllocError>
-    ensures { IfOk result (λ lines. map line_value lines.items ≡ records_match name.now count ∷ []) }
-{
-    let text = match_text(alloc, name, count)?;
-    differences_or(text, Vec::new(alloc))
-}
-
-fn match_text(alloc: Global, name: &str, count: usize) -> Result<String, AllocError>
-    ensures { IfOk result (λ text. string_bytes text ≡ (records_match name.now count).text) }
-{
-    format!(in alloc; "{name} records match {count}")
-}
-
-/// What is told of the records that were brought, and of the planned ones that weren't.
-fn unlike_lines(
-    alloc: Global,
-    name: &str,
-    planned: &[(u32, Vec<u8>)],
-    found: &[Vec<u8>],
-) -> Result<Vec<Line>, AllocError>
-    ensures { IfOk result (λ lines. map line_value lines.items ≡ unlike_records name.now (entries planned.now) (map (λ v. v.items) found.now) ++ flat_map (missing_lines name.now (map (λ v. v.items) found.now)) (entries planned.now)) }
-{
-    let mut lines = unlike_records(alloc, name, planned, found)?;
-    let mut missing = missing_records(alloc, name, planned, found)?;
-    lines.append(&mut missing)?;
-    Ok(lines)
-}
-
-/// The lines, or where there are none one that says that the order differs.
-fn lines_or_order(alloc: Global, name: &str, mut lines: Vec<Line>) -> Result<Vec<Line>, AllocError>
-    ensures { IfOk result (λ all. map line_value all.items ≡ differences_or (order_line name.now) (map line_value lines.items)) }
-{
-    if lines.is_empty() {
-        let text = format!(in alloc; "{name} records order differs")?;
-        add_difference(&mut lines, text)?;
-    }
-    Ok(lines)
-}
-
-fn open_lines(
-    alloc: Global,
-    name: &str,
-    planned: &[(u32, Vec<u8>)],
-    found: &[Vec<u8>],
-) -> Result<Vec<Line>, AllocError>
-    ensures { IfOk result (λ lines. map line_value lines.items ≡ unlike_records name.now (entries planned.now) (map (λ v. v.items) found.now) ++ open_line name.now (length found.now) ∷ []) }
-{
-    let mut lines = unlike_records(alloc, name, planned, found)?;
-    let count = found.len();
-    let text = format!(in alloc; "{name} records open {count}")?;
-    add_difference(&mut lines, text)?;
-    Ok(lines)
-}
-
-fn stopped_lines(
-    alloc: Global,
-    name: &str,
-    planned: &[(u32, Vec<u8>)],
-    found: &[Vec<u8>],
-    fault: WalkFault,
-) -> Result<Vec<Line>, AllocError>
-    ensures { IfOk result (λ lines. map line_value lines.items ≡ unlike_records name.now (entries planned.now) (map (λ v. v.items) found.now) ++ stopped_line name.now fault (length found.now) ∷ []) }
-{
-    let mut lines = unlike_records(alloc, name, planned, found)?;
-    let text = stopped_text(alloc, name, fault, found.len())?;
-    add_difference(&mut lines, text)?;
-    Ok(lines)
-}
-
-fn stopped_text(
-    alloc: Global,
-    name: &str,
-    fault: WalkFault,
-    count: usize,
-) -> Result<String, AllocError>
-    ensures { IfOk result (λ text. string_bytes text ≡ (stopped_line name.now fault count).text) }
-{
-    let code = code_of(fault);
-    format!(in alloc; "{name} records stopped {code} {count}")
-}
-
-/// The code of why a walker refuses an answer.
-fn code_of(fault: WalkFault) -> &'static str
-    ensures { result.now ≡ unwrap_or (code_of fault) [] }
-{
-    match fault.code() {
-        Some(code) => code,
-        None => "",
-    }
-}
-
-/// What is told of each record that was brought.
-fn unlike_records(
-    alloc: Global,
-    name: &str,
-    planned: &[(u32, Vec<u8>)],
-    found: &[Vec<u8>],
-) -> Result<Vec<Line>, AllocError>
-    ensures { IfOk result (λ lines. map line_value lines.items ≡ unlike_records name.now (entries planned.now) (map (λ v. v.items) found.now)) }
+    ensures { IfOk result (λ lines. AreRecordLines (entries records.now) (map record_part_value parts.now) verdicts.now (map line_value lines.items)) }
 {
     let mut lines = Vec::new(alloc);
-    for brought in found {
-        add_found(alloc, &mut lines, name, planned, brought)?;
+    if !is_some_judged(verdicts) {
+        return Ok(lines);
     }
-    Ok(lines)
+    add_differences(alloc, &mut lines, name, records, parts, verdicts)?;
+    let text = match_text(alloc, name, records, verdicts)?;
+    let mut all = differences_or(text, lines)?;
+    add_remark(alloc, &mut all, name, records, verdicts)?;
+    Ok(all)
 }
 
-fn add_found(
+/// Adds the lines of answers that differ, and where a walk began, of records that weren't read to their end.
+fn add_differences(
     alloc: Global,
     lines: &mut Vec<Line>,
     name: &str,
-    planned: &[(u32, Vec<u8>)],
-    found: &[u8],
+    records: &[(u32, Vec<u8>)],
+    parts: &[RecordPart],
+    verdicts: &[Verdict],
 ) -> Result<(), AllocError>
-    ensures { OnOk result (map line_value lines.new.items ≡ map line_value lines.old.items ++ found_lines name.now (entries planned.now) found.now) }
+    ensures { OnOk result (AddsDifferences (map line_value lines.old.items) (map line_value lines.new.items) (told_differences (entries records.now) (map record_part_value parts.now) verdicts.now)) }
 {
-    let handle = handle_in(found);
-    match find_planned(planned, handle) {
-        Some(listed) => add_unlike(alloc, lines, name, handle, first_unlike(listed, found)),
-        None => {
-            let text = format!(in alloc; "{name} record {handle} extra")?;
-            add_difference(lines, text)
-        }
-    }
-}
-
-/// The bytes of the first planned record of a handle.
-fn find_planned(planned: &[(u32, Vec<u8>)], handle: u32) -> Option<&[u8]>
-    ensures { option_map (λ b. b.now) result ≡ option_map (λ e. e.bytes) (find (λ e. e.handle == handle) (entries planned.now)) }
-{
-    for listed in planned {
-        if listed.0 == handle {
-            return Some(&listed.1);
-        }
-    }
-    None
-}
-
-/// Adds a line where a record that was brought differs from the planned one, at this byte.
-fn add_unlike(
-    alloc: Global,
-    lines: &mut Vec<Line>,
-    name: &str,
-    handle: u32,
-    unlike: Option<usize>,
-) -> Result<(), AllocError>
-    ensures { OnOk result (map line_value lines.new.items ≡ map line_value lines.old.items ++ line_if_unlike_at name.now handle unlike) }
-{
-    match unlike {
-        Some(place) => {
-            let text = format!(in alloc; "{name} record {handle} differs byte {place}")?;
-            add_difference(lines, text)
-        }
-        None => Ok(()),
-    }
-}
-
-/// The number of the first byte in which two records differ.
-fn first_unlike(planned: &[u8], found: &[u8]) -> Option<usize>
-    ensures { result ≡ unlike_from 0 planned.now found.now }
-{
-    let mut place = 0;
-    while place < planned.len() && place < found.len() {
-        if planned[place] != found[place] {
-            return Some(place);
-        }
-        place += 1;
-    }
-    if planned.len() == found.len() {
-        None
-    } else {
-        Some(place)
-    }
-}
-
-/// What is told of each planned record.
-fn missing_records(
-    alloc: Global,
-    name: &str,
-    planned: &[(u32, Vec<u8>)],
-    found: &[Vec<u8>],
-) -> Result<Vec<Line>, AllocError>
-    ensures { IfOk result (λ lines. map line_value lines.items ≡ flat_map (missing_lines name.now (map (λ v. v.items) found.now)) (entries planned.now)) }
-{
-    let mut lines = Vec::new(alloc);
-    for listed in planned {
-        add_missing(alloc, &mut lines, name, listed.0, found)?;
-    }
-    Ok(lines)
-}
-
-fn add_missing(
-    alloc: Global,
-    lines: &mut Vec<Line>,
-    name: &str,
-    handle: u32,
-    found: &[Vec<u8>],
-) -> Result<(), AllocError>
-    ensures { OnOk result ((bytes : List ℕ) → map line_value lines.new.items ≡ map line_value lines.old.items ++ missing_lines name.now (map (λ v. v.items) found.now) (record { handle = handle; bytes = bytes })) }
-{
-    if is_found(found, handle) {
+    add_faults(alloc, lines, name, records, verdicts)?;
+    if !is_walk_begun(parts) {
         return Ok(());
     }
-    let text = format!(in alloc; "{name} record {handle} missing")?;
-    add_difference(lines, text)
+    add_unread(alloc, lines, name, records, verdicts)
 }
 
-/// Whether a record of a handle was brought.
-fn is_found(found: &[Vec<u8>], handle: u32) -> bool
-    ensures { result ≡ list_any (λ bytes. handle_in bytes == handle) (map (λ v. v.items) found.now) }
+fn is_some_judged(verdicts: &[Verdict]) -> bool
+    ensures { result ≡ list_any is_judged verdicts.now }
 {
-    for brought in found {
-        if handle_in(brought) == handle {
+    for verdict in verdicts {
+        if is_judged(verdict) {
             return true;
         }
     }
     false
 }
 
-/// Whether the records are the planned ones, in the planned order.
-fn are_planned(planned: &[(u32, Vec<u8>)], found: &[Vec<u8>]) -> bool
-    ensures { result ≡ are_planned (entries planned.now) (map (λ v. v.items) found.now) }
+fn is_judged(verdict: &Verdict) -> bool
+    ensures { result ≡ is_judged verdict.now }
 {
-    if planned.len() != found.len() {
-        return false;
+    match verdict {
+        Verdict::Unknown => false,
+        Verdict::Refused | Verdict::Reads { .. } => true,
+        Verdict::Extra { .. } | Verdict::Differs { .. } => true,
     }
-    for i in 0..planned.len() {
-        if planned[i].1.as_slice() != found[i].as_slice() {
-            return false;
+}
+
+/// Whether a walk through all records begins: the first part of the first record is asked for.
+fn is_walk_begun(parts: &[RecordPart]) -> bool
+    ensures { result ≡ list_any begins_walk (map record_part_value parts.now) }
+{
+    for part in parts {
+        if begins_walk(part) {
+            return true;
         }
     }
-    true
+    false
 }
 
-/// The handle in the header of a record (DSP0248, common PDR header).
-fn handle_in(bytes: &[u8]) -> u32
-    ensures { result ≡ handle_in bytes.now }
+fn begins_walk(part: &RecordPart) -> bool
+    ensures { result ≡ begins_walk (record_part_value part.now) }
 {
-    let high = u32::from(byte_at(bytes, 2)) + 256 * u32::from(byte_at(bytes, 3));
-    u32::from(byte_at(bytes, 0)) + 256 * (u32::from(byte_at(bytes, 1)) + 256 * high)
+    part.request.record_handle == 0 && part.request.operation.value == 1
 }
 
-/// A byte, 0 past the end.
-fn byte_at(bytes: &[u8], index: usize) -> u8
-    ensures { result ≡ slice_index bytes.now index }
+/// Adds a line for each answer that differs.
+fn add_faults(
+    alloc: Global,
+    lines: &mut Vec<Line>,
+    name: &str,
+    records: &[(u32, Vec<u8>)],
+    verdicts: &[Verdict],
+) -> Result<(), AllocError>
+    ensures { OnOk result (AddsDifferences (map line_value lines.old.items) (map line_value lines.new.items) (fault_count verdicts.now)) }
 {
-    if index < bytes.len() { bytes[index] } else { 0 }
+    for verdict in verdicts {
+        add_fault(alloc, lines, name, records, verdict)?;
+    }
+    Ok(())
+}
+
+fn add_fault(
+    alloc: Global,
+    lines: &mut Vec<Line>,
+    name: &str,
+    records: &[(u32, Vec<u8>)],
+    verdict: &Verdict,
+) -> Result<(), AllocError>
+    ensures { OnOk result (AddsDifferences (map line_value lines.old.items) (map line_value lines.new.items) (one_if (is_fault verdict.now))) }
+{
+    match verdict {
+        Verdict::Unknown | Verdict::Refused | Verdict::Reads { .. } => Ok(()),
+        Verdict::Extra { handle } => {
+            let text = format!(in alloc; "{name} record {handle} extra")?;
+            add_difference(lines, text)
+        }
+        Verdict::Differs { place, fault } => {
+            let words = fault_words(alloc, *fault)?;
+            let handle = handle_at(records, *place);
+            let text = format!(in alloc; "{name} record {handle} {words}")?;
+            add_difference(lines, text)
+        }
+    }
+}
+
+/// The handle of the record at a place, 0 past the end.
+fn handle_at(records: &[(u32, Vec<u8>)], place: usize) -> u32 {
+    match records.get(place) {
+        Some(record) => record.0,
+        None => 0,
+    }
+}
+
+fn fault_words(alloc: Global, fault: RecordFault) -> Result<String, AllocError> {
+    match fault {
+        RecordFault::Unreadable => String::from_str(alloc, "unreadable"),
+        RecordFault::Failed(code) => {
+            let code = hex_of(alloc, code)?;
+            format!(in alloc; "failed {code}")
+        }
+        RecordFault::Size { found, asked } => {
+            format!(in alloc; "part of {found} bytes, asked for {asked}")
+        }
+        RecordFault::Byte(byte) => format!(in alloc; "differs byte {byte}"),
+        RecordFault::Next { found, planned } => {
+            format!(in alloc; "next {found} planned {planned}")
+        }
+        RecordFault::Flag { found, planned } => {
+            format!(in alloc; "flag {found} planned {planned}")
+        }
+        RecordFault::Check { found, planned } => {
+            let found = hex_of(alloc, found)?;
+            let planned = hex_of(alloc, planned)?;
+            format!(in alloc; "check byte {found} planned {planned}")
+        }
+    }
+}
+
+fn hex_of(alloc: Global, byte: u8) -> Result<String, AllocError> {
+    hex::encode(alloc, [byte].as_slice())
+}
+
+/// Adds a line for each record that wasn't read to its end, and in which nothing differs.
+fn add_unread(
+    alloc: Global,
+    lines: &mut Vec<Line>,
+    name: &str,
+    records: &[(u32, Vec<u8>)],
+    verdicts: &[Verdict],
+) -> Result<(), AllocError>
+    ensures { OnOk result (AddsDifferences (map line_value lines.old.items) (map line_value lines.new.items) (unread_count verdicts.now (length (entries records.now)))) }
+{
+    for place in 0..records.len() {
+        add_unread_at(alloc, lines, name, records, verdicts, place)?;
+    }
+    Ok(())
+}
+
+fn add_unread_at(
+    alloc: Global,
+    lines: &mut Vec<Line>,
+    name: &str,
+    records: &[(u32, Vec<u8>)],
+    verdicts: &[Verdict],
+    place: usize,
+) -> Result<(), AllocError>
+    ensures { OnOk result (AddsDifferences (map line_value lines.old.items) (map line_value lines.new.items) (one_if (is_unread verdicts.now place))) }
+{
+    if !is_unread(verdicts, place) {
+        return Ok(());
+    }
+    let handle = handle_at(records, place);
+    let how = if is_begun(verdicts, place) {
+        "open"
+    } else {
+        "missing"
+    };
+    let text = format!(in alloc; "{name} record {handle} {how}")?;
+    add_difference(lines, text)
+}
+
+/// Whether the record at a place wasn't read to its end, and nothing in it differs.
+fn is_unread(verdicts: &[Verdict], place: usize) -> bool
+    ensures { result ≡ is_unread verdicts.now place }
+{
+    !(is_read(verdicts, place) || has_fault(verdicts, place))
+}
+
+/// Whether the record at a place was read to its end, as planned.
+fn is_read(verdicts: &[Verdict], place: usize) -> bool
+    ensures { result ≡ is_read verdicts.now place }
+{
+    for verdict in verdicts {
+        if reads_end(verdict, place) {
+            return true;
+        }
+    }
+    false
+}
+
+fn reads_end(verdict: &Verdict, place: usize) -> bool
+    ensures { result ≡ reads_end place verdict.now }
+{
+    match verdict {
+        Verdict::Reads { place: at, is_end } => *is_end && *at == place,
+        Verdict::Unknown | Verdict::Refused => false,
+        Verdict::Extra { .. } | Verdict::Differs { .. } => false,
+    }
+}
+
+/// Whether something that was told of the record at a place differs.
+fn has_fault(verdicts: &[Verdict], place: usize) -> bool
+    ensures { result ≡ list_any (differs_at place) verdicts.now }
+{
+    for verdict in verdicts {
+        if differs_at(verdict, place) {
+            return true;
+        }
+    }
+    false
+}
+
+fn differs_at(verdict: &Verdict, place: usize) -> bool
+    ensures { result ≡ differs_at place verdict.now }
+{
+    match verdict {
+        Verdict::Differs { place: at, .. } => *at == place,
+        Verdict::Unknown | Verdict::Refused => false,
+        Verdict::Extra { .. } | Verdict::Reads { .. } => false,
+    }
+}
+
+/// Whether some of the record at a place was read, as planned.
+fn is_begun(verdicts: &[Verdict], place: usize) -> bool {
+    for verdict in verdicts {
+        match verdict {
+            Verdict::Reads { place: at, .. } => {
+                if *at == place {
+                    return true;
+                }
+            }
+            Verdict::Unknown | Verdict::Refused => {}
+            Verdict::Extra { .. } | Verdict::Differs { .. } => {}
+        }
+    }
+    false
+}
+
+/// How many of the first records weren't read to their end.
+pub fn missing_count(verdicts: &[Verdict], count: usize) -> usize
+    ensures is { result ≡ missing_count verdicts.now count }
+    ensures most { result ≤ count }
+{
+    let mut missing = 0;
+    for place in 0..count {
+        if !is_read(verdicts, place) {
+            missing += 1;
+        }
+    }
+    missing
+}
+
+fn match_text(
+    alloc: Global,
+    name: &str,
+    records: &[(u32, Vec<u8>)],
+    verdicts: &[Verdict],
+) -> Result<String, AllocError> {
+    let planned = records.len();
+    let read = planned - missing_count(verdicts, planned);
+    if read == planned {
+        return format!(in alloc; "{name} records match {planned}");
+    }
+    format!(in alloc; "{name} records match {read} of {planned}")
+}
+
+/// Adds a remark where records were read to their end several times.
+fn add_remark(
+    alloc: Global,
+    lines: &mut Vec<Line>,
+    name: &str,
+    records: &[(u32, Vec<u8>)],
+    verdicts: &[Verdict],
+) -> Result<(), AllocError>
+    ensures { OnOk result (IsRemarked (map line_value lines.old.items) (map line_value lines.new.items)) }
+{
+    let read = records.len() - missing_count(verdicts, records.len());
+    let again = end_count(verdicts).saturating_sub(read);
+    if again > 0 {
+        let text = format!(in alloc; "{name} records read again {again}")?;
+        lines.push(Line {
+            text,
+            finding: Finding::Silent,
+        })?;
+    }
+    Ok(())
+}
+
+/// How many answers end a record, as planned.
+fn end_count(verdicts: &[Verdict]) -> usize {
+    let mut count = 0_usize;
+    for verdict in verdicts {
+        match verdict {
+            Verdict::Reads { is_end, .. } => count = count.saturating_add(usize::from(*is_end)),
+            Verdict::Unknown | Verdict::Refused => {}
+            Verdict::Extra { .. } | Verdict::Differs { .. } => {}
+        }
+    }
+    count
 }

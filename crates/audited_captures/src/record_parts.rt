@@ -3,7 +3,7 @@ ghost use Rattle.std.specs.Prelude.{◌≡◌, ◌++◌, IfOk, OnOk, map, option
 ghost use Rattle.audited_captures.{specs.Words.{word_value}, specs.Exchanges.{concerns, last_that}, specs.RecordParts.{record_part_value, part_ended, record_part_of, AreRecordParts}};
 
 use crate::exchanges::last_concerned;
-use crate::words::{Body, Word};
+use crate::words::{Body, PartTold, Word};
 use mctp_transport::Eid;
 use pldm_message::GetPdrRequest;
 use std::alloc::{AllocError, Global};
@@ -11,10 +11,8 @@ use std::alloc::{AllocError, Global};
 /// A request for a part of a record, and the answer to it.
 #[derive(Clone, Copy, Debug)]
 pub struct RecordPart<'m> {
-    pub requester: Eid,
     pub request: GetPdrRequest,
-    /// All bytes of the message that answers.
-    pub answer: &'m [u8],
+    pub told: PartTold<'m>,
 }
 
 /// What the device of an endpoint ID answered when parts of records were asked for, in the order of the answers.
@@ -54,15 +52,11 @@ fn record_part_of<'m>(before: &[Word<'m>], word: &Word<'m>, eid: Eid) -> Option<
 fn part_ended<'m>(before: &[Word<'m>], word: &Word<'m>) -> Option<RecordPart<'m>>
     ensures { option_map record_part_value result ≡ part_ended (word_value word.now) (last_that (concerns (word_value word.now)) (map word_value before.now)) }
 {
-    let Body::TellsPart(answer) = word.body else {
+    let Body::TellsPart(told) = word.body else {
         return None;
     };
     let Body::AsksPart(request) = last_concerned(before, word)?.body else {
         return None;
     };
-    Some(RecordPart {
-        requester: word.requester,
-        request,
-        answer,
-    })
+    Some(RecordPart { request, told })
 }

@@ -1,14 +1,15 @@
 //! What nodes didn't tell of what the plan has of them.
 ghost use Rattle.std.{specs.Prelude.{◌≡◌, ◌++◌, ◌==◌, ◌||◌, IfOk, OnOk, map, string_bytes}, specs.List.{list_any}};
 ghost use Rattle.plan_values.specs.NodeValues.{name_bytes};
-ghost use Rattle.audited_captures.{specs.Answers.{answer_values}, specs.Exchanges.{exchange_value}, specs.Identities.{size_of, tells_eid, tells_pool}, specs.Lines.{line_value}, specs.Readings.{part_value, readings}, specs.Turns.{reading_value}, specs.Untold.{is_bridge, is_read, is_some, is_whole, readings_begun, tells_records, tells_routes, untold_if, untold_lines, untold_text}, specs.Walks.{walk_value}};
+ghost use Rattle.audited_captures.{specs.Answers.{answer_values}, specs.Exchanges.{exchange_value}, specs.Identities.{size_of, tells_eid, tells_pool}, specs.Lines.{line_value}, specs.Readings.{part_value, readings}, specs.Turns.{reading_value}, specs.Untold.{is_bridge, is_read, is_some, readings_begun, tells_records, tells_routes, untold_if, untold_lines, untold_text}};
 
 use crate::exchanges::Exchange;
 use crate::identities::{answers_of, size_of, tells_eid, tells_pool};
 use crate::lines::{Line, add_difference};
 use crate::places::from_place;
 use crate::readings::{Part, Reading, parts_of, read_from_0};
-use crate::walks::Walk;
+use crate::record_lines::missing_count;
+use crate::record_readings::Verdict;
 use mctp_control::ControlAnswer;
 use plan_values::{Kind, Node, PlannedTerminus};
 use std::alloc::{AllocError, Global};
@@ -19,9 +20,10 @@ pub fn untold_lines(
     alloc: Global,
     node: &Node,
     exchanges: &[Exchange],
-    walks: &[Walk],
+    records: usize,
+    verdicts: &[Verdict],
 ) -> Result<Vec<Line>, AllocError>
-    ensures { IfOk result (λ lines. map line_value lines.items ≡ untold_lines node.now (map exchange_value exchanges.now) (map walk_value walks.now)) }
+    ensures { IfOk result (λ lines. map line_value lines.items ≡ untold_lines node.now (map exchange_value exchanges.now) records verdicts.now) }
 {
     let answers = answers_of(alloc, exchanges, node.eid)?;
     let routes = tells_routes(alloc, node, exchanges)?;
@@ -40,7 +42,7 @@ pub fn untold_lines(
         &mut lines,
         node,
         "records",
-        tells_records(node, walks),
+        tells_records(node, records, verdicts),
     )?;
     Ok(lines)
 }
@@ -151,11 +153,11 @@ fn some_tells_pool(answers: &[&ControlAnswer]) -> bool
     false
 }
 
-/// Whether the records are told to the last, or no terminus is planned.
-fn tells_records(node: &Node, walks: &[Walk]) -> bool
-    ensures { result ≡ tells_records node.now (map walk_value walks.now) }
+/// Whether each of so many records was read to its end, or no terminus is planned.
+fn tells_records(node: &Node, records: usize, verdicts: &[Verdict]) -> bool
+    ensures { result ≡ tells_records node.now records verdicts.now }
 {
-    !is_some(&node.terminus) || some_is_whole(walks)
+    !is_some(&node.terminus) || missing_count(verdicts, records) == 0
 }
 
 fn is_some(terminus: &Option<PlannedTerminus>) -> bool
@@ -165,15 +167,4 @@ fn is_some(terminus: &Option<PlannedTerminus>) -> bool
         Some(_) => true,
         None => false,
     }
-}
-
-fn some_is_whole(walks: &[Walk]) -> bool
-    ensures { result ≡ list_any is_whole (map walk_value walks.now) }
-{
-    for walk in walks {
-        if walk.is_whole() {
-            return true;
-        }
-    }
-    false
 }

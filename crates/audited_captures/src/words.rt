@@ -1,16 +1,18 @@
 //! Messages that were heard, by who asked whom: control messages, and requests for parts of records and for terminus IDs
 //! with their answers.
-ghost use Rattle.std.specs.Prelude.{◌≡◌, ◌⊎◌, ◌++◌, ℕ, IfOk, OnOk, MatchOption, map};
+ghost use Rattle.std.specs.Prelude.{◌≡◌, ◌⊎◌, ◌++◌, ℕ, IfOk, OnOk, MatchOption, Option, map, option_map};
 ghost use Rattle.heard_captures.specs.Messages.{message_value};
 ghost use Rattle.mctp_control.{specs.Requests.{command_value}, specs.Responses.{answer_value}};
-ghost use Rattle.audited_captures.specs.Words.{WordValue, word_value, number_asked, number_answered, IsRequestWord, IsResponseWord, IsAskingWord, IsTellingWord, IsTidAskingWord, IsTidTellingWord, IsPartHeader, told_part, IsQuestion, IsReply, IsWord, IsNoWord, IsMisowned, IsNotMisowned, AddsWord, AreWords};
-ghost use Rattle.pldm_message.specs.HeaderValues.{header_value};
+ghost use Rattle.audited_captures.specs.Words.{WordValue, word_value, number_asked, number_answered, IsRequestWord, IsResponseWord, IsAskingWord, IsTellingWord, IsTidAskingWord, IsTidTellingWord, IsPartHeader, IsPartTold, told_part, IsQuestion, IsReply, IsWord, IsNoWord, IsMisowned, IsNotMisowned, AddsWord, AreWords};
+ghost use Rattle.pdr_repository.specs.Parts.{PartAnswer};
+ghost use Rattle.pldm_message.{specs.HeaderValues.{header_value}, specs.Heads.{outcome_value}, specs.PdrValues.{part}};
 
 use heard_captures::Message;
 use mctp_control::{ControlAnswer, ControlCommand, Request, Response};
 use mctp_transport::{Eid, Tag, Wire};
 use pldm_message::{
-    Command, CompletionCode, GetPdrRequest, GetTid, GetTidAnswer, MessageKind, PldmHeader, Tid,
+    Command, CompletionCode, GetPdrAnswer, GetPdrRequest, GetTid, GetTidAnswer, MessageKind,
+    PdrPart, PldmHeader, Tid,
 };
 use std::alloc::{AllocError, Global};
 
@@ -20,6 +22,10 @@ const GET_PDR: u16 = 337;
 /// The same of terminus IDs.
 const GET_TID: u16 = 258;
 
+/// What an answer to a request for a part of a record tells: the part, or why there is none; nothing where its bytes are
+/// no such answer.
+pub type PartTold<'m> = Option<Result<PdrPart<'m>, CompletionCode>>;
+
 /// What a message says: it asks, or it answers.
 #[derive(Debug, Drop)]
 pub enum Body<'m> {
@@ -27,8 +33,8 @@ pub enum Body<'m> {
     Answers(ControlAnswer),
     /// Asks for a part of a record.
     AsksPart(GetPdrRequest),
-    /// Answers that: all bytes of the message.
-    TellsPart(&'m [u8]),
+    /// Answers that.
+    TellsPart(PartTold<'m>),
     /// Asks for the terminus ID.
     AsksTid,
     /// Answers that: the ID, or why there is none.
@@ -214,7 +220,7 @@ fn part_answer_of(message: &Message) -> Option<Word<'_>>
 
 /// The word of a message that begins with this header.
 fn told_part<'m>(message: &'m Message, header: &PldmHeader) -> Option<Word<'m>>
-    ensures { MatchOption result (¬ IsPartHeader (header_value header.now)) (λ word. IsPartHeader (header_value header.now) × (word_value word ≡ told_part (message_value message.now) (header_value header.now))) }
+    ensures { MatchOption result (¬ IsPartHeader (header_value header.now)) (λ word. IsPartHeader (header_value header.now) × ((told : Option PartAnswer) × IsPartTold (message_value message.now).bytes told × (word_value word ≡ told_part (message_value message.now) (header_value header.now) told))) }
 {
     if header.kind == MessageKind::Response && header.is_of(Command::GetPdr) {
         return Some(Word {
@@ -222,10 +228,19 @@ fn told_part<'m>(message: &'m Message, header: &PldmHeader) -> Option<Word<'m>>
             responder: message.source,
             tag: message.tag,
             instance: header.instance.value,
-            body: Body::TellsPart(&message.bytes),
+            body: Body::TellsPart(part_told(&message.bytes)),
         });
     }
     None
+}
+
+fn part_told(bytes: &[u8]) -> PartTold<'_>
+    ensures { IsPartTold bytes.now (option_map (outcome_value part) result) }
+{
+    match GetPdrAnswer::read(bytes) {
+        Ok(answer) => Some(answer.outcome),
+        Err(_) => None,
+    }
 }
 
 fn tid_request_of(message: &Message) -> Option<Word<'_>>

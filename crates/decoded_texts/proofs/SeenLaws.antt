@@ -1,9 +1,9 @@
 -- One entry more, and its lines.
-use Rattle.std.{proofs.Common.{◌≡◌, ℕ, ◌<◌, ◌+◌, List, [], ◌∷◌, ◌++◌, length, refl, ap, sym, ◌∙◌, subst, get_or, map, take, append_assoc, length-take, arith}, specs.Prelude.{Option, Result, Ok, Err, OnOk}, proofs.lemmas.List.{take_more, map-append, length-map}}
+use Rattle.std.{proofs.Common.{◌≡◌, ℕ, ◌<◌, ◌+◌, List, [], ◌∷◌, ◌++◌, length, refl, ap, sym, ◌∙◌, subst, get_or, map, take, append_assoc}, specs.Prelude.{Option, Result, Ok, Err, OnOk}, proofs.lemmas.List.{take_more, map-append}}
 use Rattle.bus_captures.{specs.Values.{EntryValue, entry_value}, specs.declared.capture.Entry.{Entry}}
 use Rattle.heard_captures.{specs.Seen.{Seen}, specs.Stations.{AreIdle}, specs.Steps.{HaveSeen, Sees}, specs.declared.stations.Stations.{Stations}}
 use Rattle.plan_values.specs.declared.plan.Plan.{Plan}
-use Rattle.decoded_texts.{specs.Decoding.{AreTold, None, More, unit_by}, specs.Heads.{head_words}, specs.Messages.{IsSaid}, specs.Seen.{IsToldAs}, specs.Steps.{AddsTold, AddsStep}}
+use Rattle.decoded_texts.{specs.Decoding.{AreTold, None, More, unit_by}, specs.Seen.{IsToldAs}, specs.Steps.{AddsTold, AddsStep}}
 use Rattle.heard_captures.proofs.SeenLaws as heard
 
 module _ (plan : Option Plan) where
@@ -18,35 +18,33 @@ module _ (plan : Option Plan) where
 
   -- the next entry of a list
   pub next_told : (items : List Entry) (i : ℕ) (item : Entry) (old new : Stations) (text all : List ℕ) → i < length items → item ≡ get_or items i item
-      → HasTold (map entry_value (take i items)) old text → AddsStep old new plan (i + 1) (entry_value item) text all
+      → HasTold (map entry_value (take i items)) old text → AddsStep old new plan (entry_value item) text all
       → HasTold (map entry_value (take (i + 1) items)) new all
   next_told items i item old new text all within is before step =
       let entries = map entry_value (take i items) in
       let same : take (i + 1) items ≡ take i items ++ item ∷ [] = take_more items i item within ∙ ap (λ x. take i items ++ x ∷ []) (sym is) in
       let mapped : map entry_value (take (i + 1) items) ≡ entries ++ entry_value item ∷ [] =
       ap (λ es. map entry_value es) same ∙ map-append entry_value (take i items) (item ∷ []) in
-      let many : length entries ≡ i = length-map (take i items) entry_value ∙ (let h = length-take i items in omega arith) in
-      let lines : text ++ (head_words (length entries + 1) (entry_value item) ++ step.told) ≡ all =
-      ap (λ n. text ++ (head_words (n + 1) (entry_value item) ++ step.told)) many ∙ sym step.joined in
       record {
         seen = before.seen ++ step.seen ∷ [];
         have = heard.next_seen (unit_by plan) items i item before.seen old new step.seen within is before.have step.sees;
         told = subst (λ (es : List EntryValue). AreTold plan es (before.seen ++ step.seen ∷ []) all) (sym mapped)
-            (subst (λ t. AreTold plan (entries ++ entry_value item ∷ []) (before.seen ++ step.seen ∷ []) t) lines
-            (More entries before.seen text (entry_value item) step.seen step.told before.told step.tells));
+            (subst (λ t. AreTold plan (entries ++ entry_value item ∷ []) (before.seen ++ step.seen ∷ []) t) (sym step.joined)
+            (More entries before.seen text (entry_value item) step.seen step.head step.told before.told step.tells));
       }
 
   -- what one entry changes, where its lines come
-  pub step_if : {T E : Type 0} (old new : Stations) (number : ℕ) (e : EntryValue) (s : Seen) (before headed after : List ℕ) (result : Result T E)
-      → Sees (unit_by plan) old new e s → headed ≡ before ++ head_words number e → OnOk result (AddsTold plan s headed after) → OnOk result (AddsStep old new plan number e before after)
-  step_if old new number e s before headed after (Ok t) sees head (told, tells, joined) = record {
+  pub step_if : {T E : Type 0} (old new : Stations) (e : EntryValue) (s : Seen) (before words headed after : List ℕ) (result : Result T E)
+      → Sees (unit_by plan) old new e s → headed ≡ before ++ words → OnOk result (AddsTold plan s headed after) → OnOk result (AddsStep old new plan e before after)
+  step_if old new e s before words headed after (Ok t) sees is (told, tells, joined) = record {
     seen = s;
     sees = sees;
+    head = words;
     told = told;
     tells = tells;
-    joined = joined ∙ ap (λ x. x ++ told) head ∙ append_assoc before (head_words number e) told;
+    joined = joined ∙ ap (λ x. x ++ told) is ∙ append_assoc before words told;
   }
-  step_if old new number e s before headed after (Err x) sees head told = told
+  step_if old new e s before words headed after (Err x) sees is told = told
 
   -- lines that are known
   pub line_if : {T E : Type 0} (s : Seen) (before lines after : List ℕ) (result : Result T E) → OnOk result (after ≡ before ++ lines) → IsToldAs plan s lines
@@ -55,21 +53,21 @@ module _ (plan : Option Plan) where
   line_if s before lines after (Err x) joined told = joined
 
 -- what a message says
-pub said_if : {T E : Type 0} (message before said after : List ℕ) (result : Result T E) → IsSaid message said → OnOk result (after ≡ before ++ said)
-    → OnOk result ((s : List ℕ) × IsSaid message s × (after ≡ before ++ s))
-said_if message before said after (Ok t) says joined = (said, says, joined)
-said_if message before said after (Err x) says joined = joined
+pub said_if : {T E : Type 0} (before said after : List ℕ) (result : Result T E) → OnOk result (after ≡ before ++ said)
+    → OnOk result ((s : List ℕ) × (after ≡ before ++ s))
+said_if before said after (Ok t) joined = (said, joined)
+said_if before said after (Err x) joined = joined
 
 -- behind a line stands what is said, and both are lines that were added
-module _ {T E : Type 0} (Is : List ℕ → Type 0) (before line : List ℕ) where
-  pub behind_if : (between after : List ℕ) (result : Result T E) → between ≡ before ++ line → OnOk result ((s : List ℕ) × Is s × (after ≡ between ++ s))
-      → OnOk result ((s : List ℕ) × Is s × (after ≡ before ++ (line ++ s)))
-  behind_if between after (Ok t) is (said, says, joined) = (said, says, joined ∙ ap (λ x. x ++ said) is ∙ append_assoc before line said)
+module _ {T E : Type 0} (before line : List ℕ) where
+  pub behind_if : (between after : List ℕ) (result : Result T E) → between ≡ before ++ line → OnOk result ((s : List ℕ) × (after ≡ between ++ s))
+      → OnOk result ((s : List ℕ) × (after ≡ before ++ (line ++ s)))
+  behind_if between after (Ok t) is (said, joined) = (said, joined ∙ ap (λ x. x ++ said) is ∙ append_assoc before line said)
   behind_if between after (Err x) is told = told
 
-  pub lines_if : (after : List ℕ) (result : Result T E) → OnOk result ((s : List ℕ) × Is s × (after ≡ before ++ (line ++ s)))
-      → OnOk result ((told : List ℕ) × ((s : List ℕ) × Is s × (told ≡ line ++ s)) × (after ≡ before ++ told))
-  lines_if after (Ok t) (said, says, joined) = (line ++ said, (said, says, refl), joined)
+  pub lines_if : (after : List ℕ) (result : Result T E) → OnOk result ((s : List ℕ) × (after ≡ before ++ (line ++ s)))
+      → OnOk result ((told : List ℕ) × ((s : List ℕ) × (told ≡ line ++ s)) × (after ≡ before ++ told))
+  lines_if after (Ok t) (said, joined) = (line ++ said, (said, refl), joined)
   lines_if after (Err x) told = told
 
 -- ---- the pieces of a packet's line

@@ -1,19 +1,19 @@
 -- What is said of a whole capture.
-use Rattle.std.{specs.Prelude.{◌≡◌, ℕ, ◌+◌, List, [], ◌∷◌, ◌++◌, length, map, codes, Option, Some}, specs.Fmt.{decimal}}
+use Rattle.std.{specs.Prelude.{◌≡◌, ℕ, List, [], ◌∷◌, ◌++◌, length, map, codes, Option, Some}, specs.Fmt.{decimal}}
 use Rattle.bus_captures.{specs.Values.{EntryValue, entry_value}, specs.declared.capture.Capture.{Capture}, specs.declared.capture.CaptureFault.{CaptureFault}, specs.declared.capture.End.{End}}
 use Rattle.heard_captures.specs.Seen.{Seen, AreSeen}
 use Rattle.plan_values.specs.declared.plan.Plan.{Plan}
-use Rattle.decoded_texts.{specs.Heads.{head_words}, specs.Seen.{IsToldAs, link_words}}
+use Rattle.decoded_texts.specs.Seen.{IsToldAs, link_words}
 use Rattle.bus_captures.specs.declared.capture.CaptureFault.TheVariants as fault
 use Rattle.bus_captures.specs.declared.capture.End.TheVariants as end
 
--- These are the lines of entries and of what became of them, one after the other, with the names that a plan has.
--- Entries are numbered from 1.
+-- These are the lines of entries and of what became of them, one after the other, with the names that a plan has, each
+-- behind words for the entry's number, time, interface and way.
 pub data AreTold (plan : Option Plan) : List EntryValue → List Seen → List ℕ → Type 0 where
   None : AreTold plan [] [] []
-  More : (entries : List EntryValue) (seen : List Seen) (lines : List ℕ) (e : EntryValue) (s : Seen) (told : List ℕ)
-      → AreTold plan entries seen lines → IsToldAs plan s told
-      → AreTold plan (entries ++ e ∷ []) (seen ++ s ∷ []) (lines ++ (head_words (length entries + 1) e ++ told))
+  More : (entries : List EntryValue) (seen : List Seen) (lines : List ℕ) (e : EntryValue) (s : Seen)
+      (head told : List ℕ) → AreTold plan entries seen lines → IsToldAs plan s told
+      → AreTold plan (entries ++ e ∷ []) (seen ++ s ∷ []) (lines ++ (head ++ told))
 
 abbrev pub fault_words : CaptureFault → List ℕ
 fault_words fault.Header = codes "header"

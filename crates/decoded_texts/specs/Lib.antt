@@ -1,9 +1,5 @@
-pub mod Control
-pub mod Platform
-pub mod Messages
 pub mod Names
 pub mod NameTables
-pub mod Heads
 pub mod Seen
 pub mod Steps
 pub mod Decoding

@@ -6,7 +6,7 @@ use Rattle.mctp_transport.{specs.Causes.{cause_code}, specs.PacketValues.{Packet
 use Rattle.heard_captures.specs.Seen.{Seen, Fed, NoPacket, Told, Other, NotRead}
 use Rattle.plan_values.specs.declared.plan.Plan.{Plan}
 use Rattle.plan_texts.specs.Shown.{address_words_of, position_words_of, tag_words_of, refused_bytes}
-use Rattle.decoded_texts.{specs.Messages.{IsSaid}, specs.Names.{names_of}}
+use Rattle.decoded_texts.specs.Names.{names_of}
 use Rattle.bus_captures.specs.declared.capture.Direction.TheVariants as direction
 use Rattle.bus_captures.specs.declared.capture.Unread.TheVariants as unread
 use Rattle.mctp_transport.specs.Refusals as refusals
@@ -48,16 +48,11 @@ unread_words unread.NoFrame = unread_word unread.NoFrame
 unread_words (unread.Pec told computed) =
     codes "pec " ++ (encode_lower (told ∷ []) ++ (codes " computed " ++ encode_lower (computed ∷ [])))
 
--- behind a packet that ends a message stands what the message says
-abbrev pub IsSaidOf : Answer → List ℕ → Type 0
-IsSaidOf (Whole message) said = IsSaid message said
-IsSaidOf Held said = said ≡ []
-IsSaidOf (Dropped cause) said = said ≡ []
-
--- the lines of what was seen, behind what stands before it, with the names that a plan has
+-- The lines of what was seen, behind what stands before it, with the names that a plan has. What a message says stands
+-- behind its line, in whatever words.
 abbrev pub IsToldAs : Option Plan → Seen → List ℕ → Type 0
-IsToldAs plan (Fed i p answer) lines = (said : List ℕ) × IsSaidOf answer said × (lines ≡ fed_line plan p answer ++ said)
+IsToldAs plan (Fed i p answer) lines = (said : List ℕ) × (lines ≡ fed_line plan p answer ++ said)
 IsToldAs plan (NoPacket why) lines = lines ≡ codes " " ++ refused_bytes (refusals.code_of why)
-IsToldAs plan (Told way message) lines = (said : List ℕ) × IsSaid message said × (lines ≡ told_line way message ++ said)
+IsToldAs plan (Told way message) lines = (said : List ℕ) × (lines ≡ told_line way message ++ said)
 IsToldAs plan (Other protocol) lines = lines ≡ codes " protocol " ++ (decimal protocol ++ codes "\n")
 IsToldAs plan (NotRead why) lines = lines ≡ codes " unread " ++ (unread_words why ++ codes "\n")

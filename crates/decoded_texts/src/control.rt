@@ -1,44 +1,32 @@
 //! The lines of control messages.
-ghost use Rattle.std.specs.Prelude.{◌≡◌, IfOk, MatchOption, string_bytes};
-ghost use Rattle.mctp_control.{specs.Requests.{command_value, request_value}, specs.Responses.{answer_value, response_value}};
-ghost use Rattle.decoded_texts.specs.Control.{command_words, answer_words, request_line, response_line, IsResponseText, IsNoControl, IsControlText, IsNoResponse};
 
 use mctp_control::{ControlAnswer, ControlCommand, Request, Response};
 use mctp_transport::Wire;
 use std::alloc::{AllocError, Global};
 
 /// The line of the control message that the bytes are. None where they are none of the four commands.
-pub fn control_text(alloc: Global, message: &[u8]) -> Result<Option<String>, AllocError>
-    ensures { IfOk result (λ found. MatchOption found (IsNoControl message.now)
-        (λ text. IsControlText message.now (string_bytes text))) }
-{
+pub fn control_text(alloc: Global, message: &[u8]) -> Result<Option<String>, AllocError> {
     match Request::read(message) {
         Ok(request) => Ok(Some(request_text(alloc, &request)?)),
         Err(_) => response_or_none(alloc, message),
     }
 }
 
-fn response_or_none(alloc: Global, message: &[u8]) -> Result<Option<String>, AllocError>
-    ensures { IfOk result (λ found. MatchOption found (IsNoResponse message.now) (λ text. IsResponseText message.now (string_bytes text))) }
-{
+fn response_or_none(alloc: Global, message: &[u8]) -> Result<Option<String>, AllocError> {
     match Response::read(message) {
         Ok(response) => Ok(Some(response_text(alloc, &response)?)),
         Err(_) => Ok(None),
     }
 }
 
-fn request_text(alloc: Global, request: &Request) -> Result<String, AllocError>
-    ensures { IfOk result (λ text. string_bytes text ≡ request_line (request_value request.now)) }
-{
+fn request_text(alloc: Global, request: &Request) -> Result<String, AllocError> {
     let instance = request.header.instance.value;
     let datagram = u8::from(request.header.datagram);
     let command = command_text(alloc, &request.command)?;
     format!(in alloc; "control request instance {instance} datagram {datagram} {command}\n")
 }
 
-fn command_text(alloc: Global, command: &ControlCommand) -> Result<String, AllocError>
-    ensures { IfOk result (λ text. string_bytes text ≡ command_words (command_value command.now)) }
-{
+fn command_text(alloc: Global, command: &ControlCommand) -> Result<String, AllocError> {
     match command {
         ControlCommand::SetEndpointId { operation, eid, .. } => {
             let operation = *operation as u8;
@@ -64,17 +52,13 @@ fn command_text(alloc: Global, command: &ControlCommand) -> Result<String, Alloc
     }
 }
 
-fn response_text(alloc: Global, response: &Response) -> Result<String, AllocError>
-    ensures { IfOk result (λ text. string_bytes text ≡ response_line (response_value response.now)) }
-{
+fn response_text(alloc: Global, response: &Response) -> Result<String, AllocError> {
     let instance = response.header.instance.value;
     let answer = answer_text(alloc, &response.answer)?;
     format!(in alloc; "control response instance {instance} {answer}\n")
 }
 
-fn answer_text(alloc: Global, answer: &ControlAnswer) -> Result<String, AllocError>
-    ensures { IfOk result (λ text. string_bytes text ≡ answer_words (answer_value answer.now)) }
-{
+fn answer_text(alloc: Global, answer: &ControlAnswer) -> Result<String, AllocError> {
     match answer {
         ControlAnswer::SetEndpointId { status, eid, size } => {
             let acceptance = status.acceptance as u8;

@@ -5,9 +5,9 @@ ghost use Rattle.mctp_transport.{specs.Heard.{heard_answer}, specs.Packets.{pack
 ghost use Rattle.heard_captures.specs.Sights.{seen_of};
 ghost use Rattle.hex.specs.Hex.{encode_lower};
 ghost use Rattle.plan_texts.specs.Shown.{address_words_of, position_words_of, tag_words_of, refused_bytes};
-ghost use Rattle.decoded_texts.{specs.Messages.{IsSaid}, specs.Seen.{answer_word, way_word, fed_line, told_line, link_words, unread_words, IsSaidOf}, specs.Steps.{AddsTold, AddsStep}};
+ghost use Rattle.decoded_texts.{specs.Seen.{answer_word, way_word, fed_line, told_line, link_words, unread_words}, specs.Steps.{AddsTold, AddsStep}};
 
-use crate::heads::push_head;
+use crate::heads::head_text;
 use crate::message::message_text;
 use crate::names::{Names, push_names, unit_by};
 use bus_captures::{Direction, Entry, Unread};
@@ -24,10 +24,10 @@ pub fn push_entry(
     number: usize,
     entry: &Entry,
 ) -> Result<(), AllocError>
-    ensures { OnOk result (AddsStep stations.old stations.new (option_map (λ n. n.now.plan.now) names.entry) number (entry_value entry.now) (string_bytes text.old) (string_bytes text.new)) }
+    ensures { OnOk result (AddsStep stations.old stations.new (option_map (λ n. n.now.plan.now) names.entry) (entry_value entry.now) (string_bytes text.old) (string_bytes text.new)) }
 {
     let sight = see(alloc, stations, unit_by(names), entry)?;
-    push_head(alloc, text, number, entry)?;
+    text.push_str(&head_text(alloc, number, entry)?)?;
     push_sight(alloc, text, names, &sight)
 }
 
@@ -57,7 +57,7 @@ fn push_fed(
     packet: &PacketView,
     heard: &Heard,
 ) -> Result<(), AllocError>
-    ensures { OnOk result ((said : List ℕ) × IsSaidOf (heard_answer heard.now) said × (string_bytes text.new ≡ string_bytes text.old ++ (fed_line (option_map (λ n. n.now.plan.now) names.entry) (packet_value_of packet.now) (heard_answer heard.now) ++ said))) }
+    ensures { OnOk result ((said : List ℕ) × (string_bytes text.new ≡ string_bytes text.old ++ (fed_line (option_map (λ n. n.now.plan.now) names.entry) (packet_value_of packet.now) (heard_answer heard.now) ++ said))) }
 {
     push_fed_line(alloc, text, names, packet, heard)?;
     push_said(alloc, text, heard)
@@ -135,7 +135,7 @@ fn push_payload(alloc: Global, text: &mut String, packet: &PacketView) -> Result
 
 /// Adds what the message says that a packet ended, or nothing where it ended none.
 fn push_said(alloc: Global, text: &mut String, heard: &Heard) -> Result<(), AllocError>
-    ensures { OnOk result ((said : List ℕ) × IsSaidOf (heard_answer heard.now) said × (string_bytes text.new ≡ string_bytes text.old ++ said)) }
+    ensures { OnOk result ((said : List ℕ) × (string_bytes text.new ≡ string_bytes text.old ++ said)) }
 {
     match heard {
         Heard::Whole(message) => push_message(alloc, text, message),
@@ -145,7 +145,7 @@ fn push_said(alloc: Global, text: &mut String, heard: &Heard) -> Result<(), Allo
 
 /// Adds what a message says.
 fn push_message(alloc: Global, text: &mut String, message: &[u8]) -> Result<(), AllocError>
-    ensures { OnOk result ((said : List ℕ) × IsSaid message.now said × (string_bytes text.new ≡ string_bytes text.old ++ said)) }
+    ensures { OnOk result ((said : List ℕ) × (string_bytes text.new ≡ string_bytes text.old ++ said)) }
 {
     let said = message_text(alloc, message)?;
     text.push_str(&said)
@@ -158,7 +158,7 @@ fn push_told(
     way: Option<Direction>,
     message: &[u8],
 ) -> Result<(), AllocError>
-    ensures { OnOk result ((said : List ℕ) × IsSaid message.now said × (string_bytes text.new ≡ string_bytes text.old ++ (told_line way message.now ++ said))) }
+    ensures { OnOk result ((said : List ℕ) × (string_bytes text.new ≡ string_bytes text.old ++ (told_line way message.now ++ said))) }
 {
     push_told_line(alloc, text, way, message)?;
     push_message(alloc, text, message)

@@ -1,7 +1,4 @@
 //! What stands before what became of an entry: its number, when and where it was captured, and which way it went.
-ghost use Rattle.std.specs.Prelude.{◌≡◌, ◌<◌, ◌++◌, OnOk, map, option_map, string_bytes};
-ghost use Rattle.bus_captures.specs.Values.{entry_value, time_value};
-ghost use Rattle.decoded_texts.specs.Heads.{head_words, nine_digits, time_words, interface_name, interface_words, number_words, shown_byte, way_words};
 
 use bus_captures::{Direction, Entry, Interface, Kind, Time};
 use std::alloc::{AllocError, Global};
@@ -9,24 +6,16 @@ use std::alloc::{AllocError, Global};
 /// How many nanoseconds a second has.
 const SECOND: u64 = 1_000_000_000;
 
-/// Adds the number of an entry, its time in seconds, its interface and its way, as far as the capture has them.
-pub fn push_head(
-    alloc: Global,
-    text: &mut String,
-    number: usize,
-    entry: &Entry,
-) -> Result<(), AllocError>
-    ensures { OnOk result (string_bytes text.new ≡ string_bytes text.old ++ head_words number (entry_value entry.now)) }
-{
-    write!(text, "{number}")?;
-    push_time(alloc, text, entry.time)?;
-    push_interface(text, entry.interface, entry.name)?;
-    text.push_str(way_words(entry.kind, entry.direction))
+/// The number of an entry, its time in seconds, its interface and its way, as far as the capture has them.
+pub fn head_text(alloc: Global, number: usize, entry: &Entry) -> Result<String, AllocError> {
+    let mut text = format!(in alloc; "{number}")?;
+    push_time(alloc, &mut text, entry.time)?;
+    push_interface(&mut text, entry.interface, entry.name)?;
+    text.push_str(way_words(entry.kind, entry.direction))?;
+    Ok(text)
 }
 
-fn push_time(alloc: Global, text: &mut String, time: Time) -> Result<(), AllocError>
-    ensures { OnOk result (string_bytes text.new ≡ string_bytes text.old ++ time_words (time_value time.entry)) }
-{
+fn push_time(alloc: Global, text: &mut String, time: Time) -> Result<(), AllocError> {
     match time {
         Time::Unknown => Ok(()),
         Time::Written(digits) => {
@@ -45,9 +34,7 @@ fn push_time(alloc: Global, text: &mut String, time: Time) -> Result<(), AllocEr
 }
 
 /// Adds a number with zeros before it, in nine digits.
-fn push_nine_digits(text: &mut String, number: u64) -> Result<(), AllocError>
-    ensures { OnOk result (string_bytes text.new ≡ string_bytes text.old ++ nine_digits number) }
-{
+fn push_nine_digits(text: &mut String, number: u64) -> Result<(), AllocError> {
     write!(text, "{number:09}")
 }
 
@@ -55,18 +42,14 @@ fn push_interface(
     text: &mut String,
     interface: Interface,
     name: Option<&[u8]>,
-) -> Result<(), AllocError>
-    ensures { OnOk result (string_bytes text.new ≡ string_bytes text.old ++ interface_words interface (option_map (λ n. n.now) name.entry)) }
-{
+) -> Result<(), AllocError> {
     push_number(text, " interface ", interface.number)?;
     push_name(text, name)?;
     push_number(text, " ifindex ", interface.index)
 }
 
 /// Adds the name of an interface, if it has one.
-fn push_name(text: &mut String, name: Option<&[u8]>) -> Result<(), AllocError>
-    ensures { OnOk result (string_bytes text.new ≡ string_bytes text.old ++ interface_name (option_map (λ n. n.now) name.entry)) }
-{
+fn push_name(text: &mut String, name: Option<&[u8]>) -> Result<(), AllocError> {
     match name {
         None => Ok(()),
         Some(name) => {
@@ -77,9 +60,7 @@ fn push_name(text: &mut String, name: Option<&[u8]>) -> Result<(), AllocError>
 }
 
 /// Adds the bytes of a name as they are shown.
-fn push_shown(text: &mut String, name: &[u8]) -> Result<(), AllocError>
-    ensures { OnOk result (string_bytes text.new ≡ string_bytes text.old ++ map shown_byte name.now) }
-{
+fn push_shown(text: &mut String, name: &[u8]) -> Result<(), AllocError> {
     for byte in name.iter() {
         text.push(char::from(shown_byte(*byte)))?;
     }
@@ -87,17 +68,12 @@ fn push_shown(text: &mut String, name: &[u8]) -> Result<(), AllocError>
 }
 
 /// A question mark for what is no printable character of ASCII, and for a blank.
-fn shown_byte(byte: u8) -> u8
-    ensures shown { result ≡ shown_byte byte }
-    ensures ascii { result < 128 }
-{
+fn shown_byte(byte: u8) -> u8 {
     if byte.is_ascii_graphic() { byte } else { b'?' }
 }
 
 /// Adds a number behind its words, if there is one.
-fn push_number(text: &mut String, words: &str, number: Option<u32>) -> Result<(), AllocError>
-    ensures { OnOk result (string_bytes text.new ≡ string_bytes text.old ++ number_words words.now number) }
-{
+fn push_number(text: &mut String, words: &str, number: Option<u32>) -> Result<(), AllocError> {
     match number {
         None => Ok(()),
         Some(number) => write!(text, "{words}{number}"),
@@ -105,9 +81,7 @@ fn push_number(text: &mut String, words: &str, number: Option<u32>) -> Result<()
 }
 
 /// The way of what isn't a message: a message has it in words of its own.
-fn way_words(kind: Kind, way: Option<Direction>) -> &'static str
-    ensures { result.now ≡ way_words kind way }
-{
+fn way_words(kind: Kind, way: Option<Direction>) -> &'static str {
     match (kind, way) {
         (Kind::Message, _) | (_, None) => "",
         (_, Some(Direction::Sent)) => " out",

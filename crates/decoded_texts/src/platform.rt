@@ -1,7 +1,4 @@
 //! The lines of PLDM messages.
-ghost use Rattle.std.specs.Prelude.{◌≡◌, ◌≤◌, IfOk, MatchOption, string_bytes, length, drop};
-ghost use Rattle.pldm_message.{specs.HeaderValues.{header_value}, specs.PdrValues.{get_pdr_request, part_request, get_pdr_answer, part}};
-ghost use Rattle.decoded_texts.specs.Platform.{part_request_line, place_words, part_line, part_words, failed_line, header_line, kind_word, IsRecordOrNothing, IsPartText, IsOutcomeText, IsPartRequestText, IsPartAnswerText, IsNoPartRequest, IsNoPartAnswer, IsHeaderText, IsNoHeader};
 
 use mctp_transport::Wire;
 use pdr_record::Record;
@@ -10,19 +7,14 @@ use pldm_message::{GetPdrAnswer, GetPdrRequest, HEADER_LENGTH, MessageKind, PdrP
 use std::alloc::{AllocError, Global};
 
 /// The line of the request for a part of a record that the bytes are. None where they are none.
-pub fn part_request_text(alloc: Global, message: &[u8]) -> Result<Option<String>, AllocError>
-    ensures { IfOk result (λ found. MatchOption found (IsNoPartRequest message.now)
-        (λ text. IsPartRequestText message.now (string_bytes text))) }
-{
+pub fn part_request_text(alloc: Global, message: &[u8]) -> Result<Option<String>, AllocError> {
     match GetPdrRequest::read(message) {
         Ok(request) => Ok(Some(request_text(alloc, &request)?)),
         Err(_) => Ok(None),
     }
 }
 
-fn request_text(alloc: Global, request: &GetPdrRequest) -> Result<String, AllocError>
-    ensures { IfOk result (λ text. string_bytes text ≡ part_request_line (get_pdr_request request.now)) }
-{
+fn request_text(alloc: Global, request: &GetPdrRequest) -> Result<String, AllocError> {
     let instance = request.head.instance.value;
     let place = place_words(alloc, request)?;
     let count = request.request_count;
@@ -32,9 +24,7 @@ fn request_text(alloc: Global, request: &GetPdrRequest) -> Result<String, AllocE
     )
 }
 
-fn place_words(alloc: Global, request: &GetPdrRequest) -> Result<String, AllocError>
-    ensures { IfOk result (λ words. string_bytes words ≡ place_words (part_request request.now)) }
-{
+fn place_words(alloc: Global, request: &GetPdrRequest) -> Result<String, AllocError> {
     let handle = request.record_handle;
     let transfer = request.data_transfer_handle;
     let operation = request.operation.value;
@@ -42,19 +32,14 @@ fn place_words(alloc: Global, request: &GetPdrRequest) -> Result<String, AllocEr
 }
 
 /// The lines of the answer with a part of a record that the bytes are. None where they are none.
-pub fn part_answer_text(alloc: Global, message: &[u8]) -> Result<Option<String>, AllocError>
-    ensures { IfOk result (λ found. MatchOption found (IsNoPartAnswer message.now)
-        (λ text. IsPartAnswerText message.now (string_bytes text))) }
-{
+pub fn part_answer_text(alloc: Global, message: &[u8]) -> Result<Option<String>, AllocError> {
     match GetPdrAnswer::read(message) {
         Ok(answer) => Ok(Some(answer_text(alloc, &answer)?)),
         Err(_) => Ok(None),
     }
 }
 
-fn answer_text(alloc: Global, answer: &GetPdrAnswer) -> Result<String, AllocError>
-    ensures { IfOk result (λ text. IsOutcomeText (get_pdr_answer answer.now).head.instance (get_pdr_answer answer.now).outcome (string_bytes text)) }
-{
+fn answer_text(alloc: Global, answer: &GetPdrAnswer) -> Result<String, AllocError> {
     let instance = answer.head.instance.value;
     match &answer.outcome {
         Ok(part) => part_text(alloc, instance, part),
@@ -65,25 +50,19 @@ fn answer_text(alloc: Global, answer: &GetPdrAnswer) -> Result<String, AllocErro
     }
 }
 
-fn part_text(alloc: Global, instance: u8, given: &PdrPart) -> Result<String, AllocError>
-    ensures { IfOk result (λ text. IsPartText instance (part given.now) (string_bytes text)) }
-{
+fn part_text(alloc: Global, instance: u8, given: &PdrPart) -> Result<String, AllocError> {
     let line = part_line(alloc, instance, given)?;
     let shown = record_or_nothing(alloc, given.bytes)?;
     format!(in alloc; "{line}{shown}")
 }
 
-fn part_line(alloc: Global, instance: u8, given: &PdrPart) -> Result<String, AllocError>
-    ensures { IfOk result (λ line. string_bytes line ≡ part_line instance (part given.now)) }
-{
+fn part_line(alloc: Global, instance: u8, given: &PdrPart) -> Result<String, AllocError> {
     let words = part_words(alloc, given)?;
     let bytes = hex::encode(alloc, given.bytes)?;
     format!(in alloc; "pldm response instance {instance} get-pdr {words} bytes {bytes}\n")
 }
 
-fn part_words(alloc: Global, given: &PdrPart) -> Result<String, AllocError>
-    ensures { IfOk result (λ words. string_bytes words ≡ part_words (part given.now)) }
-{
+fn part_words(alloc: Global, given: &PdrPart) -> Result<String, AllocError> {
     let next = given.next_record_handle;
     let transfer = given.next_data_transfer_handle;
     let flag = given.flag.value;
@@ -91,9 +70,7 @@ fn part_words(alloc: Global, given: &PdrPart) -> Result<String, AllocError>
 }
 
 /// The lines of the record that the bytes are, or nothing where they are none.
-fn record_or_nothing(alloc: Global, bytes: &[u8]) -> Result<String, AllocError>
-    ensures { IfOk result (λ text. IsRecordOrNothing bytes.now (string_bytes text)) }
-{
+fn record_or_nothing(alloc: Global, bytes: &[u8]) -> Result<String, AllocError> {
     match Record::read(bytes) {
         Ok(record) => record_text(alloc, &record),
         Err(_) => Ok(String::new(alloc)),
@@ -101,10 +78,7 @@ fn record_or_nothing(alloc: Global, bytes: &[u8]) -> Result<String, AllocError>
 }
 
 /// The line of a message by its header. None where it begins with none.
-pub fn header_text(alloc: Global, message: &[u8]) -> Result<Option<String>, AllocError>
-    ensures { IfOk result (λ found. MatchOption found (IsNoHeader message.now)
-        (λ text. IsHeaderText message.now (string_bytes text))) }
-{
+pub fn header_text(alloc: Global, message: &[u8]) -> Result<Option<String>, AllocError> {
     match PldmHeader::front(message) {
         Ok(header) => Ok(Some(line_of_header(alloc, &header, behind_header(message))?)),
         Err(_) => Ok(None),
@@ -112,15 +86,11 @@ pub fn header_text(alloc: Global, message: &[u8]) -> Result<Option<String>, Allo
 }
 
 /// What stands behind a message's header.
-fn behind_header(message: &[u8]) -> &[u8]
-    ensures { result.now ≡ drop 4 message.now }
-{
+fn behind_header(message: &[u8]) -> &[u8] {
     message.get(HEADER_LENGTH..).unwrap_or(&[])
 }
 
-fn line_of_header(alloc: Global, header: &PldmHeader, rest: &[u8]) -> Result<String, AllocError>
-    ensures { IfOk result (λ text. string_bytes text ≡ header_line (header_value header.now) rest.now) }
-{
+fn line_of_header(alloc: Global, header: &PldmHeader, rest: &[u8]) -> Result<String, AllocError> {
     let kind = word_of(header.kind);
     let instance = header.instance.value;
     let pldm_type = header.pldm_type.value;
@@ -131,9 +101,7 @@ fn line_of_header(alloc: Global, header: &PldmHeader, rest: &[u8]) -> Result<Str
     )
 }
 
-fn word_of(kind: MessageKind) -> &'static str
-    ensures { result.now ≡ kind_word kind }
-{
+fn word_of(kind: MessageKind) -> &'static str {
     match kind {
         MessageKind::Request => "request",
         MessageKind::Datagram => "datagram",

@@ -1,5 +1,5 @@
 use Rattle.std.proofs.Common.{◌+◌, ◌∙◌, [], List, ap, arith, subst, sym, map}
-use Rattle.audited_captures.{specs.Audits.{AreLines, Empty, has_compared, heard_of, one_if}, specs.Exchanges.{exchange_value}, specs.Lines.{line_value}, specs.declared.lines.Line.{Line}, specs.Repositories.{repository_values}, specs.Words.{word_value}, proofs.AuditLaws.{next_node}}
+use Rattle.audited_captures.{specs.Audits.{AreLines, Empty, heard_of}, specs.Counting.{has_compared}, specs.RecordLines.{one_if}, specs.Exchanges.{exchange_value}, specs.Lines.{line_value}, specs.declared.lines.Line.{Line}, specs.Repositories.{repository_values}, specs.Words.{word_value}, proofs.AuditLaws.{next_node}}
 use Rattle.audited_captures.proofs.audits.lines_of_nodes.Goals as goal
 
 pub loop-n-init : goal.loop-n-init

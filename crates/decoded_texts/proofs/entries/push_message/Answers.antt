@@ -6,4 +6,4 @@ pub returns : goal.returns
 returns c =
     let said = string_bytes c.in_ok-said.said in
     let joined : OnOk c.push_str.result (string_bytes c.push_str.new.self ≡ string_bytes c.args.text.now ++ said) = search rules in
-    said_if c.args.message.now (string_bytes c.args.text.now) said _ c.push_str.result c.in_ok-said.ensures joined
+    said_if (string_bytes c.args.text.now) said _ c.push_str.result joined
