@@ -149,13 +149,19 @@ def literal(text):
     return f'r{marks}"{text}"{marks}'
 
 
+def declared(constant, said):
+    """A constant of a literal, in rt fmt's layout: a first line of more than 100 columns begins anew behind the sign."""
+    whole = f"const {constant}: &str = {said};"
+    return whole if len(whole.partition("\n")[0]) <= 100 else f"const {constant}: &str =\n    {said};"
+
+
 def choosing(name, about, word, constants):
     """A function that answers the constant for a word, and the constants."""
     arms = "".join(f'        "{it}" => Some({constant}),\n' for it, (constant, _) in constants.items())
     head = f"pub fn {name}({word}: &str) -> Option<&'static str>"
     return [
         f"/// {about}\n{head} {{\n    match {word} {{\n{arms}        _ => None,\n    }}\n}}",
-        *(f"const {constant}: &str = {literal(text)};" for constant, text in constants.values()),
+        *(declared(constant, literal(text)) for constant, text in constants.values()),
     ]
 
 

@@ -362,7 +362,8 @@ Status 1: a fault of the plan or the certificate.
   records 1 requests 2
 "#;
 
-const OF_EXPORT: &str = r#"mctpplan export linux|mctpd|devicetree|c|entries|records PLAN CERT NODE [--link BUS=DEV]..
+const OF_EXPORT: &str =
+    r#"mctpplan export linux|mctpd|devicetree|c|entries|records PLAN CERT NODE [--link BUS=DEV]..
 
 Prints what the first node of the name NODE has by the plan. Rows stand in the order of their
 endpoint IDs, and records in the order of the certificate's places. There are six forms:
