@@ -134,14 +134,16 @@ KINDS = {
 
 def falsified(rng, terminus, kind):
     """The packets of a walk in which one bit of one answer is another."""
-    program, said = Program(rng, 0, 0, []), []
-    while not program.is_done:
-        (tag, instance), request = program.under(), program.request()
-        answer = terminus.answer(instance, request)
-        said.append((tag, instance, request, bytearray(answer)))
-        program.take(answer)
-    least, most = KINDS[kind]
-    fit = [it for it in said if len(it[3]) > max(least, most)]
+    (least, most), fit = KINDS[kind], []
+    # (in a walk by small parts no answer may have such bytes)
+    while not fit:
+        program, said = Program(rng, 0, 0, []), []
+        while not program.is_done:
+            (tag, instance), request = program.under(), program.request()
+            answer = terminus.answer(instance, request)
+            said.append((tag, instance, request, bytearray(answer)))
+            program.take(answer)
+        fit = [it for it in said if len(it[3]) > max(least, most)]
     answer = rng.choice(fit)[3]
     place = rng.randint(least % len(answer), most % len(answer))
     answer[place] ^= 1 << rng.randrange(8)
