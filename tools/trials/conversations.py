@@ -9,20 +9,11 @@ program, 100 of another, and as many falsified walks; a word that is a number sa
 import json
 import random
 
-from runner import TOP, each
+from runner import TOP, check_byte, each
 
 COUNT, FEW = 2_000, 100
 HOST, SERVER = 8, TOP / "examples/server"
 FIRST, NEXT = 1, 0
-
-
-def check_byte(data):
-    crc = 0
-    for byte in data:
-        crc ^= byte
-        for _ in range(8):
-            crc = (crc << 1 ^ 7 if crc & 128 else crc << 1) & 255
-    return crc
 
 
 def number(value, count):

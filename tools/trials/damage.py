@@ -8,7 +8,7 @@ import collections
 import itertools
 import struct
 
-from runner import RISER, each
+from runner import RISER, check_byte, each
 
 FEW = 8  # one of so many, where the program is unproved and slow
 
@@ -377,15 +377,6 @@ def part(handle, transfer, operation, count, change):
     flag = (5 if operation else 4) if is_last else (0 if operation else 1)
     head = struct.pack("<BIIBH", 0, 0, 0 if is_last else end, flag, end - begin)
     return head + LOCATOR[begin:end] + (b"" if flag != 4 else bytes([check_byte(LOCATOR)]))
-
-
-def check_byte(data):
-    crc = 0
-    for byte in data:
-        crc ^= byte
-        for _ in range(8):
-            crc = crc << 1 ^ 0x107 * (crc >> 7)
-    return crc
 
 
 # ---- running

@@ -16,6 +16,16 @@ RISER, MOVE = TOP / "examples/riser", TOP / "examples/move"
 BUILT = TOP / "crates/mctpplan/out/mctpplan"
 
 
+def check_byte(data):
+    """The check byte of a record (DSP0248): the CRC of eight bits by x^8 + x^2 + x + 1."""
+    crc = 0
+    for byte in data:
+        crc ^= byte
+        for _ in range(8):
+            crc = crc << 1 ^ 0x107 * (crc >> 7)
+    return crc
+
+
 class Failed(Exception):
     """Why nothing can be tried."""
 
