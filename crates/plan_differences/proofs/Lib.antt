@@ -1,6 +1,6 @@
 mod Consequences
-mod Indexing
+mod Indexes
 mod Items
 mod OtherWays
-mod Parts
 mod PortFacts
+mod Telling

@@ -1,10 +1,7 @@
 pub mod Facts
-pub mod Things
-pub mod Listed
 pub mod Differences
 pub mod DifferenceLines
 pub mod Indexes
-pub mod Indexed
 pub mod WayDifferences
 pub mod WayLines
 pub mod Changes

@@ -1,162 +1,112 @@
 //! How the facts of two plans differ.
-ghost use Rattle.std.specs.Prelude.{◌≡◌, ◌<◌, IfOk, length, map};
-ghost use Rattle.plan_differences.{specs.Facts.{fact_value}, specs.Indexed.{IsIndexed, IsOnlyIndex}, specs.Things.{thing_of}, specs.Differences.{AreDifferences, AreOnlyOf, AreToldIn, IsAfter, IsBefore, IsDifference, IsOfNew, IsOfOld}, specs.declared.difference.Difference.TheVariants.{Changed}};
+ghost use Rattle.std.specs.Prelude.{◌≡◌, IfOk, map};
+ghost use Rattle.plan_differences.{specs.Facts.{fact_value}, specs.Differences.{AreDifferences, AreOnlyIn, of_fact, told_of}, specs.declared.difference.Difference.TheVariants.{Changed}};
 
-use crate::fact::{Fact, are_of_one};
-use crate::index::{IndexedFacts, Places, contains, fact_at, only_places, places_of};
+use crate::fact::Fact;
+use crate::index::{by_things, by_words, is_said, listed};
 use crate::lines::{fact_text, thing_text};
 use std::alloc::{AllocError, Global};
 
-/// How the facts of two plans differ. A fact stands by its index in its plan's list.
+/// How the facts of two plans differ.
 #[derive(Clone, Copy)]
-pub enum Difference {
-    /// This fact of the old plan isn't one of the new plan's, which says nothing else of its thing either.
-    Removed(usize),
+pub enum Difference<'p> {
+    /// This fact of the old plan isn't one of the new plan's, which says nothing new of its thing.
+    Removed(Fact<'p>),
     /// This fact of the old plan isn't one of the new plan's, and this one of the new plan is of the same thing and
     /// isn't one of the old plan's.
-    Changed(usize, usize),
-    /// This fact of the new plan isn't one of the old plan's, which says nothing else of its thing either.
-    Added(usize),
+    Changed(Fact<'p>, Fact<'p>),
+    /// This fact of the new plan isn't one of the old plan's, of which nothing else is gone that was of its thing.
+    Added(Fact<'p>),
 }
 
 /// How the facts of two plans differ: first what the old plan says and the new one doesn't, in the old plan's order,
 /// then what only the new plan says of things, in its order.
-pub fn differences(
+pub fn differences<'p>(
     alloc: Global,
-    olds: &[Fact],
-    news: &[Fact],
-) -> Result<Vec<Difference>, AllocError>
+    olds: &[Fact<'p>],
+    news: &[Fact<'p>],
+) -> Result<Vec<Difference<'p>>, AllocError>
     ensures { IfOk result (λ told. AreDifferences (map fact_value olds.now) (map fact_value news.now) told.items) }
 {
-    let indexed_olds = IndexedFacts::of(alloc, olds)?;
-    let indexed_news = IndexedFacts::of(alloc, news)?;
-    let only_olds = only_places(alloc, indexed_olds.facts, &indexed_news)?;
-    let only_news = only_places(alloc, indexed_news.facts, &indexed_olds)?;
-    let mut told = differences_of_olds(alloc, &indexed_olds, &indexed_news, &only_news)?;
-    let added = differences_of_news(alloc, &indexed_olds, &indexed_news, &only_olds)?;
-    told.extend_from_slice(&added)?;
+    let gone = only_in(alloc, olds, news)?;
+    let come = only_in(alloc, news, olds)?;
+    let mut told = told_of(alloc, Side::Old, &gone, &come)?;
+    told.extend_from_slice(&told_of(alloc, Side::New, &come, &gone)?)?;
     Ok(told)
 }
 
-fn differences_of_olds(
+/// Those facts that aren't among the others.
+fn only_in<'p>(
     alloc: Global,
-    olds: &IndexedFacts,
-    news: &IndexedFacts,
-    only: &Places,
-) -> Result<Vec<Difference>, AllocError>
-    requires olds { IsIndexed olds.now }
-    requires news { IsIndexed news.now }
-    requires only { IsOnlyIndex olds.now news.now only.now }
-    ensures { let here = map fact_value olds.now.facts.now in
-        IfOk result (λ told. AreToldIn (IsDifference here (map fact_value news.now.facts.now)) (IsBefore (length here)) told.items) }
+    facts: &[Fact<'p>],
+    others: &[Fact<'p>],
+) -> Result<Vec<Fact<'p>>, AllocError>
+    ensures { IfOk result (λ only. AreOnlyIn (map fact_value facts.now) (map fact_value others.now) only.items) }
 {
+    let index = by_words(alloc, others)?;
+    let mut only = Vec::new(alloc);
+    for fact in facts {
+        let words = fact_text(alloc, fact)?;
+        if !is_said(&index, &words, fact) {
+            only.push(*fact)?;
+        }
+    }
+    Ok(only)
+}
+
+/// Which of the plans alone says a fact.
+#[derive(Clone, Copy)]
+enum Side {
+    Old,
+    New,
+}
+
+/// What is told of the facts that one plan alone says, beside those that the other one alone says.
+fn told_of<'p>(
+    alloc: Global,
+    side: Side,
+    facts: &[Fact<'p>],
+    others: &[Fact<'p>],
+) -> Result<Vec<Difference<'p>>, AllocError>
+    ensures { IfOk result (λ told. told.items ≡ told_of side facts.now others.now) }
+{
+    let index = by_things(alloc, others)?;
     let mut told = Vec::new(alloc);
-    for index in 0..olds.facts.len() {
-        told.extend_from_slice(&differences_of_old(alloc, olds, news, only, index)?)?;
+    for fact in facts {
+        let words = thing_text(alloc, fact)?;
+        let alike = listed(alloc, &index, &words)?;
+        told.extend_from_slice(&of_fact(alloc, side, *fact, &alike)?)?;
     }
     Ok(told)
 }
 
-fn differences_of_news(
+/// What is told of one of these facts, beside the others of its thing. What is changed is told with the old fact alone.
+fn of_fact<'p>(
     alloc: Global,
-    olds: &IndexedFacts,
-    news: &IndexedFacts,
-    only: &Places,
-) -> Result<Vec<Difference>, AllocError>
-    requires olds { IsIndexed olds.now }
-    requires news { IsIndexed news.now }
-    requires only { IsOnlyIndex news.now olds.now only.now }
-    ensures { let there = map fact_value news.now.facts.now in
-        IfOk result (λ told. AreToldIn (IsDifference (map fact_value olds.now.facts.now) there) (IsAfter (length there)) told.items) }
+    side: Side,
+    fact: Fact<'p>,
+    others: &[Fact<'p>],
+) -> Result<Vec<Difference<'p>>, AllocError>
+    ensures { IfOk result (λ told. told.items ≡ of_fact side fact.entry others.now) }
 {
-    let mut told = Vec::new(alloc);
-    for index in 0..news.facts.len() {
-        told.extend_from_slice(&differences_of_new(alloc, olds, news, only, index)?)?;
+    match side {
+        Side::Old if others.is_empty() => Ok(vec![in alloc; Difference::Removed(fact)]?),
+        Side::Old => changes(alloc, fact, others),
+        Side::New if others.is_empty() => Ok(vec![in alloc; Difference::Added(fact)]?),
+        Side::New => Ok(Vec::new(alloc)),
     }
-    Ok(told)
 }
 
-/// What becomes of a fact of the old plan.
-fn differences_of_old(
+fn changes<'p>(
     alloc: Global,
-    olds: &IndexedFacts,
-    news: &IndexedFacts,
-    only: &Places,
-    index: usize,
-) -> Result<Vec<Difference>, AllocError>
-    requires olds { IsIndexed olds.now }
-    requires news { IsIndexed news.now }
-    requires only { IsOnlyIndex olds.now news.now only.now }
-    requires within { index < length olds.now.facts.now }
-    ensures { IfOk result (λ told. AreToldIn (IsDifference (map fact_value olds.now.facts.now) (map fact_value news.now.facts.now)) (IsOfOld index) told.items) }
-{
-    let fact = fact_at(olds.facts, index);
-    let words = fact_text(alloc, fact)?;
-    if contains(news, &words, fact) {
-        return Ok(Vec::new(alloc));
-    }
-    let others = only_of(alloc, olds, news, only, fact)?;
-    if others.is_empty() {
-        return Ok(vec![in alloc; Difference::Removed(index)]?);
-    }
-    changes(alloc, index, &others)
-}
-
-fn changes(alloc: Global, index: usize, others: &[usize]) -> Result<Vec<Difference>, AllocError>
-    ensures { IfOk result (λ told. told.items ≡ map (Changed index) others.now) }
+    fact: Fact<'p>,
+    others: &[Fact<'p>],
+) -> Result<Vec<Difference<'p>>, AllocError>
+    ensures { IfOk result (λ told. told.items ≡ map (Changed fact.entry) others.now) }
 {
     let mut told = Vec::new(alloc);
     for other in others {
-        told.push(Difference::Changed(index, *other))?;
+        told.push(Difference::Changed(fact, *other))?;
     }
     Ok(told)
-}
-
-/// Whether a fact of the new plan is told as added.
-fn differences_of_new(
-    alloc: Global,
-    olds: &IndexedFacts,
-    news: &IndexedFacts,
-    only: &Places,
-    index: usize,
-) -> Result<Vec<Difference>, AllocError>
-    requires olds { IsIndexed olds.now }
-    requires news { IsIndexed news.now }
-    requires only { IsOnlyIndex news.now olds.now only.now }
-    requires within { index < length news.now.facts.now }
-    ensures { IfOk result (λ told. AreToldIn (IsDifference (map fact_value olds.now.facts.now) (map fact_value news.now.facts.now)) (IsOfNew index) told.items) }
-{
-    let fact = fact_at(news.facts, index);
-    let words = fact_text(alloc, fact)?;
-    if contains(olds, &words, fact) {
-        return Ok(Vec::new(alloc));
-    }
-    let others = only_of(alloc, news, olds, only, fact)?;
-    if !others.is_empty() {
-        return Ok(Vec::new(alloc));
-    }
-    Ok(vec![in alloc; Difference::Added(index)]?)
-}
-
-/// The places of those facts that are of the fact's thing and aren't among these. They are listed by the words for it.
-fn only_of(
-    alloc: Global,
-    these: &IndexedFacts,
-    those: &IndexedFacts,
-    only: &Places,
-    fact: &Fact,
-) -> Result<Vec<usize>, AllocError>
-    requires { IsOnlyIndex these.now those.now only.now }
-    ensures { IfOk result (λ others. AreOnlyOf (map fact_value these.now.facts.now) (map fact_value those.now.facts.now) (thing_of (fact_value fact.now)) others.items) }
-{
-    let words = thing_text(alloc, fact)?;
-    let places = places_of(only, &words);
-    let mut others = Vec::new(alloc);
-    for listed in places {
-        let place = *listed;
-        if are_of_one(fact_at(those.facts, place), fact) {
-            others.push(place)?;
-        }
-    }
-    Ok(others)
 }

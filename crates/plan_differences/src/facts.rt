@@ -52,23 +52,17 @@ fn facts_of_node<'p>(
 {
     let name = node.name.text.as_str();
     let mut facts = Vec::new(alloc);
-    facts.push(fact_of_node(plan, node))?;
+    facts.push(Fact::Node {
+        name,
+        kind: node.kind,
+        eid: node.eid,
+        owner: owner_name(plan, node.owner),
+    })?;
     facts.extend_from_slice(&facts_of_pool(alloc, name, node.pool)?)?;
     facts.extend_from_slice(&facts_of_ports(alloc, plan, name, &node.ports)?)?;
     facts.extend_from_slice(&facts_of_rows(alloc, plan, name, &node.rows)?)?;
     facts.extend_from_slice(&facts_of_terminus(alloc, name, &node.terminus)?)?;
     Ok(facts)
-}
-
-fn fact_of_node<'p>(plan: &'p Plan, node: &'p Node) -> Fact<'p>
-    ensures { fact_value result ≡ node_fact plan.now node.now }
-{
-    Fact::Node {
-        name: node.name.text.as_str(),
-        kind: node.kind,
-        eid: node.eid,
-        owner: owner_name(plan, node.owner),
-    }
 }
 
 fn owner_name<'p>(plan: &'p Plan, owner: Option<usize>) -> Option<&'p str>

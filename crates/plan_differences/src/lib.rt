@@ -12,7 +12,7 @@ mod way_lines;
 mod ways;
 
 pub use difference::{Difference, differences};
-pub use fact::{Fact, Thing};
+pub use fact::Fact;
 pub use facts::facts_of;
 pub use run::Diff;
 pub use told::changes_told;

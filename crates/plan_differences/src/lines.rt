@@ -1,74 +1,44 @@
 //! The lines that tell how two plans differ.
-ghost use Rattle.std.{specs.Prelude.{◌≡◌, IfOk, map, option_map, string_bytes}, specs.List.{flat_map}};
-ghost use Rattle.plan_differences.{specs.Facts.{fact_value}, specs.DifferenceLines.{difference_text, fact_text, name_or_dash, said_at, said_text, thing_at, thing_text, thing_words}, specs.Things.{thing_value}};
+ghost use Rattle.std.{specs.Prelude.{◌≡◌, IfOk, option_map, string_bytes}, specs.List.{flat_map}};
+ghost use Rattle.plan_differences.{specs.Facts.{fact_value}, specs.DifferenceLines.{difference_text, fact_text, name_or_dash, said_text, thing_text}};
 
 use crate::difference::Difference;
-use crate::fact::{Fact, Thing};
+use crate::fact::Fact;
 use net_tables::lookup::kind_word;
 use plan_texts::address_text;
 use std::alloc::{AllocError, Global};
 
 /// A line for each difference.
-pub fn difference_lines(
-    alloc: Global,
-    olds: &[Fact],
-    news: &[Fact],
-    differences: &[Difference],
-) -> Result<String, AllocError>
-    ensures { IfOk result (λ lines. string_bytes lines ≡ flat_map (difference_text (map fact_value olds.now) (map fact_value news.now)) differences.now) }
+pub fn difference_lines(alloc: Global, differences: &[Difference]) -> Result<String, AllocError>
+    ensures { IfOk result (λ lines. string_bytes lines ≡ flat_map difference_text differences.now) }
 {
     let mut lines = String::new(alloc);
     for difference in differences {
-        lines.push_str(&difference_line(alloc, olds, news, *difference)?)?;
+        lines.push_str(&difference_line(alloc, difference)?)?;
     }
     Ok(lines)
 }
 
-fn difference_line(
-    alloc: Global,
-    olds: &[Fact],
-    news: &[Fact],
-    difference: Difference,
-) -> Result<String, AllocError>
-    ensures { IfOk result (λ line. string_bytes line ≡ difference_text (map fact_value olds.now) (map fact_value news.now) difference) }
+fn difference_line(alloc: Global, difference: &Difference) -> Result<String, AllocError>
+    ensures { IfOk result (λ line. string_bytes line ≡ difference_text difference.now) }
 {
     match difference {
         Difference::Removed(old) => {
-            let thing = thing_at(alloc, olds, old)?;
-            let said = said_at(alloc, olds, old)?;
+            let thing = thing_text(alloc, old)?;
+            let said = said_text(alloc, old)?;
             format!(in alloc; "removed {thing}: {said}\n")
         }
         Difference::Changed(old, new) => {
-            let thing = thing_at(alloc, olds, old)?;
-            let before = said_at(alloc, olds, old)?;
-            let after = said_at(alloc, news, new)?;
+            let thing = thing_text(alloc, old)?;
+            let before = said_text(alloc, old)?;
+            let after = said_text(alloc, new)?;
             format!(in alloc; "changed {thing}: {before} -> {after}\n")
         }
         Difference::Added(new) => {
-            let thing = thing_at(alloc, news, new)?;
-            let said = said_at(alloc, news, new)?;
+            let thing = thing_text(alloc, new)?;
+            let said = said_text(alloc, new)?;
             format!(in alloc; "added {thing}: {said}\n")
         }
-    }
-}
-
-/// The words for the thing of the fact at an index, or a dash where there is none.
-fn thing_at(alloc: Global, facts: &[Fact], index: usize) -> Result<String, AllocError>
-    ensures { IfOk result (λ text. string_bytes text ≡ thing_at (map fact_value facts.now) index) }
-{
-    match facts.get(index) {
-        Some(fact) => thing_text(alloc, fact),
-        None => "-".to_string(alloc),
-    }
-}
-
-/// What the fact at an index says of its thing, or a dash where there is none.
-fn said_at(alloc: Global, facts: &[Fact], index: usize) -> Result<String, AllocError>
-    ensures { IfOk result (λ text. string_bytes text ≡ said_at (map fact_value facts.now) index) }
-{
-    match facts.get(index) {
-        Some(fact) => said_text(alloc, fact),
-        None => "-".to_string(alloc),
     }
 }
 
@@ -85,24 +55,18 @@ pub fn fact_text(alloc: Global, fact: &Fact) -> Result<String, AllocError>
 pub fn thing_text(alloc: Global, fact: &Fact) -> Result<String, AllocError>
     ensures { IfOk result (λ text. string_bytes text ≡ thing_text (fact_value fact.now)) }
 {
-    thing_words(alloc, fact.thing())
-}
-
-fn thing_words(alloc: Global, thing: Thing) -> Result<String, AllocError>
-    ensures { IfOk result (λ text. string_bytes text ≡ thing_words (thing_value thing.entry)) }
-{
-    match thing {
-        Thing::Plan => "unit".to_string(alloc),
-        Thing::Bus(name) => format!(in alloc; "bus {name}"),
-        Thing::Node(name) => format!(in alloc; "node {name}"),
-        Thing::Pool(node) => format!(in alloc; "pool of {node}"),
-        Thing::Port(node, index) => format!(in alloc; "port {index} of {node}"),
-        Thing::Row(node, first) => {
+    match *fact {
+        Fact::Unit(_) => "unit".to_string(alloc),
+        Fact::Bus { name, .. } => format!(in alloc; "bus {name}"),
+        Fact::Node { name, .. } => format!(in alloc; "node {name}"),
+        Fact::Pool { node, .. } => format!(in alloc; "pool of {node}"),
+        Fact::Port { node, index, .. } => format!(in alloc; "port {index} of {node}"),
+        Fact::Row { node, first, .. } => {
             let first = first.value;
             format!(in alloc; "row {first} of {node}")
         }
-        Thing::Terminus(node) => format!(in alloc; "terminus of {node}"),
-        Thing::Record(node, handle) => format!(in alloc; "record {handle} of {node}"),
+        Fact::Terminus { node, .. } => format!(in alloc; "terminus of {node}"),
+        Fact::Record { node, handle, .. } => format!(in alloc; "record {handle} of {node}"),
     }
 }
 

@@ -1,7 +1,7 @@
 //! What a change of plans does.
 ghost use Rattle.std.specs.Prelude.{◌≡◌, ◌≢◌, ◌↔◌, IfOk, IsTrue, MatchOption, codes, map, string_bytes};
 ghost use Rattle.net_rules.{specs.Certificates.{NamesObstacle, RulesOutCertificates}, specs.Rules.{Accepts}};
-ghost use Rattle.plan_differences.{specs.Facts.{fact_value, plan_facts}, specs.Changes.{AreChangesTold, AreConsequencesTold, AreFactsTold, AreWaysTold, IsRuledOut, IsStanding, reason_of}};
+ghost use Rattle.plan_differences.{specs.Facts.{fact_value, plan_facts}, specs.Changes.{AreChangesTold, AreConsequencesTold, AreFactsTold, AreWaysTold, IsReason, IsRuledOut}};
 
 use crate::difference::differences;
 use crate::fact::{Fact, is_same};
@@ -58,70 +58,46 @@ fn facts_told(alloc: Global, olds: &[Fact], news: &[Fact]) -> Result<String, All
     if found.is_empty() {
         return "changed order of lists\n".to_string(alloc);
     }
-    difference_lines(alloc, olds, news, &found)
+    difference_lines(alloc, &found)
 }
 
 /// What comes of the change: for ways and a roll-out, or the reasons for which a plan has no certificate.
 fn consequences_told(alloc: Global, before: &Plan, after: &Plan) -> Result<String, AllocError>
     ensures { IfOk result (λ text. AreConsequencesTold before.now after.now (string_bytes text)) }
 {
-    let old = standing_of(alloc, "old: ", before)?;
-    let new = standing_of(alloc, "new: ", after)?;
-    of_standings(alloc, before, after, &old, &new)
-}
-
-fn of_standings(
-    alloc: Global,
-    before: &Plan,
-    after: &Plan,
-    old: &Standing,
-    new: &Standing,
-) -> Result<String, AllocError>
-    requires old { IsStanding before.now (codes "old: ") old.now }
-    requires new { IsStanding after.now (codes "new: ") new.now }
-    ensures { IfOk result (λ text. AreConsequencesTold before.now after.now (string_bytes text)) }
-{
-    match old {
-        Standing::Certified(old) => of_new_standing(alloc, before, after, old, new),
-        Standing::RuledOut(line) => {
-            let other = reason(new);
+    match certify(alloc, before) {
+        Ok(old) => of_certified(alloc, before, after, &old),
+        Err(obstacle) => {
+            let line = ruled_out(alloc, "old: ", before, &obstacle)?;
+            let other = reason(alloc, after)?;
             format!(in alloc; "{line}{other}")
         }
     }
 }
 
 /// The same where the old plan has a certificate.
-fn of_new_standing(
+fn of_certified(
     alloc: Global,
     before: &Plan,
     after: &Plan,
     old: &Certificate,
-    new: &Standing,
 ) -> Result<String, AllocError>
-    requires old { Accepts before.now old.now }
-    requires new { IsStanding after.now (codes "new: ") new.now }
+    requires { Accepts before.now old.now }
     ensures { IfOk result (λ text. AreConsequencesTold before.now after.now (string_bytes text)) }
 {
-    match new {
-        Standing::Certified(new) => of_certified(alloc, before, after, old, new),
-        Standing::RuledOut(line) => line.clone(),
+    match certify(alloc, after) {
+        Ok(new) => of_both(alloc, before, after, old, &new),
+        Err(obstacle) => ruled_out(alloc, "new: ", after, &obstacle),
     }
 }
 
-/// Whether a plan has a certificate.
-#[derive(Drop)]
-enum Standing {
-    Certified(Certificate),
-    /// It has none, and this line says why.
-    RuledOut(String),
-}
-
-fn standing_of(alloc: Global, whose: &str, plan: &Plan) -> Result<Standing, AllocError>
-    ensures { IfOk result (IsStanding plan.now whose.now) }
+/// Why the new plan has no certificate, if it has none.
+fn reason(alloc: Global, after: &Plan) -> Result<String, AllocError>
+    ensures { IfOk result (λ text. IsReason after.now (codes "new: ") (string_bytes text)) }
 {
-    match certify(alloc, plan) {
-        Ok(certificate) => Ok(Standing::Certified(certificate)),
-        Err(obstacle) => Ok(Standing::RuledOut(ruled_out(alloc, whose, plan, &obstacle)?)),
+    match certify(alloc, after) {
+        Ok(_) => Ok(String::new(alloc)),
+        Err(obstacle) => ruled_out(alloc, "new: ", after, &obstacle),
     }
 }
 
@@ -140,18 +116,8 @@ fn ruled_out(
     format!(in alloc; "{whose}{line}")
 }
 
-/// The line that says why a plan has no certificate, if it has none.
-fn reason(standing: &Standing) -> &str
-    ensures { result.now ≡ reason_of standing.now }
-{
-    match standing {
-        Standing::Certified(_) => "",
-        Standing::RuledOut(line) => line.as_str(),
-    }
-}
-
 /// What becomes of ways, and what a roll-out needs.
-fn of_certified(
+fn of_both(
     alloc: Global,
     before: &Plan,
     after: &Plan,

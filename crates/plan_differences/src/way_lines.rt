@@ -1,5 +1,5 @@
 //! The lines that tell what becomes of ways and certificates, and what a roll-out needs.
-ghost use Rattle.std.{specs.Prelude.{◌≡◌, Some, None, IfOk, string_bytes}, specs.List.{flat_map}};
+ghost use Rattle.std.{specs.Prelude.{◌≡◌, Some, IfOk, string_bytes}, specs.List.{flat_map}};
 ghost use Rattle.net_tables.specs.Names.{node_name};
 ghost use Rattle.plan_differences.specs.WayLines.{hops_line, need_text, way_text};
 
@@ -39,32 +39,13 @@ fn hops_line(
 ) -> Result<String, AllocError>
     ensures { IfOk result (λ line. string_bytes line ≡ hops_line ends.now before after) }
 {
-    match before {
-        Some(before) => hops_line_from(alloc, ends, before, after),
-        None => new_hops_line(alloc, ends, after),
-    }
-}
-
-fn hops_line_from(
-    alloc: Global,
-    ends: &str,
-    before: usize,
-    after: Option<usize>,
-) -> Result<String, AllocError>
-    ensures { IfOk result (λ line. string_bytes line ≡ hops_line ends.now (Some before) after) }
-{
-    match after {
-        Some(after) => format!(in alloc; "changed way {ends}: hops {before} -> hops {after}\n"),
-        None => format!(in alloc; "removed way {ends}: hops {before}\n"),
-    }
-}
-
-fn new_hops_line(alloc: Global, ends: &str, after: Option<usize>) -> Result<String, AllocError>
-    ensures { IfOk result (λ line. string_bytes line ≡ hops_line ends.now None after) }
-{
-    match after {
-        Some(after) => format!(in alloc; "added way {ends}: hops {after}\n"),
-        None => "".to_string(alloc),
+    match (before, after) {
+        (Some(before), Some(after)) => {
+            format!(in alloc; "changed way {ends}: hops {before} -> hops {after}\n")
+        }
+        (Some(before), None) => format!(in alloc; "removed way {ends}: hops {before}\n"),
+        (None, Some(after)) => format!(in alloc; "added way {ends}: hops {after}\n"),
+        (None, None) => "".to_string(alloc),
     }
 }
 

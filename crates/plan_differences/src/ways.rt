@@ -1,7 +1,7 @@
 //! Which ways between nodes a change of plans opens, closes or makes longer or shorter.
-ghost use Rattle.std.specs.Prelude.{◌≡◌, ◌≢◌, ◌++◌, ℕ, IfOk, OnOk, MatchOption, length, option_map};
+ghost use Rattle.std.specs.Prelude.{◌≡◌, ◌≢◌, ◌++◌, IfOk, OnOk, MatchOption, length, option_map};
 ghost use Rattle.net_rules.specs.Names.{name_of};
-ghost use Rattle.plan_differences.specs.WayDifferences.{AreOtherWays, AreWaysFrom, IsOtherBetween, IsNoOtherBetween, IsOneNode, found_way};
+ghost use Rattle.plan_differences.specs.WayDifferences.{AreOtherWays, AreWaysFrom, IsGone, IsNoOther, IsOneNode, IsOtherBetween, found_way};
 
 use command_answers::first_named;
 use net_check::Checked;
@@ -45,11 +45,8 @@ fn other_ways_from(
 ) -> Result<Vec<OtherWay>, AllocError>
     ensures { IfOk result (λ ways. AreWaysFrom before.now.0 after.now.0 from (length before.now.0.nodes.items) ways.items) }
 {
-    // (that the plans are accepted is known of them once they are taken out)
-    let old = before.plan();
-    let _new = after.plan();
     let mut ways = Vec::new(alloc);
-    for to in 0..old.nodes.len() {
+    for to in 0..before.plan().nodes.len() {
         let found = other_way(alloc, before, after, from, to)?;
         add_way(&mut ways, found)?;
     }
@@ -73,49 +70,14 @@ fn other_way(
     from: usize,
     to: usize,
 ) -> Result<Option<OtherWay>, AllocError>
-    ensures { IfOk result (λ found. MatchOption found (IsNoOtherBetween before.now.0 after.now.0 from to) (IsOtherBetween before.now.0 after.now.0 from to)) }
+    ensures { IfOk result (λ found. MatchOption found (IsNoOther before.now.0 after.now.0 from to) (IsOtherBetween before.now.0 after.now.0 from to)) }
 {
-    match same_node(before, after, from) {
-        Some(new_from) => other_way_from(alloc, before, after, from, new_from, to),
-        None => Ok(None),
-    }
-}
-
-/// The same, where the index of the first node is given in both plans.
-fn other_way_from(
-    alloc: Global,
-    before: &Checked,
-    after: &Checked,
-    from: usize,
-    new_from: usize,
-    to: usize,
-) -> Result<Option<OtherWay>, AllocError>
-    requires { IsOneNode before.now.0 after.now.0 from new_from }
-    ensures { IfOk result (λ found. MatchOption found (IsNoOtherBetween before.now.0 after.now.0 from to) (IsOtherBetween before.now.0 after.now.0 from to)) }
-{
-    match same_node(before, after, to) {
-        Some(new_to) => { other_way_between(alloc, before, after, from, new_from, to, new_to) }
-        None => Ok(None),
-    }
-}
-
-/// The same, where both indices are given in both plans.
-fn other_way_between(
-    alloc: Global,
-    before: &Checked,
-    after: &Checked,
-    from: usize,
-    new_from: usize,
-    to: usize,
-    new_to: usize,
-) -> Result<Option<OtherWay>, AllocError>
-    requires from { IsOneNode before.now.0 after.now.0 from new_from }
-    requires to { IsOneNode before.now.0 after.now.0 to new_to }
-    ensures { IfOk result (λ found. MatchOption found (IsNoOtherBetween before.now.0 after.now.0 from to) (IsOtherBetween before.now.0 after.now.0 from to)) }
-{
-    // (that the plans are accepted is known of them once they are taken out)
-    let _old = before.plan();
-    let _new = after.plan();
+    let Some(new_from) = same_node(before, after, from) else {
+        return Ok(None);
+    };
+    let Some(new_to) = same_node(before, after, to) else {
+        return Ok(None);
+    };
     let old_hops = hops_between(alloc, before, from, to)?;
     let new_hops = hops_between(alloc, after, new_from, new_to)?;
     Ok(way_of(from, to, old_hops, new_hops))
@@ -138,18 +100,10 @@ fn way_of(from: usize, to: usize, before: Option<usize>, after: Option<usize>) -
 
 /// The index in the new plan of the node that has the name of the old plan's node.
 fn same_node(before: &Checked, after: &Checked, node: usize) -> Option<usize>
-    ensures { MatchOption result ((m : ℕ) → ¬ IsOneNode before.now.0 after.now.0 node m) (IsOneNode before.now.0 after.now.0 node) }
+    ensures { MatchOption result (IsGone before.now.0 after.now.0 node) (IsOneNode before.now.0 after.now.0 node) }
 {
-    let old = before.plan();
-    let new = after.plan();
-    node_of_its_name(old, new, node)
-}
-
-fn node_of_its_name(before: &Plan, after: &Plan, node: usize) -> Option<usize>
-    ensures { MatchOption result ((m : ℕ) → ¬ IsOneNode before.now after.now node m) (IsOneNode before.now after.now node) }
-{
-    match name_of(before, node) {
-        Some(name) => first_named(after, name),
+    match name_of(before.plan(), node) {
+        Some(name) => first_named(after.plan(), name),
         None => None,
     }
 }

@@ -3,4 +3,4 @@ use Rattle.plan_differences.specs.declared.difference.Difference.TheVariants.{Ch
 use Rattle.plan_differences.proofs.difference.changes.Given as goal
 
 abbrev pub invariant-loop-other : goal.invariant-loop-other
-invariant-loop-other l = l.told.items ≡ map (Changed l.index) (take l.other-index l.others)
+invariant-loop-other l = l.told.items ≡ map (Changed l.fact) (take l.other-index l.others)

@@ -1,18 +1,8 @@
-use Rattle.std.{proofs.Common.{◌≡◌, ◌++◌, subst, rules}, specs.Prelude.{IfOk, string_bytes}, specs.List.{flat_map}}
-use Rattle.plan_values.{specs.declared.certificate.Certificate.{Certificate}, specs.declared.plan.Plan.{Plan}}
-use Rattle.plan_differences.{specs.WayDifferences.{AreOtherWays}, specs.WayLines.{way_text}, proofs.Consequences.{ways_so}}
+use Rattle.std.{proofs.Common.{inl, inr}, proofs.lemmas.Result.{IfOk-weaker}}
 use Rattle.plan_differences.proofs.told.of_certified.Goals as goal
 
-pub returns : goal.returns
-returns c =
-    let before = c.args.before.now in
-    let after = c.args.after.now in
-    let ways = c.in_ok-other_ways.field-0.items in
-    let lines = string_bytes c.in_ok-ways.ways in
-    let need = string_bytes c.in_ok-need.need in
-    let here : AreOtherWays before c.in_ok-new.new.0 ways =
-    subst (λ (p : Plan × Certificate). AreOtherWays p.0 c.in_ok-new.new.0 ways) c.in_ok-old.ensures c.in_ok-other_ways.ensures in
-    let are : AreOtherWays before after ways = subst (λ (p : Plan × Certificate). AreOtherWays before p.0 ways) c.in_ok-new.ensures here in
-    let told : lines ≡ flat_map (way_text before) ways = search rules in
-    let whole : IfOk c.format.result (λ text. string_bytes text ≡ lines ++ need) = search rules in
-    ways_so string_bytes before after ways c.in_ok-rollout.field-0 lines need c.format.result are c.in_ok-rollout.ensures c.in_ok-need.ensures told whole
+pub returns-in-Ok : goal.returns-in-Ok
+returns-in-Ok c = IfOk-weaker c.of_both.result _ _ (λ text told. inl ((c.args.old.now, c.requires), (c.in-Ok.new, c.in-Ok.ensures.accepted), told)) c.of_both.ensures
+
+pub returns-in-Err : goal.returns-in-Err
+returns-in-Err c = IfOk-weaker c.ruled_out.result _ _ (λ text out. inr (inl ((c.args.old.now, c.requires), out))) c.ruled_out.ensures

@@ -1,0 +1,6 @@
+use Rattle.std.proofs.Common.{◌≡◌, ℕ, List, take}
+use Rattle.plan_differences.{specs.DifferenceLines.{fact_text}, specs.Indexes.{listed, of_words}}
+use Rattle.plan_differences.proofs.index.by_words.Given as goal
+
+abbrev pub invariant-loop-fact : goal.invariant-loop-fact
+invariant-loop-fact l = (words : List ℕ) → listed l.index words ≡ of_words fact_text (take l.fact-index l.facts) words
