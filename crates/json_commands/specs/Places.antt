@@ -1,22 +1,13 @@
 -- Places in texts, as JSON.
-use Rattle.std.{specs.Prelude.{◌≡◌, ℕ, ◌+◌, nat_le, List, [], length, take, count_by, codes, if◌then◌else◌, Option, Some, None, option_map}, specs.List.{flat_map}}
+use Rattle.std.{specs.Prelude.{◌≡◌, ℕ, ◌+◌, nat_le, List, [], length, take, count_by, codes, if◌then◌else◌, Option, Some, None, option_map, MatchOption}, specs.List.{flat_map}}
 use Rattle.percent_encoding.{specs.declared.ascii_set.AsciiSet.{AsciiSet}, specs.Percent.{percent_encode}}
-use Rattle.serde_json.specs.Data.{Data, null, number, unsigned, string, object, member, no_members}
-use Rattle.net_plan.specs.Finding.{Step}
-use Rattle.net_pointers.{specs.declared.position.Position.{Position}, specs.Positions.{is_line_feed, begins_character, last_line}}
-use Rattle.fault_texts.specs.Places.{IsPlaceIn}
+use Rattle.serde_json.specs.Data.{Data, null, string, object, member, no_members}
+use Rattle.json.specs.Json.{Json as Tree}
+use Rattle.net_plan.{specs.Finding.{Step}, specs.Texts.{IsTree}, specs.Trees.{data_of}}
+use Rattle.net_pointers.{specs.declared.position.Position.{Position}, specs.declared.spots.Spot.{Spot}, specs.Offsets.{LeadsTo}, specs.Pointers.{value_at}, specs.Positions.{is_line_feed, begins_character, last_line}, specs.Spots.{IsAt}}
 use Rattle.reading_texts.specs.ReadingLines.{step_text}
 use Rattle.command_questions.{specs.declared.form.Form.{Form}, specs.declared.form.Form.TheVariants.{Json, Sarif}}
-use Rattle.json_commands.specs.Lists.{empty_data, one_data}
-
--- ---- values
-
-abbrev pub number_data : ℕ → Data
-number_data n = number (unsigned n)
-
-abbrev pub number_or_null : Option ℕ → Data
-number_or_null (Some n) = number_data n
-number_or_null None = null
+use Rattle.json_commands.specs.Values.{empty_data, number_data, number_or_null, one_data}
 
 abbrev pub string_or_null : Option (List ℕ) → Data
 string_or_null (Some text) = string text
@@ -92,17 +83,17 @@ abbrev pub located_data : Form → List ℕ → Option Position → Option (List
 located_data Json name position pointer = place_data name position pointer
 located_data Sarif name position pointer = location_data name position pointer
 
--- that of an offset in the text of this name
-abbrev pub spot_data : Form → (name text : List ℕ) → Option ℕ → Option (List ℕ) → Data
-spot_data form name text offset pointer = located_data form name (position_in text offset) pointer
+-- that of an offset in the text of this name, where no pointer is known
+abbrev pub spot_data : Form → (name text : List ℕ) → Option ℕ → Data
+spot_data form name text offset = located_data form name (position_in text offset) None
+
+-- the spot is where the value stands to which the pointer leads in the text; there is none where it leads nowhere
+abbrev pub IsSpotOf : List ℕ → List Step → Option Spot → Type 0
+IsSpotOf text pointer spot = (tree : Tree) × IsTree text tree
+    × MatchOption spot (value_at pointer (data_of tree) ≡ None)
+    (λ found. LeadsTo text pointer found.offset × IsAt text found.offset found.position)
 
 -- the value tells, in the form, where in the text of this name the pointer leads
 abbrev pub IsPlaceTold : Form → (name text : List ℕ) → List Step → Data → Type 0
-IsPlaceTold form name text pointer d = (offset : Option ℕ) × IsPlaceIn text pointer offset
-    × (d ≡ spot_data form name text offset (Some (json_pointer pointer)))
-
--- the list of where the pointer leads, if there is one
-abbrev pub IsPlaceListTold : Form → (name text : List ℕ) → Option (List Step) → Data → Type 0
-IsPlaceListTold form name text None d = d ≡ empty_data
-IsPlaceListTold form name text (Some pointer) d =
-    (place : Data) × IsPlaceTold form name text pointer place × (d ≡ one_data place)
+IsPlaceTold form name text pointer d = (spot : Option Spot) × IsSpotOf text pointer spot
+    × (d ≡ located_data form name (option_map (λ (s : Spot). s.position) spot) (Some (json_pointer pointer)))

@@ -4,18 +4,17 @@ ghost use Rattle.serde_json.specs.View.{view};
 ghost use Rattle.net_check.specs.Errors.{NamesFirstFault};
 ghost use Rattle.net_plan.specs.Stream.{HasRoom};
 ghost use Rattle.command_answers.{specs.Answers.{stream, IsWithoutPlan}, specs.Told.{ConcludesOnOutput}, specs.UnreadInputs.{IsTextOf}, specs.Naming.{NameTheEnds}};
-ghost use Rattle.json_commands.specs.Certified.{AnswersInJson, AreBothSaid, AreCheckedSaid, AreSourcesSaid, IsCertificateSaid, IsFaultAlone, IsFaultSaid, IsFirstFaultSaid, IsNamedIn, IsWaySaid, command_of, form_of};
+ghost use Rattle.json_commands.specs.Certified.{AnswersInJson, AreBothSaid, AreCheckedSaid, AreSourcesSaid, IsFaultAlone, IsFaultSaid, IsFirstFaultSaid, IsNamedIn, IsWaySaid, form_of};
 ghost use Rattle.command_answers.specs.declared.refused.Refused.TheVariants as refused;
 ghost use Rattle.command_answers.specs.declared.status.Status.TheVariants as status;
 
 use crate::explained::{explained_fault, sound_said};
 use crate::faults::{faults_of_both, obstacle_results};
 use crate::lists::empty_list;
-use crate::reached::reached;
 use crate::reports::report;
 use crate::said::{Said, answer_of};
-use crate::traced::traced;
 use crate::unread::{unknown_name, unread_input};
+use crate::ways::{reached, traced};
 use command_answers::{
     Answer, Input, PlanText, Refused, Status, certificate_or_text, named_ends, plan_or_text, tell,
 };
@@ -75,7 +74,7 @@ fn answer_certified<P: Source, C: Source>(
     Ok(answer_of(alloc, &said)?)
 }
 
-/// What is said of a plan and the certificate that sources give, or where one gives nothing.
+/// What is said of the plan and the certificate that sources give, or where one gives nothing.
 fn said_of_sources<P: Source, C: Source>(
     alloc: Global,
     asked: &CertifiedJson,
@@ -91,36 +90,16 @@ fn said_of_sources<P: Source, C: Source>(
         IfOk result (λ said. AreSourcesSaid asked.now name.now certified_by.now plans certificates said.status (view said.value)) }
     ensures in_order { IsWithoutPlan (stream P.account plan.old plan.new) → certificate.new ≡ certificate.old }
 {
+    let (form, command) = form_and_command(asked);
     match plan_or_text(alloc, plan) {
-        Ok(given) => said_of_certificate(alloc, asked, name, certified_by, &given, certificate),
-        Err(unread) => {
-            let (form, command) = (form_of(asked), command_of(asked));
-            Ok(unread_input(alloc, form, command, name, Input::Plan, &unread)?)
-        }
-    }
-}
-
-/// What is said of a plan and the certificate that a source gives, or where it gives none.
-fn said_of_certificate<C: Source>(
-    alloc: Global,
-    asked: &CertifiedJson,
-    name: &str,
-    certified_by: &str,
-    given: &PlanText,
-    certificate: &mut C,
-) -> Result<Said, AllocError>
-    requires certificate { HasRoom (C.account certificate.old) }
-    requires text { IsTextOf given.now.text.items given.now.plan }
-    ensures { let certificates = stream C.account certificate.old certificate.new in
-        IfOk result (λ said. IsCertificateSaid asked.now name.now certified_by.now given.now.text.items given.now.plan certificates said.status (view said.value)) }
-{
-    match certificate_or_text(alloc, &given.plan, certificate) {
-        Ok(certificate) => Ok(said_of_both(alloc, asked, name, given, &certificate)?),
-        Err(unread) => {
-            let (form, command) = (form_of(asked), command_of(asked));
-            let input = Input::Certificate;
-            Ok(unread_input(alloc, form, command, certified_by, input, &unread)?)
-        }
+        Ok(given) => match certificate_or_text(alloc, &given.plan, certificate) {
+            Ok(certificate) => Ok(said_of_both(alloc, asked, name, &given, &certificate)?),
+            Err(unread) => {
+                let input = Input::Certificate;
+                Ok(unread_input(alloc, form, command, certified_by, input, &unread)?)
+            }
+        },
+        Err(unread) => Ok(unread_input(alloc, form, command, name, Input::Plan, &unread)?),
     }
 }
 
@@ -136,7 +115,8 @@ fn said_of_both(
     ensures { IfOk result (λ said. AreBothSaid asked.now name.now given.now.text.items given.now.plan certificate.now said.status (view said.value)) }
 {
     if !is_named_in(asked, &given.plan) {
-        return Ok(unknown_name(alloc, form_of(asked), command_of(asked), name)?);
+        let (form, command) = form_and_command(asked);
+        return Ok(unknown_name(alloc, form, command, name)?);
     }
     match check(alloc, &given.plan, certificate) {
         Ok(checked) => Ok(said_of_checked(alloc, asked, name, given, &checked)?),
@@ -173,7 +153,10 @@ fn is_named_in(asked: &CertifiedJson, plan: &Plan) -> bool
 {
     match *asked {
         CertifiedJson::Explain | CertifiedJson::Faults(_) | CertifiedJson::Reach => true,
-        CertifiedJson::Trace { from, to } => named_ends(plan, from, to).is_some(),
+        CertifiedJson::Trace { from, to } => match named_ends(plan, from, to) {
+            Some(_ends) => true,
+            None => false,
+        },
     }
 }
 
@@ -214,8 +197,7 @@ fn way_between(
 {
     match named_ends(checked.plan(), from, to) {
         Some((sender, destination)) => {
-            let text = given.text.as_slice();
-            Ok(traced(alloc, name, text, checked, sender, destination)?)
+            Ok(traced(alloc, name, given, checked, sender, destination)?)
         }
         // no memory: both names were found before, so this can't be.
         None => Err(AllocError),
@@ -252,31 +234,21 @@ fn first_fault(
     given: &PlanText,
     fault: &Fault,
 ) -> Result<Said, AllocError>
-    ensures { IfOk result (λ said. (said.status ≡ status.Fault) × IsFaultAlone command.now name.now given.now.text.items given.now.plan fault.now (view said.value)) }
+    ensures { IfOk result (λ said. (said.status ≡ status.Fault) × IsFaultAlone name.now given.now.text.items given.now.plan fault.now (view said.value)) }
 {
     let obstacle = CertifyError::Fault(*fault);
-    let results = obstacle_results(alloc, Form::Json, name, given, &obstacle)?;
+    let results = obstacle_results(alloc, Form::Json, name, given, obstacle)?;
     Ok(report(alloc, Form::Json, command, Status::Fault, results)?)
 }
 
-/// The form of the answer.
-fn form_of(asked: &CertifiedJson) -> Form
-    ensures { result ≡ form_of asked.now }
+/// The form of the answer, and the command that asks.
+fn form_and_command(asked: &CertifiedJson) -> (Form, &'static str)
+    ensures { result.0 ≡ form_of asked.now }
 {
     match *asked {
-        CertifiedJson::Faults(form) => form,
-        CertifiedJson::Explain | CertifiedJson::Reach | CertifiedJson::Trace { .. } => Form::Json,
-    }
-}
-
-/// The command that asks.
-fn command_of(asked: &CertifiedJson) -> &'static str
-    ensures { result.now ≡ command_of asked.now }
-{
-    match asked {
-        CertifiedJson::Explain => "explain",
-        CertifiedJson::Faults(_) => "faults",
-        CertifiedJson::Reach => "reach",
-        CertifiedJson::Trace { .. } => "trace",
+        CertifiedJson::Explain => (Form::Json, "explain"),
+        CertifiedJson::Faults(form) => (form, "faults"),
+        CertifiedJson::Reach => (Form::Json, "reach"),
+        CertifiedJson::Trace { .. } => (Form::Json, "trace"),
     }
 }

@@ -1,28 +1,26 @@
 //! Edits that were tried, as operations of a JSON patch (RFC 6902).
 ghost use Rattle.std.specs.Prelude.{◌≡◌, IfOk, map, string_bytes, ⊤};
 ghost use Rattle.net_plan.specs.Finding.{step_value};
-ghost use Rattle.explanation_texts.specs.EditLines.{edit_text};
 ghost use Rattle.serde_json.specs.View.{view};
-ghost use Rattle.json_commands.{specs.Edits.{changed_data, edit_data, edit_pointer, left_data, op_of, owner_data, part_of_record, pool_data, row_data}, specs.Lists.{IsListTold}, specs.Notes.{lines_data}, specs.Places.{json_pointer}};
+ghost use Rattle.json_commands.{specs.Edits.{IsEditTold, edit_pointer, op_of, part_of_record}, specs.Places.{json_pointer}, specs.Values.{IsListTold}};
 
 use crate::lists::{Listed, list_of};
+use crate::notes::lines_value;
 use crate::places::pointer_words;
-use crate::sentences::lines_value;
 use explanation_texts::edit_line;
 use fault_texts::{part_pointer, record_pointer, row_pointer};
-use mctp_transport::Eid;
 use net_explained::{Change, Edit, Tried};
 use net_plan::PointerStep;
 use net_rules::CertifyError;
 use net_tables::lookup::{kind_word, node_name, rows_at};
 use plan_texts::obstacle_words;
-use plan_values::{Plan, Pool, Row};
+use plan_values::Plan;
 use serde_json::{Value, json};
 use std::alloc::{AllocError, Global};
 
 /// The edits, in their order.
 pub fn edits_value(alloc: Global, plan: &Plan, edits: &[Tried]) -> Result<Value, AllocError>
-    ensures { IfOk result (λ value. IsListTold (λ tried d. d ≡ edit_data plan.now tried) edits.now (view value)) }
+    ensures { IfOk result (λ value. IsListTold (IsEditTold plan.now) edits.now (view value)) }
 {
     list_of(alloc, &EditWriter { plan }, edits)
 }
@@ -38,40 +36,29 @@ impl<'p> Listed for EditWriter<'p> {
 
     ghost ready = { λ _. ⊤ };
 
-    ghost told = { λ s tried d. d ≡ edit_data s.plan.now tried };
+    ghost told = { λ s tried d. IsEditTold s.plan.now tried d };
 
+    /// The operation, its pointer and its value, what is said of it, and what rules certificates out once it is made.
     fn value_of(&self, alloc: Global, item: &Tried) -> Result<Value, AllocError> {
-        edit_value(alloc, self.plan, item)
+        let (plan, edit) = (self.plan, &item.edit);
+        json!(in alloc; {
+            "left": left_value(alloc, plan, &item.left)?, "op": op_of(&edit.change),
+            "path": edit_path(alloc, plan, edit)?, "sentences": lines_value(alloc, &edit_line(alloc, plan, edit)?)?,
+            "value": changed_value(alloc, plan, &edit.change)?
+        })
     }
 }
 
-/// An edit: the operation, its pointer and its value, what is said of it, and what rules certificates out once it is
-/// made.
-fn edit_value(alloc: Global, plan: &Plan, tried: &Tried) -> Result<Value, AllocError>
-    ensures { IfOk result (λ value. view value ≡ edit_data plan.now tried.now) }
-{
-    json!(in alloc; {
-        "left": left_value(alloc, plan, &tried.left)?, "op": op_of(&tried.edit.change),
-        "path": edit_path(alloc, plan, &tried.edit)?, "sentences": edit_sentences(alloc, plan, &tried.edit)?,
-        "value": changed_value(alloc, plan, &tried.edit.change)?
-    })
-}
-
 /// What rules certificates out, or null.
-fn left_value(alloc: Global, plan: &Plan, left: &Option<CertifyError>) -> Result<Value, AllocError>
-    ensures { IfOk result (λ value. view value ≡ left_data plan.now left.now) }
-{
+fn left_value(
+    alloc: Global,
+    plan: &Plan,
+    left: &Option<CertifyError>,
+) -> Result<Value, AllocError> {
     match left {
         None => Ok(Value::Null),
         Some(next) => Ok(Value::String(obstacle_words(alloc, plan, next)?)),
     }
-}
-
-/// The lines of an edit.
-fn edit_sentences(alloc: Global, plan: &Plan, edit: &Edit) -> Result<Value, AllocError>
-    ensures { IfOk result (λ value. view value ≡ lines_data (edit_text plan.now edit.now)) }
-{
-    lines_value(alloc, &edit_line(alloc, plan, edit)?)
 }
 
 /// What is done to a value.
@@ -131,43 +118,20 @@ fn part_of_record(
 }
 
 /// What is to stand there; null where a row is removed.
-fn changed_value(alloc: Global, plan: &Plan, change: &Change) -> Result<Value, AllocError>
-    ensures { IfOk result (λ value. view value ≡ changed_data plan.now change.now) }
-{
+fn changed_value(alloc: Global, plan: &Plan, change: &Change) -> Result<Value, AllocError> {
     match change {
         Change::Name(name) => Value::try_from_str(alloc, name.text.as_str()),
         Change::Kind(kind) => Value::try_from_str(alloc, kind_word(*kind)),
         Change::Eid(eid) => Ok(Value::from(eid.value)),
-        Change::Owner(owner) => owner_value(alloc, plan, *owner),
-        Change::Pool(pool) => pool_value(alloc, *pool),
-        Change::Row(_, row) | Change::MoreRow(row) => row_value(alloc, plan, row),
-        Change::NoTerminus | Change::LessRow(_) => Ok(Value::Null),
+        Change::Owner(Some(owner)) => Value::try_from_str(alloc, node_name(plan, *owner)),
+        Change::Pool(Some(pool)) => json!(in alloc; {"first": pool.first.value, "size": pool.size}),
+        Change::Row(_, row) | Change::MoreRow(row) => json!(in alloc; {
+            "first": row.first.value, "next": node_name(plan, row.next), "port": row.port, "size": row.size
+        }),
+        Change::Owner(None) | Change::Pool(None) | Change::NoTerminus | Change::LessRow(_) => {
+            Ok(Value::Null)
+        }
         Change::Handle(_, number) | Change::Next(_, number) => Ok(Value::from(*number)),
         Change::Bytes(_, bytes) => Ok(Value::String(hex::encode(alloc, bytes.as_slice())?)),
     }
-}
-
-fn owner_value(alloc: Global, plan: &Plan, owner: Option<usize>) -> Result<Value, AllocError>
-    ensures { IfOk result (λ value. view value ≡ owner_data plan.now owner) }
-{
-    match owner {
-        Some(owner) => Value::try_from_str(alloc, node_name(plan, owner)),
-        None => Ok(Value::Null),
-    }
-}
-
-fn pool_value(alloc: Global, pool: Option<Pool>) -> Result<Value, AllocError>
-    ensures { IfOk result (λ value. view value ≡ pool_data pool) }
-{
-    match pool {
-        Some(pool) => json!(in alloc; {"first": pool.first.value, "size": pool.size}),
-        None => Ok(Value::Null),
-    }
-}
-
-fn row_value(alloc: Global, plan: &Plan, row: &Row) -> Result<Value, AllocError>
-    ensures { IfOk result (λ value. view value ≡ row_data plan.now row.now) }
-{
-    let next = node_name(plan, row.next);
-    json!(in alloc; {"first": row.first.value, "next": next, "port": row.port, "size": row.size})
 }

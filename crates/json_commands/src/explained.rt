@@ -1,23 +1,24 @@
 //! `explain`: what `certify` or `check` answers, and why.
-ghost use Rattle.std.specs.Prelude.{◌≡◌, IfOk, None, Some, option_map};
+ghost use Rattle.std.specs.Prelude.{◌≡◌, IfOk, codes};
 ghost use Rattle.net_rules.specs.Certificates.{NamesObstacle, RulesOutCertificates};
-ghost use Rattle.serde_json.{specs.Data.{null}, specs.View.{view}};
+ghost use Rattle.serde_json.specs.View.{view};
 ghost use Rattle.command_answers.specs.UnreadInputs.{IsTextOf};
-ghost use Rattle.json_commands.{specs.Notes.{lines_data}, specs.Explained.{AreMore, IsExplainedSaid, IsFaultExplained, AreEditsTold, IsCertificateTold, IsFaultTold, IsObstacleExplained, IsSummedUp, IsToldWithEdits, explained_by, explained_data, remedy_of}};
+ghost use Rattle.command_questions.specs.declared.form.Form.TheVariants.{Json};
+ghost use Rattle.json_commands.{specs.Answers.{IsAnswer}, specs.Explained.{AreEditsTold, IsCertificateTold, IsExplained, IsExplainedSaid, IsFaultExplained, IsObstacleExplained, IsSound, IsToldWithEdits}, specs.Values.{Has}};
 ghost use Rattle.command_answers.specs.declared.status.Status.TheVariants as status;
 
 use crate::edits::edits_value;
 use crate::faults::obstacle_results;
 use crate::lists::empty_list;
+use crate::notes::lines_value;
 use crate::said::Said;
-use crate::sentences::lines_value;
 use command_answers::{PlanText, Status};
 use command_questions::Form;
 use explanation_texts::{
     NO_CERTIFICATE, REMEDY, cause_lines, certificate_fault_lines, obstacle_lines, summary_lines,
 };
 use net_check::{CertifyError, Fault, certify};
-use net_explained::{Cause, find_cause, most_hops, tried_edits};
+use net_explained::{find_cause, most_hops, tried_edits};
 use net_faults::all_faults;
 use plan_values::{Certificate, Plan};
 use serde_json::{Value, json};
@@ -30,17 +31,17 @@ pub fn explained_plan(alloc: Global, name: &str, given: &PlanText) -> Result<Sai
 {
     match certify(alloc, &given.plan) {
         Ok(certificate) => Ok(sound_said(alloc, &given.plan, &certificate)?),
-        Err(obstacle) => Ok(obstacle_told(alloc, name, given, &obstacle)?),
+        Err(obstacle) => Ok(obstacle_told(alloc, name, given, obstacle)?),
     }
 }
 
 /// That a certificate fits a plan, with what sums the plan up.
 pub fn sound_said(alloc: Global, plan: &Plan, certificate: &Certificate) -> Result<Said, AllocError>
-    ensures { IfOk result (λ said. (said.status ≡ status.Yes) × IsSummedUp plan.now (view said.value)) }
+    ensures { IfOk result (λ said. (said.status ≡ status.Yes) × IsSound (view said.value)) }
 {
     let lines = summary_lines(alloc, plan, most_hops(plan, certificate))?;
-    let (results, edits) = (empty_list(alloc), empty_list(alloc));
-    Ok(said_of(alloc, Status::Yes, results, &lines, edits, 0, nothing())?)
+    let (results, edits, plan) = (empty_list(alloc), empty_list(alloc), Value::Null);
+    Ok(said_of(alloc, Status::Yes, results, &lines, edits, 0, plan)?)
 }
 
 /// What is told, by its parts. Where the certificate alone is at fault, the last one is what explains the plan; else
@@ -54,43 +55,30 @@ fn said_of(
     more: usize,
     plan: Value,
 ) -> Result<Said, AllocError>
-    ensures { IfOk result (λ said. (said.status ≡ status) × (view said.value ≡ explained_data status (view results) (lines_data lines.now) (view edits) more (view plan))) }
+    ensures { IfOk result (λ said. (said.status ≡ status) × IsExplained status (view results) (view edits) (view said.value) × Has (codes "plan") (view plan) (view said.value)) }
 {
     let sentences = lines_value(alloc, lines)?;
-    let value = explained_value(
-        alloc,
-        status.number(),
-        results,
-        sentences,
-        edits,
-        more,
-        plan,
-    )?;
+    let value = explained_value(alloc, status, results, sentences, edits, more, plan)?;
     Ok(Said { status, value })
 }
 
 fn explained_value(
     alloc: Global,
-    status: u8,
+    status: Status,
     results: Value,
     sentences: Value,
     edits: Value,
     more: usize,
     plan: Value,
 ) -> Result<Value, AllocError>
-    ensures { IfOk result (λ value. view value ≡ explained_by status (view results) (view sentences) (view edits) more (view plan)) }
+    ensures answer { IfOk result (λ value. IsAnswer Json status (view results) (view value)) }
+    ensures edits { IfOk result (λ value. Has (codes "edits") (view edits) (view value)) }
+    ensures plan { IfOk result (λ value. Has (codes "plan") (view plan) (view value)) }
 {
     json!(in alloc; {
         "command": "explain", "edits": edits, "format": 1u8, "more": more, "plan": plan, "results": results,
-        "sentences": sentences, "status": status
+        "sentences": sentences, "status": status.number()
     })
-}
-
-/// No value.
-fn nothing() -> Value
-    ensures { view result ≡ null }
-{
-    Value::Null
 }
 
 /// What explains an obstacle of a plan.
@@ -98,14 +86,14 @@ fn obstacle_told(
     alloc: Global,
     name: &str,
     given: &PlanText,
-    obstacle: &CertifyError,
+    obstacle: CertifyError,
 ) -> Result<Said, AllocError>
-    requires names { NamesObstacle given.now.plan obstacle.now }
-    requires none { RulesOutCertificates given.now.plan obstacle.now }
+    requires names { NamesObstacle given.now.plan obstacle }
+    requires none { RulesOutCertificates given.now.plan obstacle }
     requires text { IsTextOf given.now.text.items given.now.plan }
     ensures { IfOk result (λ said. (said.status ≡ status.Fault) × IsObstacleExplained name.now given.now.text.items given.now.plan (view said.value)) }
 {
-    let lines = obstacle_lines(alloc, &given.plan, obstacle)?;
+    let lines = obstacle_lines(alloc, &given.plan, &obstacle)?;
     Ok(told_with_edits(alloc, name, given, None, obstacle, &lines)?)
 }
 
@@ -115,17 +103,17 @@ fn told_with_edits(
     name: &str,
     given: &PlanText,
     certificate: Option<&Certificate>,
-    obstacle: &CertifyError,
+    obstacle: CertifyError,
     lines: &str,
 ) -> Result<Said, AllocError>
     requires { IsTextOf given.now.text.items given.now.plan }
-    ensures { IfOk result (λ said. (said.status ≡ status.Fault)
-        × IsToldWithEdits name.now given.now.text.items given.now.plan (option_map (λ c. c.now) certificate.entry) obstacle.now lines.now (view said.value)) }
+    ensures { IfOk result (λ said. (said.status ≡ status.Fault) × IsToldWithEdits name.now given.now.text.items given.now.plan obstacle (view said.value)) }
 {
+    let edits = edits_of(alloc, given, &obstacle)?;
     let results = obstacle_results(alloc, Form::Json, name, given, obstacle)?;
-    let edits = edits_of(alloc, given, obstacle)?;
     let more = more_than(alloc, &given.plan, certificate)?;
-    Ok(said_of(alloc, Status::Fault, results, lines, edits, more, nothing())?)
+    let plan = Value::Null;
+    Ok(said_of(alloc, Status::Fault, results, lines, edits, more, plan)?)
 }
 
 /// At most three edits of a plan that take an obstacle away.
@@ -142,14 +130,13 @@ fn more_than(
     alloc: Global,
     plan: &Plan,
     certificate: Option<&Certificate>,
-) -> Result<usize, AllocError>
-    ensures { IfOk result (λ more. AreMore plan.now (option_map (λ c. c.now) certificate.entry) more) }
-{
+) -> Result<usize, AllocError> {
     let faults = all_faults(alloc, plan, certificate)?;
     Ok(faults.len().saturating_sub(1))
 }
 
-/// Explains the first fault of a plan and a certificate.
+/// Explains the first fault of a plan and a certificate: of the plan by its cause, or of the certificate where it has
+/// none in the plan.
 pub fn explained_fault(
     alloc: Global,
     name: &str,
@@ -158,81 +145,44 @@ pub fn explained_fault(
     fault: &Fault,
 ) -> Result<Said, AllocError>
     requires { IsTextOf given.now.text.items given.now.plan }
-    ensures { IfOk result (λ said. (said.status ≡ status.Fault) × IsFaultExplained name.now given.now.text.items given.now.plan certificate.now fault.now (view said.value)) }
+    ensures { IfOk result (λ said. (said.status ≡ status.Fault) × IsFaultExplained name.now given.now.text.items given.now.plan fault.now (view said.value)) }
 {
-    let cause = find_cause(&given.plan, fault);
-    Ok(fault_told(alloc, name, given, certificate, fault, cause)?)
-}
-
-/// A fault of the plan by its cause, or of the certificate where it has none in the plan.
-fn fault_told(
-    alloc: Global,
-    name: &str,
-    given: &PlanText,
-    certificate: &Certificate,
-    fault: &Fault,
-    cause: Option<Cause>,
-) -> Result<Said, AllocError>
-    requires { IsTextOf given.now.text.items given.now.plan }
-    ensures { IfOk result (λ said. (said.status ≡ status.Fault) × IsFaultTold name.now given.now.text.items given.now.plan certificate.now fault.now cause (view said.value)) }
-{
-    match cause {
-        Some(cause) => Ok(cause_told(alloc, name, given, certificate, fault, cause)?),
-        None => Ok(certificate_told(alloc, name, given, certificate, fault)?),
+    let obstacle = CertifyError::Fault(*fault);
+    match find_cause(&given.plan, fault) {
+        Some(cause) => {
+            let lines = cause_lines(alloc, &given.plan, fault, cause)?;
+            Ok(told_with_edits(alloc, name, given, Some(certificate), obstacle, &lines)?)
+        }
+        None => {
+            let lines = certificate_fault_lines(alloc, &given.plan, certificate, fault)?;
+            Ok(certificate_told(alloc, name, given, certificate, obstacle, &lines)?)
+        }
     }
 }
 
-/// A fault of the plan, by its cause.
-fn cause_told(
-    alloc: Global,
-    name: &str,
-    given: &PlanText,
-    certificate: &Certificate,
-    fault: &Fault,
-    cause: Cause,
-) -> Result<Said, AllocError>
-    requires { IsTextOf given.now.text.items given.now.plan }
-    ensures { IfOk result (λ said. (said.status ≡ status.Fault) × IsFaultTold name.now given.now.text.items given.now.plan certificate.now fault.now (Some cause) (view said.value)) }
-{
-    let lines = cause_lines(alloc, &given.plan, fault, cause)?;
-    let obstacle = CertifyError::Fault(*fault);
-    Ok(told_with_edits(alloc, name, given, Some(certificate), &obstacle, &lines)?)
-}
-
-/// A fault of the certificate, and what explains the plan by itself.
+/// A fault of the certificate, by the lines that tell it, and what explains the plan by itself.
 fn certificate_told(
     alloc: Global,
     name: &str,
     given: &PlanText,
     certificate: &Certificate,
-    fault: &Fault,
+    obstacle: CertifyError,
+    told: &str,
 ) -> Result<Said, AllocError>
     requires { IsTextOf given.now.text.items given.now.plan }
-    ensures { IfOk result (λ said. (said.status ≡ status.Fault) × IsCertificateTold name.now given.now.text.items given.now.plan certificate.now fault.now (view said.value)) }
+    ensures { IfOk result (λ said. (said.status ≡ status.Fault) × IsCertificateTold name.now given.now.text.items given.now.plan obstacle (view said.value)) }
 {
-    let obstacle = CertifyError::Fault(*fault);
-    let told = certificate_fault_lines(alloc, &given.plan, certificate, fault)?;
     let alone = explained_plan(alloc, name, given)?;
     let remedy = remedy_of(alone.status);
     let lines = format!(in alloc; "{told}{remedy}")?;
-    let results = obstacle_results(alloc, Form::Json, name, given, &obstacle)?;
+    let results = obstacle_results(alloc, Form::Json, name, given, obstacle)?;
     let more = more_than(alloc, &given.plan, Some(certificate))?;
-    let edits = empty_list(alloc);
-    Ok(said_of(
-        alloc,
-        Status::Fault,
-        results,
-        &lines,
-        edits,
-        more,
-        alone.value,
-    )?)
+    let (edits, plan) = (empty_list(alloc), alone.value);
+    Ok(said_of(alloc, Status::Fault, results, &lines, edits, more, plan)?)
 }
 
 /// What is said where a certificate is at fault, and the run on its plan alone ends so.
-fn remedy_of(alone: Status) -> &'static str
-    ensures { result.now ≡ remedy_of alone }
-{
+fn remedy_of(alone: Status) -> &'static str {
     match alone {
         Status::Yes => REMEDY,
         Status::Fault | Status::Unreadable | Status::NoMemory => NO_CERTIFICATE,

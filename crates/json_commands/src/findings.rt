@@ -1,37 +1,57 @@
-//! Notes of what `lint` finds.
-ghost use Rattle.std.specs.Prelude.{◌≡◌, IfOk, map, option_map};
-ghost use Rattle.json.specs.Value.{value_view};
+//! `lint`: what is lawful in a plan and still looks wrong.
+ghost use Rattle.std.specs.Prelude.{◌≡◌, IfOk, map};
 ghost use Rattle.net_plan.specs.Finding.{step_value};
-ghost use Rattle.net_pointers.specs.Offsets.{IsTextOf};
 ghost use Rattle.serde_json.specs.View.{view};
-ghost use Rattle.json_commands.{specs.Lists.{IsListTold}, specs.Findings.{IsFindingNote, address_pointer, code_of, eids_of, entry_of, finding_pointer, nodes_of, other_pointer, port_pointer, subject_of}, specs.Notes.{AreNodesTold, subject_value}, specs.Places.{IsPlaceListTold}};
+ghost use Rattle.command_questions.specs.declared.form.Form.TheVariants.{Json};
+ghost use Rattle.json_commands.{specs.Findings.{IsFindingItem, IsLintSaid, address_pointer, bus_pointer, code_of, finding_pointer, port_pointer, status_of}, specs.Values.{IsListTold}};
 
+use crate::lists::empty_list;
 use crate::noted::{Noted, notes_of};
-use crate::notes::{Subject, nodes_value, note_value};
-use crate::obstacles::{bus_pointer, places_of};
-use crate::places::{Placing, place_of};
+use crate::notes::{Subject, about, nodes_value, note_value};
+use crate::places::{Placing, place_of, places_of};
+use crate::reports::report;
+use crate::said::Said;
+use command_answers::{PlanText, Status};
 use command_questions::Form;
 use fault_texts::{part_pointer, record_pointer, row_pointer};
-use mctp_transport::Eid;
 use net_plan::PointerStep;
-use net_questions::Finding;
+use net_questions::{Finding, lint};
 use plan_values::Plan;
 use question_texts::lint_lines;
 use serde_json::Value;
 use std::alloc::{AllocError, Global};
 
-/// The notes of findings, in their order.
-pub fn finding_notes(
+/// All that looks wrong in a plan. The name is that of the plan's file.
+pub fn findings_of_plan(alloc: Global, name: &str, given: &PlanText) -> Result<Said, AllocError>
+    ensures { IfOk result (λ said. IsLintSaid name.now given.now.text.items given.now.plan said.status (view said.value)) }
+{
+    let findings = lint(alloc, &given.plan)?;
+    let results = finding_results(alloc, name, given, &findings)?;
+    Ok(report(alloc, Form::Json, "lint", status_of(&findings), results)?)
+}
+
+/// The notes of findings of a plan.
+fn finding_results(
     alloc: Global,
-    form: Form,
     name: &str,
-    text: &[u8],
-    plan: &Plan,
+    given: &PlanText,
     findings: &[Finding],
 ) -> Result<Value, AllocError>
-    ensures { IfOk result (λ value. IsListTold (IsFindingNote form name.now text.now plan.now) findings.now (view value)) }
+    ensures { IfOk result (λ value. IsListTold (IsFindingItem Json name.now given.now.text.items) findings.now (view value)) }
 {
-    notes_of(alloc, form, name, text, &FindingNoter { plan }, findings)
+    let noter = FindingNoter { plan: &given.plan };
+    notes_of(alloc, Form::Json, name, given, &noter, findings)
+}
+
+/// How a run ends that tells such findings.
+fn status_of(findings: &[Finding]) -> Status
+    ensures { result ≡ status_of findings.now }
+{
+    if findings.is_empty() {
+        Status::Yes
+    } else {
+        Status::Fault
+    }
 }
 
 /// Makes the notes of findings.
@@ -43,7 +63,7 @@ struct FindingNoter<'a> {
 impl<'a> Noted for FindingNoter<'a> {
     type Item = Finding;
 
-    ghost noted = { λ s form name text finding d. IsFindingNote form name text s.plan.now finding d };
+    ghost noted = { λ s form name text finding d. IsFindingItem form name text finding d };
 
     fn note(
         &self,
@@ -51,40 +71,33 @@ impl<'a> Noted for FindingNoter<'a> {
         placing: &Placing<'_, '_, '_>,
         item: &Finding,
     ) -> Result<Value, AllocError> {
-        finding_note(alloc, placing, self.plan, item)
+        let pointer = finding_pointer(alloc, item)?;
+        let place = place_of(alloc, placing, &pointer)?;
+        let other = other_pointer(alloc, item)?;
+        let related = places_of(alloc, placing, other)?;
+        let words = lint_lines(alloc, self.plan, &[*item])?;
+        let nodes = finding_nodes(alloc, self.plan, item)?;
+        let subject = subject_of(item);
+        note_value(alloc, placing.form, &subject, nodes, place, related, &words)
     }
 }
 
-/// The note of a finding.
-fn finding_note(
-    alloc: Global,
-    placing: &Placing<'_, '_, '_>,
-    plan: &Plan,
-    finding: &Finding,
-) -> Result<Value, AllocError>
-    requires { IsTextOf placing.now.index.now (value_view placing.now.tree.now) }
-    ensures { IfOk result (λ value. IsFindingNote placing.now.form placing.now.name.now placing.now.index.now plan.now finding.now (view value)) }
-{
-    let pointer = finding_pointer(alloc, finding)?;
-    let place = place_of(alloc, placing, &pointer)?;
-    let other = other_pointer(alloc, finding)?;
-    let related = places_of(alloc, placing, other)?;
-    let words = lint_lines(alloc, plan, &[*finding])?;
-    let nodes = finding_nodes(alloc, plan, finding)?;
-    let subject = subject_of(finding);
-    note_value(alloc, placing.form, &subject, nodes, place, related, &words)
-}
-
-/// What a finding is about.
+/// What a finding is about: of a pool its endpoint ID, and the row or the record.
 fn subject_of(finding: &Finding) -> Subject
-    ensures { subject_value result ≡ subject_of finding.now }
+    ensures { result.code.now ≡ code_of finding.now }
 {
-    Subject {
-        kind: "finding",
-        code: code_of(finding),
-        eids: eids_of(finding),
-        entry: entry_of(finding),
-    }
+    let code = code_of(finding);
+    let (eids, entry) = match *finding {
+        Finding::PoolEidNotLedOn { eid, .. } => (Some((eid, eid)), None),
+        Finding::IdleRow { row, .. } => (None, Some(row)),
+        Finding::SharedSensorId { record, .. }
+        | Finding::EmptyReadableRange { record, .. }
+        | Finding::CrossedThresholds { record, .. }
+        | Finding::UnknownTerminusHandle { record, .. }
+        | Finding::UncontainedEntity { record, .. } => (None, Some(record)),
+        _ => (None, None),
+    };
+    about("finding", code, eids, entry)
 }
 
 /// The code of a finding.
@@ -118,25 +131,20 @@ fn code_of(finding: &Finding) -> &'static str
     }
 }
 
-/// The nodes of a finding, as JSON.
-fn finding_nodes(alloc: Global, plan: &Plan, finding: &Finding) -> Result<Value, AllocError>
-    ensures { IfOk result (λ value. AreNodesTold plan.now (nodes_of finding.now) (view value)) }
-{
-    let nodes = nodes_of(alloc, finding)?;
-    nodes_value(alloc, plan, nodes.as_slice())
-}
-
 /// The nodes of a finding.
-fn nodes_of(alloc: Global, finding: &Finding) -> Result<Vec<usize>, AllocError>
-    ensures { IfOk result (λ nodes. nodes.items ≡ nodes_of finding.now) }
-{
+fn finding_nodes(alloc: Global, plan: &Plan, finding: &Finding) -> Result<Value, AllocError> {
     match *finding {
         Finding::SharedAddress { node, other, .. }
         | Finding::SharedSevenBits { node, other, .. }
-        | Finding::SharedTid { node, other } => [node, other].to_vec(alloc),
-        Finding::OwnerHasNoWay { node, owner } | Finding::NoWayToOwner { node, owner } => {
-            [node, owner].to_vec(alloc)
+        | Finding::SharedTid { node, other }
+        | Finding::OwnerHasNoWay { node, owner: other }
+        | Finding::NoWayToOwner { node, owner: other } => {
+            nodes_value(alloc, plan, &[node, other])
         }
+        Finding::ForeignMedia { .. }
+        | Finding::ReservedBinding { .. }
+        | Finding::EmptyBus { .. }
+        | Finding::UncarriedUnit { .. } => Ok(empty_list(alloc)),
         Finding::MissingAddress { node, .. }
         | Finding::MissingLocator { node }
         | Finding::SharedSensorId { node, .. }
@@ -150,52 +158,7 @@ fn nodes_of(alloc: Global, finding: &Finding) -> Result<Vec<usize>, AllocError>
         | Finding::ForeignLength { node, .. }
         | Finding::CrossedThresholds { node, .. }
         | Finding::UnknownTerminusHandle { node, .. }
-        | Finding::UncontainedEntity { node, .. } => [node].to_vec(alloc),
-        Finding::ForeignMedia { .. }
-        | Finding::ReservedBinding { .. }
-        | Finding::EmptyBus { .. }
-        | Finding::UncarriedUnit { .. } => Ok(Vec::new(alloc)),
-    }
-}
-
-/// The row or the record of a finding.
-fn entry_of(finding: &Finding) -> Option<usize>
-    ensures { result ≡ entry_of finding.now }
-{
-    match *finding {
-        Finding::IdleRow { row, .. } => Some(row),
-        Finding::SharedSensorId { record, .. }
-        | Finding::EmptyReadableRange { record, .. }
-        | Finding::CrossedThresholds { record, .. }
-        | Finding::UnknownTerminusHandle { record, .. }
-        | Finding::UncontainedEntity { record, .. } => Some(record),
-        Finding::SharedAddress { .. }
-        | Finding::MissingAddress { .. }
-        | Finding::SharedTid { .. }
-        | Finding::MissingLocator { .. }
-        | Finding::OwnerHasNoWay { .. }
-        | Finding::NoWayToOwner { .. }
-        | Finding::PoolEidNotLedOn { .. }
-        | Finding::LonePort { .. }
-        | Finding::Isolated { .. }
-        | Finding::ForeignMedia { .. }
-        | Finding::ReservedBinding { .. }
-        | Finding::ReservedAddress { .. }
-        | Finding::EmptyBus { .. }
-        | Finding::OddAddress { .. }
-        | Finding::ForeignLength { .. }
-        | Finding::UncarriedUnit { .. }
-        | Finding::SharedSevenBits { .. } => None,
-    }
-}
-
-/// The endpoint ID of a finding, as a span.
-fn eids_of(finding: &Finding) -> Option<(Eid, Eid)>
-    ensures { result ≡ eids_of finding.now }
-{
-    match *finding {
-        Finding::PoolEidNotLedOn { eid, .. } => Some((eid, eid)),
-        _ => None,
+        | Finding::UncontainedEntity { node, .. } => nodes_value(alloc, plan, &[node]),
     }
 }
 
@@ -233,9 +196,7 @@ fn finding_pointer(alloc: Global, finding: &Finding) -> Result<Vec<PointerStep>,
 }
 
 /// The pointer to the other that a finding is about, if there is one.
-fn other_pointer(alloc: Global, finding: &Finding) -> Result<Option<Vec<PointerStep>>, AllocError>
-    ensures { IfOk result (λ pointer. option_map (λ p. map step_value p.items) pointer ≡ other_pointer finding.now) }
-{
+fn other_pointer(alloc: Global, finding: &Finding) -> Result<Option<Vec<PointerStep>>, AllocError> {
     let pointer = match *finding {
         Finding::SharedAddress {
             other,
@@ -272,12 +233,14 @@ fn port_pointer(alloc: Global, node: usize, port: usize) -> Result<Vec<PointerSt
 fn address_pointer(alloc: Global, node: usize, port: usize) -> Result<Vec<PointerStep>, AllocError>
     ensures { IfOk result (λ pointer. map step_value pointer.items ≡ address_pointer node port) }
 {
-    [
-        PointerStep::Key("nodes"),
-        PointerStep::Index(node),
-        PointerStep::Key("ports"),
-        PointerStep::Index(port),
-        PointerStep::Key("address"),
-    ]
-    .to_vec(alloc)
+    let mut pointer = port_pointer(alloc, node, port)?;
+    pointer.push(PointerStep::Key("address"))?;
+    Ok(pointer)
+}
+
+/// The pointer to a bus.
+pub fn bus_pointer(alloc: Global, bus: usize) -> Result<Vec<PointerStep>, AllocError>
+    ensures { IfOk result (λ pointer. map step_value pointer.items ≡ bus_pointer bus) }
+{
+    [PointerStep::Key("buses"), PointerStep::Index(bus)].to_vec(alloc)
 }

@@ -1,7 +1,7 @@
 //! JSON lists.
 ghost use Rattle.std.specs.Prelude.{◌≡◌, IfOk};
 ghost use Rattle.serde_json.{specs.Data.{Data}, specs.View.{view}};
-ghost use Rattle.json_commands.specs.Lists.{IsListTold, empty_data, one_data};
+ghost use Rattle.json_commands.specs.Values.{IsListTold, empty_data, one_data};
 
 use serde_json::Value;
 use std::alloc::{AllocError, Global};

@@ -4,10 +4,11 @@ ghost use Rattle.json.specs.Value.{value_view};
 ghost use Rattle.net_pointers.specs.Offsets.{IsTextOf};
 ghost use Rattle.serde_json.{specs.Data.{Data}, specs.View.{view}};
 ghost use Rattle.command_questions.specs.declared.form.Form.{Form};
-ghost use Rattle.json_commands.specs.Lists.{IsListTold};
+ghost use Rattle.json_commands.specs.Values.{IsListTold};
 
 use crate::lists::{Listed, list_of};
 use crate::places::Placing;
+use command_answers::PlanText;
 use command_questions::Form;
 use json::{Scratch, Value as Tree};
 use net_plan::json_of;
@@ -32,17 +33,18 @@ pub trait Noted {
         ensures { IfOk result (λ value. noted self.now placing.now.form placing.now.name.now placing.now.index.now item.now (view value)) };
 }
 
-/// The JSON list of items, in their order. The text is read once more, for its tree.
+/// The JSON list of items, in their order. The plan's text is read once more, for its tree. The name is that of its file.
 pub fn notes_of<N: Noted>(
     alloc: Global,
     form: Form,
     name: &str,
-    text: &[u8],
+    given: &PlanText,
     noter: &N,
     items: &[N::Item],
 ) -> Result<Value, AllocError>
-    ensures { IfOk result (λ value. IsListTold (N.noted noter.now form name.now text.now) items.now (view value)) }
+    ensures { IfOk result (λ value. IsListTold (N.noted noter.now form name.now given.now.text.items) items.now (view value)) }
 {
+    let text = given.text.as_slice();
     let mut scratch = Scratch::new(alloc);
     match json_of(alloc, text, &mut scratch) {
         Ok(tree) => notes_in(alloc, form, name, text, &tree, noter, items),
@@ -65,46 +67,13 @@ fn notes_in<N: Noted>(
 {
     let mut scratch = Scratch::new(alloc);
     let index = TextIndex::of(alloc, text, &mut scratch)?;
-    notes_over(alloc, form, name, &index, tree, noter, items)
-}
-
-/// The same over an index of the text.
-fn notes_over<'a, 't, 'i, N: Noted>(
-    alloc: Global,
-    form: Form,
-    name: &'a str,
-    index: &'a TextIndex<'i>,
-    tree: &'a Tree<'t>,
-    noter: &N,
-    items: &[N::Item],
-) -> Result<Value, AllocError>
-    requires { IsTextOf index.now (value_view tree.now) }
-    ensures { IfOk result (λ value. IsListTold (N.noted noter.now form name.now index.now) items.now (view value)) }
-{
     let placing = Placing {
         form,
         name,
-        index,
+        index: &index,
         tree,
     };
-    notes_at(alloc, &placing, noter, items)
-}
-
-/// The JSON list of items, in their order.
-pub fn notes_at<'a, 't, 'i, N: Noted>(
-    alloc: Global,
-    placing: &Placing<'a, 't, 'i>,
-    noter: &N,
-    items: &[N::Item],
-) -> Result<Value, AllocError>
-    requires { IsTextOf placing.now.index.now (value_view placing.now.tree.now) }
-    ensures { IfOk result (λ value. IsListTold (N.noted noter.now placing.now.form placing.now.name.now placing.now.index.now) items.now (view value)) }
-{
-    let placed = Placed {
-        placing: *placing,
-        noter,
-    };
-    list_of(alloc, &placed, items)
+    list_of(alloc, &Placed { placing, noter }, items)
 }
 
 /// Writes items over the index of a text.

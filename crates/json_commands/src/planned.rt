@@ -3,13 +3,13 @@ ghost use Rattle.std.{specs.Prelude.{◌≡◌, ◌≢◌, IfOk, IfErr}, specs.C
 ghost use Rattle.serde_json.specs.View.{view};
 ghost use Rattle.net_plan.specs.Stream.{HasRoom};
 ghost use Rattle.command_answers.{specs.Answers.{stream}, specs.Told.{ConcludesOnOutput}, specs.UnreadInputs.{IsTextOf}};
-ghost use Rattle.json_commands.specs.Planned.{IsPlanSaid, IsSaidOfSource, SaysInJson, command_of, form_of};
+ghost use Rattle.json_commands.specs.Planned.{IsPlanSaid, IsSaidOfSource, SaysInJson, form_of};
 ghost use Rattle.command_answers.specs.declared.refused.Refused.TheVariants as refused;
 ghost use Rattle.command_answers.specs.declared.status.Status.TheVariants as status;
 
 use crate::explained::explained_plan;
 use crate::faults::faults_of_plan;
-use crate::linted::findings_of_plan;
+use crate::findings::findings_of_plan;
 use crate::said::{Said, answer_of};
 use crate::unread::unread_input;
 use command_answers::{Answer, Input, PlanText, Refused, Status, plan_or_text, tell};
@@ -69,7 +69,7 @@ fn said_of_source<P: Source>(
     match plan_or_text(alloc, plan) {
         Ok(given) => Ok(said_of_plan(alloc, asked, name, &given)?),
         Err(unread) => {
-            let (form, command) = (form_of(asked), command_of(asked));
+            let (form, command) = form_and_command(asked);
             Ok(unread_input(alloc, form, command, name, Input::Plan, &unread)?)
         }
     }
@@ -92,23 +92,13 @@ fn said_of_plan(
     }
 }
 
-/// The form of the answer.
-fn form_of(asked: PlanJson) -> Form
-    ensures { result ≡ form_of asked }
+/// The form of the answer, and the command that asks.
+fn form_and_command(asked: PlanJson) -> (Form, &'static str)
+    ensures { result.0 ≡ form_of asked }
 {
     match asked {
-        PlanJson::Faults(form) => form,
-        PlanJson::Explain | PlanJson::Lint => Form::Json,
-    }
-}
-
-/// The command that asks.
-fn command_of(asked: PlanJson) -> &'static str
-    ensures { result.now ≡ command_of asked }
-{
-    match asked {
-        PlanJson::Explain => "explain",
-        PlanJson::Faults(_) => "faults",
-        PlanJson::Lint => "lint",
+        PlanJson::Explain => (Form::Json, "explain"),
+        PlanJson::Faults(form) => (form, "faults"),
+        PlanJson::Lint => (Form::Json, "lint"),
     }
 }

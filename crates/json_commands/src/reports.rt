@@ -1,9 +1,9 @@
 //! What is told of notes: the JSON value that the commands share, or a log of SARIF.
-ghost use Rattle.std.specs.Prelude.{◌≡◌, IfOk};
+ghost use Rattle.std.specs.Prelude.{◌≡◌, IfOk, codes};
 ghost use Rattle.serde_json.specs.View.{view};
-ghost use Rattle.json_commands.specs.Reports.{IsReport, found_data, log_data, run_data};
+ghost use Rattle.command_questions.specs.declared.form.Form.TheVariants.{Json};
+ghost use Rattle.json_commands.{specs.Answers.{IsAnswer, IsLog}, specs.Values.{Has, one_data}};
 
-use crate::lists::list_of_one;
 use crate::said::Said;
 use command_answers::Status;
 use command_questions::Form;
@@ -19,7 +19,7 @@ pub fn report(
     status: Status,
     results: Value,
 ) -> Result<Said, AllocError>
-    ensures { IfOk result (λ said. (said.status ≡ status) × IsReport form command.now status (view results) (view said.value)) }
+    ensures { IfOk result (λ said. (said.status ≡ status) × IsAnswer form status (view results) (view said.value)) }
 {
     let value = match form {
         Form::Json => found_value(alloc, command, status, results)?,
@@ -34,7 +34,7 @@ fn found_value(
     status: Status,
     results: Value,
 ) -> Result<Value, AllocError>
-    ensures { IfOk result (λ value. view value ≡ found_data command.now status (view results)) }
+    ensures { IfOk result (λ value. IsAnswer Json status (view results) (view value)) }
 {
     json!(in alloc; {"command": command, "format": 1u8, "results": results, "status": status.number()})
 }
@@ -44,17 +44,23 @@ fn found_value(
 /// Where the schema of logs is published.
 const SCHEMA: &str = "https://json.schemastore.org/sarif-2.1.0.json";
 
-/// A log of one run (SARIF 2.1.0, sections 3.13 and 3.14).
+/// A log of one run (SARIF 2.1.0, section 3.13).
 fn log_value(alloc: Global, results: Value, tool: Value) -> Result<Value, AllocError>
-    ensures { IfOk result (λ value. view value ≡ log_data (view results) (view tool)) }
+    ensures { IfOk result (λ value. IsLog (view results) (view value)) }
 {
-    let runs = list_of_one(alloc, run_value(alloc, results, tool)?)?;
-    json!(in alloc; {"$schema": SCHEMA, "runs": runs, "version": "2.1.0"})
+    let run = run_value(alloc, results, tool)?;
+    log_of(alloc, run)
 }
 
-/// A run. Columns count characters, and not units of UTF-16 as they do by default.
+fn log_of(alloc: Global, run: Value) -> Result<Value, AllocError>
+    ensures { IfOk result (λ value. Has (codes "runs") (one_data (view run)) (view value)) }
+{
+    json!(in alloc; {"$schema": SCHEMA, "runs": [run], "version": "2.1.0"})
+}
+
+/// A run (SARIF 2.1.0, section 3.14). Columns count characters, and not units of UTF-16 as they do by default.
 fn run_value(alloc: Global, results: Value, tool: Value) -> Result<Value, AllocError>
-    ensures { IfOk result (λ value. view value ≡ run_data (view results) (view tool)) }
+    ensures { IfOk result (λ value. Has (codes "results") (view results) (view value)) }
 {
     json!(in alloc; {"columnKind": "unicodeCodePoints", "results": results, "tool": tool})
 }
@@ -66,14 +72,8 @@ fn tool_value(alloc: Global) -> Result<Value, AllocError> {
 
 /// The version of this program.
 fn version() -> &'static str {
-    let line = match VERSION.split_once("\n") {
-        Some((line, _)) => line,
-        None => VERSION,
-    };
-    match line.strip_prefix("mctpplan ") {
-        Some(version) => version,
-        None => line,
-    }
+    let (line, _) = VERSION.split_once("\n").unwrap_or((VERSION, ""));
+    line.strip_prefix("mctpplan ").unwrap_or(line)
 }
 
 /// The codes that results may have.
@@ -92,27 +92,12 @@ fn rules_value(alloc: Global) -> Result<Value, AllocError> {
 }
 
 fn rule_value(alloc: Global, code: &str) -> Result<Value, AllocError> {
-    let described = description_of(alloc, code)?;
-    let description = json!(in alloc; {"text": described})?;
-    json!(in alloc; {"id": code, "shortDescription": description})
+    json!(in alloc; {"id": code, "shortDescription": {"text": description_of(alloc, code)?}})
 }
 
 /// What a code means, on one line.
 fn description_of(alloc: Global, code: &str) -> Result<String, AllocError> {
-    let text = match text_of(code) {
-        Some(text) => text,
-        None => code,
-    };
-    let meaning = match text.split_once("\nHint: ") {
-        Some((meaning, _)) => meaning,
-        None => text,
-    };
-    let mut line = String::new(alloc);
-    for part in meaning.lines() {
-        if !line.is_empty() {
-            line.push_str(" ")?;
-        }
-        line.push_str(part)?;
-    }
-    Ok(line)
+    let text = text_of(code).unwrap_or(code);
+    let (meaning, _) = text.split_once("\nHint: ").unwrap_or((text, ""));
+    meaning.trim_end().replace(alloc, "\n", " ")
 }

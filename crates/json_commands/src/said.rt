@@ -1,7 +1,7 @@
 //! What the commands answer: a JSON value, in a line of its own.
 ghost use Rattle.std.{specs.Prelude.{◌≡◌, IfOk, string_bytes}, specs.Cow.{cow_str_bytes}};
 ghost use Rattle.serde_json.specs.View.{view};
-ghost use Rattle.json_commands.specs.Reports.{IsLineOf};
+ghost use Rattle.json_commands.specs.Answers.{IsLineOf};
 
 use command_answers::{Answer, Status};
 use serde_json::Value;

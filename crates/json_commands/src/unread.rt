@@ -1,25 +1,24 @@
-//! What is told where there is no plan or no certificate, or where nothing has a name.
-ghost use Rattle.std.specs.Prelude.{◌≡◌, ◌+◌, IfOk, IsUtf8, Some, map, option_map};
+//! What is answered where there is no plan or no certificate, or where nothing has a name.
+ghost use Rattle.std.specs.Prelude.{◌≡◌, ◌+◌, IfOk, IsUtf8, map};
 ghost use Rattle.json.specs.Value.{value_view};
 ghost use Rattle.net_plan.specs.Finding.{step_value};
 ghost use Rattle.net_pointers.specs.Offsets.{IsTextOf};
 ghost use Rattle.serde_json.specs.View.{view};
-ghost use Rattle.json_commands.specs.Unread.{AreKeysPlaced, AreNowhere, ArePlaces, ArePointersPlaced, AreTroublePlaces, AreUnreadPlaces, IsInputUnreadSaid, IsUnknownSaid, IsUnreadSaid, code_of, entry_pointer, offset_of, range_pointer};
+ghost use Rattle.json_commands.{specs.Places.{IsPlaceTold}, specs.Unread.{IsItemAlone, IsKeyPlace, IsTextPlace, IsTroublePlace, IsUnknownSaid, IsUnreadPlace, IsUnreadSaid, code_of, entry_pointer, nowhere_data, offset_of, range_pointer}};
 ghost use Rattle.command_answers.specs.declared.status.Status.TheVariants as status;
 
 use crate::lists::{empty_list, list_of_one};
-use crate::notes::{Subject, note_value};
-use crate::places::{Placing, place_of};
+use crate::notes::{about, note_value};
+use crate::places::{Placing, place_of, spot_of};
 use crate::reports::report;
 use crate::said::Said;
-use crate::spots::spot_of;
 use command_answers::{Input, Status, Unread, unread_text};
 use command_questions::Form;
 use json::{Scratch, Value as Tree};
 use net_plan::{PointerStep, json_of};
 use net_pointers::{
-    DoubledKey, JsonFault, NameList, Overlap, TextIndex, TextTrouble, Trouble, TwoIndices,
-    list_key, name_key, offset_of_key,
+    DoubledKey, JsonFault, NameList, Overlap, TextIndex, TextTrouble, Trouble, list_key, name_key,
+    offset_of_key,
 };
 use reading_texts::unread_code;
 use serde_json::Value;
@@ -41,7 +40,7 @@ pub fn unread_input(
     input: Input,
     unread: &Unread,
 ) -> Result<Said, AllocError>
-    ensures { IfOk result (λ said. (said.status ≡ status.Unreadable) × IsInputUnreadSaid form command.now name.now input unread.now (view said.value)) }
+    ensures { IfOk result (λ said. (said.status ≡ status.Unreadable) × IsUnreadSaid form name.now unread.now (view said.value)) }
 {
     let words = unread_text(alloc, input, unread)?;
     let places = unread_places(alloc, form, name, unread)?;
@@ -55,17 +54,11 @@ pub fn unknown_name(
     command: &str,
     name: &str,
 ) -> Result<Said, AllocError>
-    ensures { IfOk result (λ said. (said.status ≡ status.Unreadable) × IsUnknownSaid form command.now name.now (view said.value)) }
+    ensures { IfOk result (λ said. (said.status ≡ status.Unreadable) × IsUnknownSaid form name.now (view said.value)) }
 {
     let places = nowhere(alloc, form, name)?;
-    Ok(unread_said(
-        alloc,
-        form,
-        command,
-        "J06",
-        places,
-        "unreadable node: J06\n",
-    )?)
+    let words = "unreadable node: J06\n";
+    Ok(unread_said(alloc, form, command, "J06", places, words)?)
 }
 
 fn unread_said(
@@ -76,23 +69,12 @@ fn unread_said(
     places: Places,
     words: &str,
 ) -> Result<Said, AllocError>
-    ensures { IfOk result (λ said. (said.status ≡ status.Unreadable) × IsUnreadSaid form command.now code.now (view places.place) (view places.related) words.now (view said.value)) }
+    ensures { IfOk result (λ said. (said.status ≡ status.Unreadable) × IsItemAlone form code.now (view places.place) (view said.value)) }
 {
-    let subject = Subject {
-        kind: "unreadable",
-        code,
-        eids: None,
-        entry: None,
-    };
-    let note = note_value(
-        alloc,
-        form,
-        &subject,
-        empty_list(alloc),
-        places.place,
-        places.related,
-        words,
-    )?;
+    let subject = about("unreadable", code, None, None);
+    let nodes = empty_list(alloc);
+    let (place, related) = (places.place, places.related);
+    let note = note_value(alloc, form, &subject, nodes, place, related, words)?;
     let results = list_of_one(alloc, note)?;
     Ok(report(alloc, form, command, Status::Unreadable, results)?)
 }
@@ -113,9 +95,9 @@ fn code_of(unread: &Unread) -> &'static str
 
 /// A file, and no place in it.
 fn nowhere(alloc: Global, form: Form, name: &str) -> Result<Places, AllocError>
-    ensures { IfOk result (λ places. AreNowhere form name.now (view places.place) (view places.related)) }
+    ensures { IfOk result (λ places. view places.place ≡ nowhere_data form name.now) }
 {
-    let place = spot_of(alloc, form, name, &[], None, None)?;
+    let place = spot_of(alloc, form, name, &[], None)?;
     let related = empty_list(alloc);
     Ok(Places { place, related })
 }
@@ -127,7 +109,7 @@ fn unread_places(
     name: &str,
     unread: &Unread,
 ) -> Result<Places, AllocError>
-    ensures { IfOk result (λ places. AreUnreadPlaces form name.now unread.now (view places.place) (view places.related)) }
+    ensures { IfOk result (λ places. IsUnreadPlace form name.now unread.now (view places.place)) }
 {
     match unread {
         Unread::Text { text, fault } => {
@@ -146,12 +128,12 @@ fn text_places(
     text: &[u8],
     trouble: &TextTrouble,
 ) -> Result<Places, AllocError>
-    ensures { IfOk result (λ places. ArePlaces form name.now text.now trouble.now (view places.place) (view places.related)) }
+    ensures { IfOk result (λ places. IsTextPlace form name.now text.now trouble.now (view places.place)) }
 {
     match trouble {
         TextTrouble::TooLong(_) => Ok(nowhere(alloc, form, name)?),
         TextTrouble::NotJson(fault) => {
-            let place = spot_of(alloc, form, name, text, Some(offset_of(*fault)), None)?;
+            let place = spot_of(alloc, form, name, text, Some(offset_of(*fault)))?;
             let related = empty_list(alloc);
             Ok(Places { place, related })
         }
@@ -176,34 +158,20 @@ fn trouble_places(
     text: &[u8],
     trouble: &Trouble,
 ) -> Result<Places, AllocError>
-    ensures { IfOk result (λ places. AreTroublePlaces form name.now text.now trouble.now (view places.place) (view places.related)) }
+    ensures { IfOk result (λ places. IsTroublePlace form name.now text.now trouble.now (view places.place)) }
 {
     match trouble {
         Trouble::Value(found) | Trouble::UnknownName(found) => {
             Ok(pointer_places(alloc, form, name, text, &found.pointer, None)?)
         }
-        Trouble::DoubledName(list, indices) => {
-            Ok(twin_places(alloc, form, name, text, *list, *indices)?)
+        Trouble::DoubledName(list, twins) => {
+            let first = entry_pointer(alloc, *list, twins.first)?;
+            let second = entry_pointer(alloc, *list, twins.second)?;
+            Ok(pointer_places(alloc, form, name, text, &second, Some(&first))?)
         }
         Trouble::Overlap(overlap) => Ok(overlap_places(alloc, form, name, text, *overlap)?),
         Trouble::DoubledKey(doubled) => Ok(key_places(alloc, form, name, text, doubled)?),
     }
-}
-
-/// Where a name stands that two entries of a list have: again, and first.
-fn twin_places(
-    alloc: Global,
-    form: Form,
-    name: &str,
-    text: &[u8],
-    list: NameList,
-    twins: TwoIndices,
-) -> Result<Places, AllocError>
-    ensures { IfOk result (λ places. ArePointersPlaced form name.now text.now (entry_pointer list twins.second) (Some (entry_pointer list twins.first)) (view places.place) (view places.related)) }
-{
-    let first = entry_pointer(alloc, list, twins.first)?;
-    let second = entry_pointer(alloc, list, twins.second)?;
-    Ok(pointer_places(alloc, form, name, text, &second, Some(&first))?)
 }
 
 /// Where a range of ranks stands that begins before the one before it has ended, and where that one does.
@@ -214,30 +182,14 @@ fn overlap_places(
     text: &[u8],
     overlap: Overlap,
 ) -> Result<Places, AllocError>
-    ensures { IfOk result (λ places. ArePointersPlaced form name.now text.now (range_pointer overlap.entry (overlap.range + 1)) (Some (range_pointer overlap.entry overlap.range)) (view places.place) (view places.related)) }
+    ensures { IfOk result (λ places. IsPlaceTold form name.now text.now (range_pointer overlap.entry (overlap.range + 1)) (view places.place)) }
 {
     if overlap.range == usize::MAX {
         // no memory: no list is so long.
         return Err(AllocError);
     }
-    let next = overlap.range + 1;
-    Ok(range_places(alloc, form, name, text, overlap.entry, overlap.range, next)?)
-}
-
-/// Where two ranges of ranks stand: the next one, and the first.
-fn range_places(
-    alloc: Global,
-    form: Form,
-    name: &str,
-    text: &[u8],
-    entry: usize,
-    range: usize,
-    next: usize,
-) -> Result<Places, AllocError>
-    ensures { IfOk result (λ places. ArePointersPlaced form name.now text.now (range_pointer entry next) (Some (range_pointer entry range)) (view places.place) (view places.related)) }
-{
-    let first = range_pointer(alloc, entry, range)?;
-    let second = range_pointer(alloc, entry, next)?;
+    let first = range_pointer(alloc, overlap.entry, overlap.range)?;
+    let second = range_pointer(alloc, overlap.entry, overlap.range + 1)?;
     Ok(pointer_places(alloc, form, name, text, &second, Some(&first))?)
 }
 
@@ -250,7 +202,7 @@ fn pointer_places(
     pointer: &[PointerStep],
     other: Option<&[PointerStep]>,
 ) -> Result<Places, AllocError>
-    ensures { IfOk result (λ places. ArePointersPlaced form name.now text.now (map step_value pointer.now) (option_map (λ p. map step_value p.now) other.entry) (view places.place) (view places.related)) }
+    ensures { IfOk result (λ places. IsPlaceTold form name.now text.now (map step_value pointer.now) (view places.place)) }
 {
     let mut scratch = Scratch::new(alloc);
     match json_of(alloc, text, &mut scratch) {
@@ -270,30 +222,14 @@ fn pointers_in(
     other: Option<&[PointerStep]>,
 ) -> Result<Places, AllocError>
     requires { IsTextOf text.now (value_view tree.now) }
-    ensures { IfOk result (λ places. ArePointersPlaced form name.now text.now (map step_value pointer.now) (option_map (λ p. map step_value p.now) other.entry) (view places.place) (view places.related)) }
+    ensures { IfOk result (λ places. IsPlaceTold form name.now text.now (map step_value pointer.now) (view places.place)) }
 {
     let mut scratch = Scratch::new(alloc);
     let index = TextIndex::of(alloc, text, &mut scratch)?;
-    pointers_over(alloc, form, name, &index, tree, pointer, other)
-}
-
-/// The same over an index of the text.
-fn pointers_over<'a, 't, 'i>(
-    alloc: Global,
-    form: Form,
-    name: &'a str,
-    index: &'a TextIndex<'i>,
-    tree: &'a Tree<'t>,
-    pointer: &[PointerStep],
-    other: Option<&[PointerStep]>,
-) -> Result<Places, AllocError>
-    requires { IsTextOf index.now (value_view tree.now) }
-    ensures { IfOk result (λ places. ArePointersPlaced form name.now index.now (map step_value pointer.now) (option_map (λ p. map step_value p.now) other.entry) (view places.place) (view places.related)) }
-{
     let placing = Placing {
         form,
         name,
-        index,
+        index: &index,
         tree,
     };
     let place = place_of(alloc, &placing, pointer)?;
@@ -312,7 +248,7 @@ fn key_places(
     text: &[u8],
     doubled: &DoubledKey,
 ) -> Result<Places, AllocError>
-    ensures { IfOk result (λ places. AreKeysPlaced form name.now text.now doubled.now (view places.place) (view places.related)) }
+    ensures { IfOk result (λ places. IsKeyPlace form name.now text.now doubled.now (view places.place)) }
 {
     let mut scratch = Scratch::new(alloc);
     match json_of(alloc, text, &mut scratch) {
@@ -330,15 +266,14 @@ fn keys_in(
     doubled: &DoubledKey,
 ) -> Result<Places, AllocError>
     requires { IsUtf8 text.now }
-    ensures { IfOk result (λ places. AreKeysPlaced form name.now text.now doubled.now (view places.place) (view places.related)) }
+    ensures { IfOk result (λ places. IsKeyPlace form name.now text.now doubled.now (view places.place)) }
 {
     let first = offset_of_key(alloc, text, &doubled.path, doubled.members.first)?;
     let second = offset_of_key(alloc, text, &doubled.path, doubled.members.second)?;
     match (first, second) {
         (Some(first), Some(second)) => {
-            let place = spot_of(alloc, form, name, text, Some(second), None)?;
-            let other = spot_of(alloc, form, name, text, Some(first), None)?;
-            let related = list_of_one(alloc, other)?;
+            let place = spot_of(alloc, form, name, text, Some(second))?;
+            let related = list_of_one(alloc, spot_of(alloc, form, name, text, Some(first))?)?;
             Ok(Places { place, related })
         }
         // no memory: both keys were found before, so this can't be.

@@ -1,27 +1,16 @@
-use Rattle.std.proofs.Common.{rules, ◌≡◌, ℕ, is_some, true, false, sym, subst}
-use Rattle.mctp_transport.specs.declared.address.Eid.{Eid}
+use Rattle.std.proofs.Common.{sym, subst}
 use Rattle.command_questions.specs.declared.certified.CertifiedJson.{CertifiedJson}
-use Rattle.json_commands.{specs.Certified.{IsNamedIn}, proofs.Named.{was_found, was_not_found}}
-use Rattle.command_answers.specs.Naming.{IsDestination, NameTheEnds, IsFirstNamed}
+use Rattle.command_answers.specs.Naming.{NameTheEnds}
+use Rattle.json_commands.specs.Certified.{IsNamedIn}
 use Rattle.json_commands.proofs.certified.is_named_in.Goals as goal
 
-pub returns-in-Trace-clause-yes : goal.returns-in-Trace-clause-yes
-returns-in-Trace-clause-yes c = λ yes.
+pub returns-in-Some-clause-yes : goal.returns-in-Some-clause-yes
+returns-in-Some-clause-yes c = λ yes.
     let plan = c.args.plan.now in
-    let from = c.in-Trace.from.now in
-    let to = c.in-Trace.to.now in
-    let Are : ℕ × Eid → Type 0 = λ ends. IsFirstNamed plan from ends.0 × IsDestination plan to ends.1.value in
-    let is : is_some c.named_ends.result ≡ true = search rules in
-    let found = was_found (¬ NameTheEnds from to plan) Are c.named_ends.result c.named_ends.ensures is in
-    let named : NameTheEnds from to plan = ((found.0.0, found.1.0), (found.0.1.value, found.1.1)) in
+    let ends = c.in-Some._ends in
+    let named : NameTheEnds c.in-Trace.from.now c.in-Trace.to.now plan = ((ends.0, c.in-Some.ensures.0), (ends.1.value, c.in-Some.ensures.1)) in
     subst (λ (q : CertifiedJson). IsNamedIn q plan) (sym c.in-Trace.is) named
 
-pub returns-in-Trace-clause-no : goal.returns-in-Trace-clause-no
-returns-in-Trace-clause-no c = λ no.
-    let plan = c.args.plan.now in
-    let from = c.in-Trace.from.now in
-    let to = c.in-Trace.to.now in
-    let Are : ℕ × Eid → Type 0 = λ ends. IsFirstNamed plan from ends.0 × IsDestination plan to ends.1.value in
-    let is : is_some c.named_ends.result ≡ false = search rules in
-    let none : ¬ NameTheEnds from to plan = was_not_found (¬ NameTheEnds from to plan) Are c.named_ends.result c.named_ends.ensures is in
-    subst (λ (q : CertifiedJson). ¬ IsNamedIn q plan) (sym c.in-Trace.is) none
+pub returns-in-None-clause-no : goal.returns-in-None-clause-no
+returns-in-None-clause-no c = λ no.
+    subst (λ (q : CertifiedJson). ¬ IsNamedIn q c.args.plan.now) (sym c.in-Trace.is) c.in-None.ensures

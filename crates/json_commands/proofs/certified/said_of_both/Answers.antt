@@ -1,8 +1,8 @@
-use Rattle.std.proofs.Common.{rules, List, ℕ, inl, inr, sym, ap, subst}
+use Rattle.std.proofs.Common.{rules, inl, inr, sym, ap, subst}
 use Rattle.serde_json.specs.View.{view}
 use Rattle.plan_values.{specs.declared.certificate.Certificate.{Certificate}, specs.declared.plan.Plan.{Plan}}
 use Rattle.command_questions.specs.declared.form.Form.{Form}
-use Rattle.json_commands.{specs.Certified.{AreCheckedSaid, IsNamedIn, command_of}, specs.Unread.{IsUnknownSaid}}
+use Rattle.json_commands.{specs.Certified.{AreCheckedSaid, IsNamedIn}, specs.Unread.{IsUnknownSaid}}
 use Rattle.json_commands.proofs.certified.said_of_both.Goals as goal
 
 pub said_of_checked-requires : goal.said_of_checked-requires
@@ -22,9 +22,6 @@ returns-in_ok-said_of_error-in-Err c =
 
 pub returns-then-not-is_named_in : goal.returns-then-not-is_named_in
 returns-then-not-is_named_in c =
-    let asked = c.args.asked.now in
     let told = c.in_ok-unknown_name in
-    let name = c.args.name.now in
-    let d = view told.field-0.value in
-    let by = subst (λ (k : List ℕ). IsUnknownSaid c.form_of.result k name d) c.command_of.ensures told.ensures.1 in
-    inr (inr (told.ensures.0, c.is_named_in.ensures.no (search rules), subst (λ (f : Form). IsUnknownSaid f (command_of asked) name d) c.form_of.ensures by))
+    let Says : Form → Type 0 = λ f. IsUnknownSaid f c.args.name.now (view told.field-0.value) in
+    inr (inr (told.ensures.0, c.is_named_in.ensures.no (search rules), subst Says c.form_and_command-form.ensures told.ensures.1))

@@ -1,13 +1,14 @@
-use Rattle.std.proofs.Common.{List, ℕ, sym, subst}
+use Rattle.std.{proofs.Common.{subst}, specs.Prelude.{◌≢◌, string_bytes}}
+use Rattle.net_rules.specs.declared.certify_error.CertifyError.{CertifyError}
 use Rattle.explanation_texts.specs.Explanations.{IsObstacleTold}
-use Rattle.json_commands.proofs.NotMemory.{told_not_memory}
+use Rattle.net_rules.specs.declared.certify_error.CertifyError.TheVariants as error
 use Rattle.json_commands.proofs.explained.obstacle_told.Goals as goal
 
+-- Want of memory is explained by nothing.
 pub returns : goal.returns
 returns c =
-    let plan = c.args.given.now.plan in
-    let obstacle = c.args.obstacle.now in
+    let obstacle = c.args.obstacle in
     let told = c.in_ok-told_with_edits in
-    let lines = c.deref.result.now in
-    let explained : IsObstacleTold plan obstacle lines = subst (λ (l : List ℕ). IsObstacleTold plan obstacle l) (sym c.deref.ensures) c.in_ok-lines.ensures in
-    (told.ensures.0, (obstacle, lines, c.requires.names, c.requires.none (told_not_memory plan obstacle lines explained), explained, told.ensures.1))
+    let Told : CertifyError → Type 0 = λ e. IsObstacleTold c.args.given.now.plan e (string_bytes c.in_ok-lines.lines) in
+    let is_other : obstacle ≢ error.OutOfMemory = λ is. (subst Told is c.in_ok-lines.ensures).1 in
+    (told.ensures.0, (obstacle, c.requires.names, is_other, c.requires.none is_other, told.ensures.1))

@@ -1,7 +1,13 @@
 use Rattle.std.{proofs.Common.{rules, ◌≡◌, ◌+◌, ◌++◌, [], ◌∷◌, List, map, take, take_all, ap, sym, subst, ◌∙◌}, proofs.lemmas.List.{take_more, map-append}}
 use Rattle.serde_json.{specs.Data.{Data}, specs.View.{view}, proofs.Views.{view-Array}}
-use Rattle.json_commands.{specs.Lists.{AreTold}, proofs.OneMore.{one_more}}
+use Rattle.json_commands.specs.Values.{AreTold}
 use Rattle.json_commands.proofs.lists.list_of.Goals as goal
+
+-- one more value, of the next item
+one_more : {A : Type 0} (IsTold : A → Data → Type 0) (xs more : List A) (x : A) (ds longer : List Data) (d : Data) → AreTold IsTold xs ds → IsTold x d
+    → more ≡ xs ++ x ∷ [] → longer ≡ ds ++ d ∷ [] → AreTold IsTold more longer
+one_more IsTold xs more x ds longer d before told same written =
+    subst (λ (ys : List _). AreTold IsTold ys longer) (sym same) (subst (λ (es : List Data). AreTold IsTold (xs ++ x ∷ []) es) (sym written) (AreTold.more x d before told))
 
 pub loop-item-init : goal.loop-item-init
 loop-item-init g c =

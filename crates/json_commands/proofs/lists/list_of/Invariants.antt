@@ -1,7 +1,7 @@
 -- The values that were made tell the items that were passed.
 use Rattle.std.proofs.Common.{map, take}
 use Rattle.serde_json.specs.View.{view}
-use Rattle.json_commands.specs.Lists.{AreTold}
+use Rattle.json_commands.specs.Values.{AreTold}
 use Rattle.json_commands.proofs.lists.list_of.Given as goal
 
 abbrev pub invariant-loop-item : goal.invariant-loop-item

@@ -2,8 +2,8 @@ use Rattle.std.proofs.Common.{◌≡◌, List, refl, subst}
 use Rattle.serde_json.specs.View.{view}
 use Rattle.plan_values.specs.declared.plan.Plan.{Plan}
 use Rattle.net_questions.specs.declared.pair.Pair.{Pair}
-use Rattle.json_commands.{specs.Lists.{IsListTold}, specs.Reached.{pair_data}}
-use Rattle.json_commands.proofs.reached.reached.Goals as goal
+use Rattle.json_commands.{specs.Values.{IsListTold}, specs.Ways.{pair_data}}
+use Rattle.json_commands.proofs.ways.reached.Goals as goal
 
 pub returns : goal.returns
 returns c =

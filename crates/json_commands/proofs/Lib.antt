@@ -1,6 +1,0 @@
-mod OneMore
-mod Named
-mod NotMemory
-mod Sources
-mod UnreadSaid
-mod Placed
