@@ -3,8 +3,8 @@
 
 # tools/made writes these commands
 _mctpplan_commands='make rows check certify move certifymove diff rollout assign sim expect script simmove walk export
-reach matrix require trace draw explain faults fix lint show decode audit emulate capture report
-describe record code schema guide version'
+reach matrix require trace draw explain faults fix lint verify show decode audit emulate capture
+report describe record code schema guide version'
 
 # tools/made writes these codes
 _mctpplan_codes='A01 A02 A03 A04 A05 B01 B02 B03 B10 B11 B12 C01 C02 C03 C04 C05 C06 C07 C08 C09 C10 C11 C12 C13 C14
@@ -104,6 +104,11 @@ _mctpplan() {
         mapfile -t COMPREPLY < <(compgen -W '--json --sarif' -- "$current")
     elif [[ $command =~ ^(lint|reach|trace)$ && $current == -* ]]; then
         mapfile -t COMPREPLY < <(compgen -W '--json' -- "$current")
+    elif [[ $command == verify && $current == -* ]]; then
+        mapfile -t COMPREPLY < <(compgen -W '--strict' -- "$current")
+    elif [[ $command == verify && $place -eq 2 ]]; then
+        compopt -o filenames 2>/dev/null
+        mapfile -t COMPREPLY < <(compgen -d -- "$current")
     elif [[ $command == emulate && $current == -* ]]; then
         mapfile -t COMPREPLY < <(compgen -W '--configured' -- "$current")
     elif [[ $command == audit && $current == -* ]]; then

@@ -30,11 +30,12 @@ class Row:
 
 class Scene:
     """A title, the words of a command, the texts that they name, those given as words and not as files, the one that is
-    given on standard input, and rows."""
+    given on standard input, those that lie in its folder, and rows."""
 
     def __init__(self, title):
         self.title, self.words, self.texts, self.as_words, self.rows = title, [], {}, set(), []
         self.folder = self.as_input = None
+        self.inside = {}
 
     def last_text(self):
         """The name of the text that the rows change or fill: the last one that was set."""
@@ -110,11 +111,14 @@ def wanted_of(row, words):
     # (`explain` is asked why a text doesn't read, and `make` why a board doesn't: they answer on standard output; `require`
     # does so of its wishes, and `decode` of its capture)
     told = "unreadable wanted", "unreadable capture"
-    errors = [] if words[0] in ("explain", "make") else [it for it in errors if not it.startswith(told)]
+    # (`verify` answers with verdicts alone, and says on standard error what it can't read, and where that lies)
+    if words[0] != "verify":
+        errors = [] if words[0] in ("explain", "make") else [it for it in errors if not it.startswith(told)]
     # (what `make` says of numbers stands on standard error)
     said = [it.removeprefix(SAID) for it in row.wanted if it.startswith(SAID)]
     lines = [versioned(it) for it in row.wanted if it not in errors and not it.startswith(("status ", SAID))]
-    return "".join(f"{it}\n" for it in lines), "".join(f"{it}\n" for it in [*said, *errors]), status
+    said = [*errors, *said] if words[0] == "verify" else [*said, *errors]
+    return "".join(f"{it}\n" for it in lines), "".join(f"{it}\n" for it in said), status
 
 
 def versioned(line):
@@ -163,6 +167,10 @@ def setting(scene, line, number):
         scene.words = value.split()
     elif key.isupper() and value == "folder":
         scene.folder = key
+    elif key.isupper() and kind == "in":
+        where, kind, rest = rest.split(" ", 2)
+        scene.inside[key] = where
+        scene.texts[key] = (TOP / rest).read_bytes() if kind == "file" else escaped(rest)
     elif key.isupper() and kind == "file":
         scene.texts[key] = (TOP / rest).read_bytes()
     elif key.isupper() and kind in ("text", "word"):
@@ -327,8 +335,14 @@ def try_all(trial):
             return paths[name]
 
         with tempfile.TemporaryDirectory(prefix="rows-") as folder:
+            if case.scene.folder:
+                paths[case.scene.folder] = folder
+            for name, where in case.scene.inside.items():
+                path = pathlib.Path(folder, where)
+                path.parent.mkdir(exist_ok=True)
+                path.write_bytes(case.texts[name])
             status, output, error = trial.run(case.words(path_of, folder), stdin=None, input=case.texts.get(case.scene.as_input, b""))
-            written = written_in(folder) if case.scene.folder else ""
+            written = written_in(folder) if case.scene.folder and not case.scene.inside else ""
         return case.wrong(named_in(output, paths), named_in(error, paths), status, written)
 
     for (name, case), wrong in zip(named, each(run, [case for _, case in named])):

@@ -50,6 +50,11 @@ pub enum Subcommand<'a> {
         certificate: &'a str,
         wanted: &'a str,
     },
+    /// Does all that a folder has of a network fit together? If that is strict, nothing in its plan looks wrong.
+    Verify {
+        folder: &'a str,
+        is_strict: bool,
+    },
     /// Which plan is made of the board in a file, and into which files are it and its certificate written?
     Make {
         board: &'a str,
@@ -252,7 +257,7 @@ fn worded(list: &[String]) -> Option<Subcommand<'_>> {
 }
 
 /// The name of each command, the names of its arguments, and those of the arguments that may be left out.
-static COMMANDS: [(&str, &[&str], &[&str]); 34] = [
+static COMMANDS: [(&str, &[&str], &[&str]); 35] = [
     ("make", &["board"], &[]),
     ("rows", &["plan"], &[]),
     ("check", &["plan", "certificate"], &[]),
@@ -281,6 +286,7 @@ static COMMANDS: [(&str, &[&str], &[&str]); 34] = [
     ("faults", &["plan"], &["certificate"]),
     ("fix", &["plan"], &[]),
     ("lint", &["plan"], &[]),
+    ("verify", &["folder"], &[]),
     ("show", &["kind", "hex"], &[]),
     ("decode", &["capture"], &["plan"]),
     ("audit", &["plan", "certificate", "capture"], &[]),
@@ -305,7 +311,7 @@ const JSON: &str = "json";
 const SARIF: &str = "sarif";
 
 /// The options that never have a value.
-static FLAGS: [(&str, &str); 11] = [
+static FLAGS: [(&str, &str); 12] = [
     ("audit", "complete"),
     ("emulate", "addresses"),
     ("emulate", "configured"),
@@ -317,6 +323,7 @@ static FLAGS: [(&str, &str); 11] = [
     ("make", "anew"),
     ("reach", JSON),
     ("trace", JSON),
+    ("verify", "strict"),
 ];
 
 /// The options of commands, and what each means where no value follows it, if it may stand alone.
@@ -436,6 +443,7 @@ fn chosen<'a>(matches: &ArgMatches<'a>, list: &'a [String]) -> Option<Subcommand
         "fix" => asked!(arguments, Fix(plan)),
         "lint" if arguments.get_flag(JSON) => planned_json(arguments, PlanJson::Lint),
         "lint" => planned(arguments, PlanQuestion::Lint),
+        "verify" => verifying(arguments),
         "show" => showing(arguments),
         "decode" => asked!(arguments, Decode(capture), plan: arguments.get_str("plan")),
         "audit" =>
@@ -630,6 +638,18 @@ fn listing<'a>(arguments: &ArgMatches<'a>) -> Option<Subcommand<'a>> {
         CertifiedJson::Faults(form),
         PlanJson::Faults(form),
     )
+}
+
+/// A folder is no text that could come on standard input.
+fn verifying<'a>(arguments: &ArgMatches<'a>) -> Option<Subcommand<'a>> {
+    let folder = arguments.get_str("folder")?;
+    if folder == "-" || folder.is_empty() {
+        return None;
+    }
+    Some(Subcommand::Verify {
+        folder,
+        is_strict: arguments.get_flag("strict"),
+    })
 }
 
 /// Moves and events are explained in lines alone.

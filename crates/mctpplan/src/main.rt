@@ -36,6 +36,7 @@ use rollout_commands::{TellSteps, run_rollout_written};
 use std::io::{BufReader, IsTerminal};
 use std::process::ExitCode;
 use std::{env, fs};
+use verify_commands::{FilesInFolder, Verification, run_verify};
 
 /// Runs a command over the files at these paths and the standard streams. Behind its name stands what else it is asked.
 macro_rules! over {
@@ -118,6 +119,7 @@ fn run_subcommand<'a>(rt: &'a HostRuntime, command: Subcommand<'a>) -> Status {
             certificate,
             wanted,
         } => require(rt, plan, certificate, wanted),
+        Subcommand::Verify { folder, is_strict } => verify(rt, folder, is_strict),
         Subcommand::Make {
             board,
             keep,
@@ -286,6 +288,19 @@ fn require<'a>(
         },
     };
     run_over(rt, &RequireWays, &mut inputs)
+}
+
+/// Tells of each part of a folder whether it holds.
+fn verify<'a>(rt: &'a HostRuntime, folder: &'a str, is_strict: bool) -> Status {
+    let mut output = Counted::new(rt.stdout());
+    let mut errors = Counted::new(rt.stderr());
+    run_verify(
+        rt.alloc(),
+        &Verification { folder, is_strict },
+        &FilesInFolder::new(rt, folder),
+        &mut output,
+        &mut errors,
+    )
 }
 
 /// Makes a plan of a board, and its certificate where a file for it is given. The numbers of an old plan are kept, or

@@ -35,6 +35,7 @@ faults PLAN [CERT] [--json|--sarif]
                              each place where a rule is broken, and how many they are
 fix PLAN                     the plan with edits made, until it has a certificate
 lint PLAN [--json]           what is lawful in the plan and still looks wrong, or clean
+verify FOLDER [--strict]     whether all that a repository has of a network fits together
 show packet HEX              what the bytes of a packet are
 show record HEX              what the bytes of a platform descriptor record are
 decode CAPTURE [PLAN]        what was captured of a bus: each packet, and what its message says
@@ -85,6 +86,7 @@ pub fn guide_to(command: &str) -> Option<&'static str> {
         "faults" => Some(OF_FAULTS),
         "fix" => Some(OF_FIX),
         "lint" => Some(OF_LINT),
+        "verify" => Some(OF_VERIFY),
         "show" => Some(OF_SHOW),
         "decode" => Some(OF_DECODE),
         "audit" => Some(OF_AUDIT),
@@ -634,6 +636,39 @@ Status 1: what looks wrong.
 
   $ mctpplan lint examples/riser/plan.json
   clean
+"#;
+
+const OF_VERIFY: &str = r#"mctpplan verify FOLDER [--strict]
+
+Judges what a folder has of a network, and prints a line for each part that is there. ok stands
+behind a part that holds, and failed behind one that doesn't, with the lines below it, further in,
+by which its own command says why:
+
+A part that needs a certificate that fits, and has none, says skipped and has failed. The last line
+counts the parts. The files that the records of the board name are read from the folder. What can't
+be read ends the command, and nothing else is told: standard error has the line by which other
+commands tell it, and the path of the file in the folder.
+
+- board: plan.json is, byte for byte, what make --keep of it makes of board.toml, if there is one.
+- check: certificate.json fits the plan. Where there is none, the plan has a certificate.
+- faults: nothing rules certificates of the plan out.
+- lint: nothing in the plan looks wrong. What does is noted and doesn't count, but with --strict.
+- require: each line of wanted.txt holds, if there is one.
+- run NAME: sim prints the lines of runs/NAME.txt for the events of runs/NAME.json, as expect
+  compares them. The runs are judged in the order of their names.
+
+Status 0: each part holds.
+Status 1: a part failed.
+Status 2: where plan.json is missing, one of the two files of a run is, or a file can't be read.
+
+  $ mctpplan verify examples/repository
+  board ok
+  check ok
+  faults ok
+  lint ok
+  require ok
+  run walk ok
+  verified 6
 "#;
 
 const OF_SHOW: &str = r#"mctpplan show packet HEX

@@ -1,0 +1,6 @@
+pub mod Folders
+pub mod Boards
+pub mod Runs
+pub mod Parts
+pub mod Reports
+pub mod Verifying
