@@ -110,7 +110,7 @@ _mctpplan() {
         compopt -o filenames 2>/dev/null
         mapfile -t COMPREPLY < <(compgen -d -- "$current")
     elif [[ $command == emulate && $current == -* ]]; then
-        mapfile -t COMPREPLY < <(compgen -W '--configured' -- "$current")
+        mapfile -t COMPREPLY < <(compgen -W '--addresses --configured --end' -- "$current")
     elif [[ $command == audit && $current == -* ]]; then
         mapfile -t COMPREPLY < <(compgen -W '--bus --complete' -- "$current")
     elif [[ $command == decode && $place -eq 2 || $command == audit && $place -eq 4 ]]; then

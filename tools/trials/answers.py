@@ -154,13 +154,25 @@ def explained(value, files):
     return [*result["sentences"], place, *value["sentences"], *edits, *alone, *more]
 
 
+def has_names(plan):
+    """Whether each node has a name of its own."""
+    return len({it["name"] for it in plan["nodes"]}) == len(plan["nodes"])
+
+
+def message_of(result):
+    """The sentences that a log of SARIF has: of a fault those that say why, where there are some."""
+    why = result["sentences"][1:]
+    return why if result["kind"] == "fault" and why else result["sentences"]
+
+
 def lines_of(words, value):
     """The lines that a command prints, by the value; none where they say something else."""
     if value["status"] == 2:
         return value["results"][0]["sentences"] if words[0] == "explain" else None
     if words[0] == "explain":
         return explained(value, words[1:])
-    sentences = [(" ".join(it["sentences"]), it["place"]) for it in value["results"]]
+    # (the first sentence is the line, the others say why)
+    sentences = [(it["sentences"][0], it["place"]) for it in value["results"]]
     if words[0] == "faults":
         return [*(f"{it} at {placed(place)}" for it, place in sentences), f"faults {len(sentences)}"] if sentences else ["yes"]
     if words[0] == "lint":
@@ -224,6 +236,10 @@ def try_all(trial):
             plan = json.load(it)
         for result in results:
             yield from unlike_line(result, plan)
+            if words[0] == "faults" and result["kind"] == "fault" and has_names(plan):
+                there = [it["pointer"] for it in result["related"]]
+                if there != related_to(result, result["sentences"][1:], plan):
+                    yield f"related {there}, not {related_to(result, result['sentences'][1:], plan)}"
         if words[0] == "explain":
             yield from unlike_explained(words, value, plan)
 
@@ -268,7 +284,7 @@ def try_all(trial):
         # (a file that can't be opened breaks no rule)
         known = {"file", *(it["id"] for it in run["tool"]["driver"]["rules"])}
         wanted = [
-            (it["code"], "error", "\n".join(it["sentences"]), [pointed(it["place"])], [*map(pointed, it["related"])])
+            (it["code"], "error", "\n".join(message_of(it)), [pointed(it["place"])], [*map(pointed, it["related"])])
             for it in value["results"]
         ]
         given = [

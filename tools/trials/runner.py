@@ -136,7 +136,6 @@ def commands():
         ("faults", [[plan], [loop], [row], [plan, certificate]]),
         ("fix", [[plan], [loop], [row]]),
         ("lint", [[plan], [TOP / "examples/questions/plan-without-rows.json"]]),
-        ("verify", [[TOP / "examples/repository"], [TOP / "examples/repository", "--strict"]]),
         ("move", [[left, right, ranks]]),
         ("certifymove", [[left, right], [MOVE / "to-left.json", MOVE / "to-right.json"]]),
         ("diff", [[left, right], [MOVE / "to-left.json", MOVE / "to-right.json"]]),

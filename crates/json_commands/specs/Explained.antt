@@ -44,14 +44,16 @@ IsExplainedSaid name text plan ended d = ((ended ≡ status.Yes) × (certificate
 
 -- ---- a plan with a certificate
 
--- the value answers with a fault of the certificate where the plan meets the rule, and with what explains the plan alone
+-- the value answers with a fault of the certificate where the plan meets the rule, and with what explains the plan
+-- alone
 abbrev pub IsCertificateTold : (name text : List ℕ) → Plan → CertifyError → Data → Type 0
 IsCertificateTold name text plan fault d = (results alone : Data) × (ended : Status)
     × IsObstacleAlone Json name text plan fault results
     × IsExplainedSaid name text plan ended alone × IsExplained status.Fault results empty_data d
     × Has (codes "plan") alone d
 
--- the value answers with a fault of the plan, which has this cause, or of the certificate, where it has none in the plan
+-- the value answers with a fault of the plan, which has this cause, or of the certificate, where it has none in the
+-- plan
 abbrev pub IsFaultTold : (name text : List ℕ) → Plan → Fault → Option Cause → Data → Type 0
 IsFaultTold name text plan fault (Some cause) d = IsToldWithEdits name text plan (error.Fault fault) d
 IsFaultTold name text plan fault None d = IsCertificateTold name text plan (error.Fault fault) d

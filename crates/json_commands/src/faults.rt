@@ -18,7 +18,7 @@ use crate::said::Said;
 use crate::ways::hop_pointer;
 use command_answers::{PlanText, Status};
 use command_questions::Form;
-use explanation_texts::around;
+use explanation_texts::{around, cause_lines};
 use fault_texts::{
     obstacle_pointer, part_pointer, record_pointer, row_pointer, run_pointer, run_words,
     words_with_more,
@@ -127,7 +127,7 @@ impl<'a> Noted for FaultNoter<'a> {
         let pointer = fault_pointer(alloc, self.plan, item)?;
         let place = place_of(alloc, placing, &pointer)?;
         let related = related_to(alloc, placing, self.plan, item)?;
-        let words = fault_words(alloc, self.plan, item)?;
+        let words = fault_words(alloc, placing.form, self.plan, item)?;
         let nodes = fault_nodes(alloc, self.plan, item)?;
         let subject = fault_subject(item);
         note_value(alloc, placing.form, &subject, nodes, place, related, &words)
@@ -148,11 +148,35 @@ fn fault_pointer(
     }
 }
 
-/// The words of a fault, without its place.
-fn fault_words(alloc: Global, plan: &Plan, fault: &PlanFault) -> Result<String, AllocError> {
-    match fault {
-        PlanFault::Broken(run) => run_words(alloc, plan, run),
-        PlanFault::Obstacle(obstacle, more) => words_with_more(alloc, plan, obstacle, *more),
+/// The words of a fault, without its place: its line, and below it why. A log of SARIF has the code elsewhere, so there
+/// they are the sentences alone, where there are some.
+fn fault_words(
+    alloc: Global,
+    form: Form,
+    plan: &Plan,
+    fault: &PlanFault,
+) -> Result<String, AllocError> {
+    let run = match fault {
+        PlanFault::Broken(run) => run,
+        PlanFault::Obstacle(obstacle, more) => {
+            return words_with_more(alloc, plan, obstacle, *more);
+        }
+    };
+    let why = cause_words(alloc, plan, &first_fault(run))?;
+    match form {
+        Form::Sarif if !why.is_empty() => Ok(why),
+        Form::Json | Form::Sarif => {
+            let line = run_words(alloc, plan, run)?;
+            format!(in alloc; "{line}\n{why}")
+        }
+    }
+}
+
+/// Why a plan breaks a rule, in sentences; none where its certificate does.
+fn cause_words(alloc: Global, plan: &Plan, fault: &Fault) -> Result<String, AllocError> {
+    match find_cause(plan, fault) {
+        Some(cause) => cause_lines(alloc, plan, fault, cause),
+        None => Ok(String::new(alloc)),
     }
 }
 
